@@ -44,7 +44,7 @@ pub rotates : (ws : List Garbage) (slots : List ℕ) (c p n d : ℕ) → d ≡ 0
 rotates ws slots c p n d none w = (same_slots ws ∙ w.0, later_ages ws ∙ (ap (map later) (w.1 ∙ ap (ages c p n) none) ∙ turned c p n))
 
 -- a list whose images end with y ends with what that is the image of
-pub last_of : (f : Garbage → ℕ) (ws : List Garbage) (ys : List ℕ) (y : ℕ) → map f ws ≡ ys ++ y ∷ [] → (vs : List Garbage) × (w : Garbage) × (ws ≡ vs ++ w ∷ []) × (map f vs ≡ ys) × (f w ≡ y)
+pub last_of : {B : Type 0} (f : Garbage → B) (ws : List Garbage) (ys : List B) (y : B) → map f ws ≡ ys ++ y ∷ [] → (vs : List Garbage) × (w : Garbage) × (ws ≡ vs ++ w ∷ []) × (map f vs ≡ ys) × (f w ≡ y)
 last_of f [] [] y e = absurd (cc)
 last_of f [] (z ∷ zs) y e = absurd (cc)
 last_of f (w ∷ []) [] y e = let same : f w ≡ y = cc in ([], w, refl, refl, same)

@@ -1,5 +1,5 @@
 -- one more owner of an item that the participant leases, with one of its parts
-use Rattle.std.proofs.Common.{◌≡◌, ◌&&◌, true, ℕ, ◌+◌, ◌-◌, ◌^◌, ◌<◌, List, ◌∷◌, get_or, set, sym, refl, ap, ◌∙◌, subst, ⊎_elim, inl, inr, arith, eqb, eq-eqb, ne_eqb, lt-ltb, nat_lt}
+use Rattle.std.proofs.Common.{◌≡◌, ◌&&◌, true, ℕ, ◌+◌, ◌-◌, ◌^◌, ◌<◌, List, None, ◌∷◌, get_or, set, sym, refl, ap, ◌∙◌, subst, ⊎_elim, inl, inr, arith, eqb, eq-eqb, ne_eqb, lt-ltb, nat_lt}
 use mathlib.Core.Logic.{dite}
 use mathlib.Core.Option.{some, none}
 use native.Mathlib.Decide.{ℕ_discrete}
@@ -88,7 +88,7 @@ module _ (S : Type 0) (IsIn : Content → S → Type 0) (plan : Plan) where
     reasons : (q : ℕ) (e : Lease) → Has (r.book.out q) e → Why r.state (Grip s.views) q e.item → Why (with_item r.state l.item (raised it)) (Grip views') q e.item
     reasons q e _ = ⊎_elim (λ (t : Loads r.state q e.item). inl t) (λ (g : Grip s.views q e.item). inr (grip_set s.views id d (cloning l d) at (λ _ _ h. (h.0, h.1, h.2, inr h.3)) q e.item g))
 
-    counted : Recounts S IsIn plan s r id l.slot l.item d it (raised it) at kind y.inside y.is f.here (recounted l.slot (l.count - 1) d.leases) (owner_of l ∷ d.hand) d.releasing d.waits share' out' r.book.what s.homes
+    counted : Recounts S IsIn plan s r id l.slot l.item d it (raised it) at kind y.inside y.is f.here (recounted l.slot (l.count - 1) d.leases) (owner_of l ∷ d.hand) d.releasing d.waits d.collected share' out' r.book.what s.homes
     counted = record {
       parts = let z = y.count in clones (parts.stays r.items.parts r.state.items (Why (with_item r.state l.item (raised it)) (Grip views')) (λ i w at_i. (w, at_i, refl, refl)) reasons) p l.slot l.item it y.low y.inside y.is (lends_has (r.book.out p) l in_out) f.here (omega arith);
       lying = r.items.lying;
@@ -101,21 +101,23 @@ module _ (S : Type 0) (IsIn : Content → S → Type 0) (plan : Plan) where
       alive = alive;
       holds = refl;
       distinct = (r.items.seats id d at kind).distinct;
-      waits = λ w h. waits_else S IsIn plan s r id l.slot l.item d it (raised it) at kind y.inside y.is f.here (recounted l.slot (l.count - 1) d.leases) (owner_of l ∷ d.hand) d.releasing d.waits share' out' r.book.what s.homes alive p w (r.items.waiting id d w at kind h);
+      waits = λ w h. waits_else S IsIn plan s r id l.slot l.item d it (raised it) at kind y.inside y.is f.here (recounted l.slot (l.count - 1) d.leases) (owner_of l ∷ d.hand) d.releasing d.waits d.collected share' out' r.book.what s.homes alive p w (r.items.waiting id d w at kind h);
+      once = r.items.private.once id d at;
+      noted = λ w h. inl h;
       owns = λ o h. ⊎_elim (λ (e : owner_of l ≡ o). subst (Rattle.domain_table.specs.Items.Owns r.state.items r.book.slot_of) e (it, f.here, y.round it f.here, f.slot)) (λ (t : Has d.hand o). r.items.owners id d o at t) h;
     }
 
     pub shown_clone : Shows IsIn plan record { words = set s.words (slot_word plan.sizes l.slot) (3 + count); homes = s.homes; views = views' }
     shown_clone = subst (λ z. Shows IsIn plan record { words = set s.words (slot_word plan.sizes l.slot) z; homes = s.homes; views = views' }) (let o = owners_are in let e : 2 + (it.owners + 1) ≡ 3 + count = omega arith in e)
-        (recounted_shown S IsIn plan s r id l.slot l.item d it (raised it) at kind y.inside y.is f.here (recounted l.slot (l.count - 1) d.leases) (owner_of l ∷ d.hand) d.releasing d.waits share' out' r.book.what s.homes counted
+        (recounted_shown S IsIn plan s r id l.slot l.item d it (raised it) at kind y.inside y.is f.here (recounted l.slot (l.count - 1) d.leases) (owner_of l ∷ d.hand) d.releasing d.waits d.collected share' out' r.book.what s.homes counted
         (taken.one r.state (RaiseOwners p l.item) (with_item r.state l.item (raised it)) raises))
 
   -- an owner of the slot is one of the item that is leased
   is_alike : (s : State S Acting) (r : Shows IsIn plan s) (id : ℕ) (d : Acting) (l : Lease) → get_elem? s.views id ≡ some d → d.kind ≡ 1 → is_ready d.known ≡ true → Has d.leases l → IsAlike l d
   is_alike s r id d l at kind ready has o os first slot = λ j. record {
-    item = sym (same_item S IsIn plan s r id d l o os at kind ready has first slot) j;
+    item = sym (same_item S IsIn plan s r id d l o os at kind ready has first slot None) j;
     slot = sym slot j;
-    round = sym (same_round S IsIn plan s r id d l o os at kind ready has first slot) j;
+    round = sym (same_round S IsIn plan s r id d l o os at kind ready has first slot None) j;
   }
 
   pub makes_owner : (slots id count : ℕ) (me : Me S Acting) (l : Lease) → me.0.kind ≡ 1 → is_ready me.0.known ≡ true → Has me.0.leases l → 0 < l.count → 0 < count → count < 2 ^ 32 - 1

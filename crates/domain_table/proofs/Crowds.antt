@@ -6,15 +6,16 @@ use native.Mathlib.Decide.{ℕ_discrete}
 use lib.ListN.{get_elem?, length-map}
 use Rattle.atomic_table.specs.Table.{State}
 use Rattle.sdd_steps.specs.declared.item.Item.{Item}
-use Rattle.sdd_steps.specs.declared.item.ItemState.TheVariants.{Live, Retired, Reclaimed}
-use Rattle.sdd_steps.specs.State.{Has}
+use Rattle.sdd_steps.specs.declared.item.ItemState.{ItemState}
+use Rattle.sdd_steps.specs.declared.item.ItemState.TheVariants.{Live, Retired, Collected, Reclaimed}
+use Rattle.sdd_steps.specs.State.{At, Has}
 use Rattle.sdd_steps.proofs.ListLemmas.{same_at}
 use Rattle.sdd_homes.specs.declared.Garbage.{Garbage}
 use Rattle.sdd_homes.specs.declared.Owner.{Owner}
 use Rattle.sdd_homes.specs.declared.Lease.{Lease}
 use Rattle.sdd_homes.specs.Book.{Content, full, Lends, Apart}
 use Rattle.sdd_homes.proofs.HandLemmas.{owned_some, mine_some}
-use Rattle.domain_table.specs.Items.{owners_in_hand, Owns, Distinct}
+use Rattle.domain_table.specs.Items.{owners_in_hand, Owns, HasState, Distinct}
 use Rattle.domain_table.specs.Rule.{Shows}
 use Rattle.domain_table.specs.declared.board.Acting.{Acting}
 use Rattle.domain_table.specs.declared.board.Plan.{Plan}
@@ -83,31 +84,12 @@ garbage_slots : List Garbage → List ℕ
 garbage_slots ws = map (λ (w : Garbage). w.slot) ws
 
 module _ (S : Type 0) (IsIn : Content → S → Type 0) (plan : Plan) where
-  -- while a participant has an owner in hand, it has retired fewer items than there are slots
-  module _ (s : State S Acting) (r : Shows IsIn plan s) (id : ℕ) (d : Acting) (o : Owner) (at : get_elem? s.views id ≡ some d) (kind : d.kind ≡ 1) (in_hand : Has d.hand o) where
+  module _ (s : State S Acting) (r : Shows IsIn plan s) where
     abbrev Stands : ℕ → ℕ → Type 0
     Stands k i = (k < plan.sizes.slots) × (r.book.stage k ≡ full i)
 
-    own : Owns r.state.items r.book.slot_of o
-    own = r.items.owners id d o at in_hand
-
-    lives : own.0.state ≡ Live
-    lives = let w = own in let g = r.items.hands o.item w.0 w.1 in let some_ = owned_some owners_in_hand o.item s.views id d at in let mine = mine_some owners_in_hand o.item d o in_hand refl in let count = (r.kept.0.owned o.item w.0 w.1).counted in
-        (r.kept.0.owned o.item w.0 w.1).is_live (omega arith)
-
-    owner_stands : Stands o.slot o.item
-    owner_stands = let w = own in subst (λ z. Stands z o.item) w.3 (r.items.standing o.item w.0 w.1 (λ q e. let bad : Live ≡ Reclaimed q = sym lives ∙ e in absurd (cc)))
-
-    waiting_stands : (w : Garbage) → Has d.waits w → Stands w.slot w.item
-    waiting_stands w h = let t = r.items.waiting id d w at kind h in subst (λ z. Stands z w.item) t.4 (r.items.standing w.item t.0 t.1 (λ q e. let bad : Retired d.number w.age ≡ Reclaimed q = sym t.2 ∙ e in absurd (cc)))
-
     one_item : (k i j : ℕ) → r.book.stage k ≡ full i → r.book.stage k ≡ full j → i ≡ j
     one_item k i j a b = let same : full i ≡ full j = sym a ∙ b in cc
-
-    -- a waiting item has no owner
-    owned_apart : (w : Garbage) → Has d.waits w → o.slot ≢ w.slot
-    owned_apart w h e = let t = r.items.waiting id d w at kind h in let u = own in let same : o.item ≡ w.item = one_item w.slot o.item w.item (subst (λ z. r.book.stage z ≡ full o.item) e owner_stands.1) (waiting_stands w h).1 in
-        let one = same_at r.state.items w.item u.0 t.0 (subst (λ z. get_elem? r.state.items z ≡ some u.0) same u.1) t.1 in let bad : Live ≡ Retired d.number w.age = sym lives ∙ (ap (λ (z : Item). z.state) one ∙ t.2) in absurd (cc)
 
     slot_there : (ws : List Garbage) (k : ℕ) → Has (garbage_slots ws) k → (w : Garbage) × Has ws w × (w.slot ≡ k)
     unfolding garbage_slots
@@ -119,8 +101,47 @@ module _ (S : Type 0) (IsIn : Content → S → Type 0) (plan : Plan) where
     apart [] a stand = tt
     apart (w ∷ ws) a stand = ((λ h. let g = slot_there ws w.slot h in a.0 g.0 g.1 (one_item w.slot g.0.item w.item (subst (λ z. r.book.stage z ≡ full g.0.item) g.2 (stand g.0 (inr g.1)).1) (stand w (inl refl)).1)), apart ws a.1 (λ v t. stand v (inr t)))
 
-    pub fewer_wait : length d.waits < plan.sizes.slots
+    -- items that stand in slots are fewer than these, beside one more
+    fewer : (k i : ℕ) (ws : List Garbage) → Stands k i → Distinct ws → ((w : Garbage) → Has ws w → Stands w.slot w.item × (w.item ≢ i)) → length ws < plan.sizes.slots
     unfolding garbage_slots
-    fewer_wait = let long = length-map d.waits (λ (w : Garbage). w.slot) in let f = fits plan.sizes.slots (o.slot ∷ garbage_slots d.waits)
-        (λ x h. ⊎_elim (λ (e : o.slot ≡ x). subst (λ z. z < plan.sizes.slots) e owner_stands.0) (λ (t : Has (garbage_slots d.waits) x). let g = slot_there d.waits x t in subst (λ z. z < plan.sizes.slots) g.2 (waiting_stands g.0 g.1).0) h)
-        ((λ h. let g = slot_there d.waits o.slot h in owned_apart g.0 g.1 (sym g.2)), apart d.waits (r.items.seats id d at kind).distinct waiting_stands) in omega arith
+    fewer k i ws mine distinct others = let long = length-map ws (λ (w : Garbage). w.slot) in let f = fits plan.sizes.slots (k ∷ garbage_slots ws)
+        (λ x h. ⊎_elim (λ (e : k ≡ x). subst (λ z. z < plan.sizes.slots) e mine.0) (λ (t : Has (garbage_slots ws) x). let g = slot_there ws x t in subst (λ z. z < plan.sizes.slots) g.2 (others g.0 g.1).0.0) h)
+        ((λ h. let g = slot_there ws k h in let o = others g.0 g.1 in o.1 (one_item k g.0.item i (subst (λ z. r.book.stage z ≡ full g.0.item) g.2 o.0.1) mine.1)), apart ws distinct (λ w t. (others w t).0)) in omega arith
+
+    stands : (st : ItemState) (w : Garbage) → ((q : ℕ) → st ≢ Reclaimed q) → HasState r.state.items r.book.slot_of st w → Stands w.slot w.item
+    stands st w there h = subst (λ z. Stands z w.item) h.4 (r.items.standing w.item h.0 h.1 (λ q e. there q (sym h.2 ∙ e)))
+
+    -- an item in another state is another item
+    unlike : (i : ℕ) (it : Item) (st : ItemState) (w : Garbage) → At r.state.items i it → st ≢ it.state → HasState r.state.items r.book.slot_of st w → w.item ≢ i
+    unlike i it st w here ne h e = let one : h.0 ≡ it = same_at r.state.items i h.0 it (subst (λ z. At r.state.items z h.0) e h.1) here in ne (sym h.2 ∙ ap (λ (z : Item). z.state) one)
+
+    waiting_stands : (id : ℕ) (d : Acting) (w : Garbage) → get_elem? s.views id ≡ some d → d.kind ≡ 1 → Has d.waits w → Stands w.slot w.item
+    waiting_stands id d w at kind h = stands (Retired d.number w.age) w (λ q e. absurd (cc)) (r.items.waiting id d w at kind h)
+
+    noted_stands : (id : ℕ) (d : Acting) (w : Garbage) → get_elem? s.views id ≡ some d → Has d.collected w → Stands w.slot w.item
+    noted_stands id d w at h = stands (Collected w.age) w (λ q e. absurd (cc)) (r.items.private.noted id d w at h)
+
+    -- while something is in its private bag, a participant has retired fewer items than there are slots
+    pub fewer_beside : (id : ℕ) (d : Acting) (w : Garbage) → get_elem? s.views id ≡ some d → d.kind ≡ 1 → Has d.collected w → length d.waits < plan.sizes.slots
+    fewer_beside id d w at kind has = let n = r.items.private.noted id d w at has in fewer w.slot w.item d.waits (noted_stands id d w at has) (r.items.seats id d at kind).distinct
+        (λ v h. (waiting_stands id d v at kind h, unlike w.item n.0 (Retired d.number v.age) v n.1 (λ e. let bad : Retired d.number v.age ≡ Collected w.age = e ∙ n.2 in absurd (cc)) (r.items.waiting id d v at kind h)))
+
+    -- while it has an owner in hand, both of its bags have fewer
+    module _ (id : ℕ) (d : Acting) (o : Owner) (at : get_elem? s.views id ≡ some d) (kind : d.kind ≡ 1) (in_hand : Has d.hand o) where
+      own : Owns r.state.items r.book.slot_of o
+      own = r.items.owners id d o at in_hand
+
+      lives : own.0.state ≡ Live
+      lives = let w = own in let g = r.items.hands o.item w.0 w.1 in let some_ = owned_some owners_in_hand o.item s.views id d at in let mine = mine_some owners_in_hand o.item d o in_hand refl in let count = (r.kept.0.owned o.item w.0 w.1).counted in
+          (r.kept.0.owned o.item w.0 w.1).is_live (omega arith)
+
+      owner_stands : Stands o.slot o.item
+      owner_stands = let w = own in subst (λ z. Stands z o.item) w.3 (r.items.standing o.item w.0 w.1 (λ q e. let bad : Live ≡ Reclaimed q = sym lives ∙ e in absurd (cc)))
+
+      pub fewer_wait : length d.waits < plan.sizes.slots
+      fewer_wait = fewer o.slot o.item d.waits owner_stands (r.items.seats id d at kind).distinct
+          (λ v h. (waiting_stands id d v at kind h, unlike o.item own.0 (Retired d.number v.age) v own.1 (λ e. let bad : Retired d.number v.age ≡ Live = e ∙ lives in absurd (cc)) (r.items.waiting id d v at kind h)))
+
+      pub fewer_noted : length d.collected < plan.sizes.slots
+      fewer_noted = fewer o.slot o.item d.collected owner_stands (r.items.private.once id d at)
+          (λ v h. (noted_stands id d v at h, unlike o.item own.0 (Collected v.age) v own.1 (λ e. let bad : Collected v.age ≡ Live = e ∙ lives in absurd (cc)) (r.items.private.noted id d v at h)))

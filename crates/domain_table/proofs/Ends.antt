@@ -25,6 +25,7 @@ use Rattle.domain_table.specs.Views.{IsBare, spent}
 use Rattle.domain_table.specs.Items.{Grip, Rests, IsWaiting, IsLeftover, Distinct, Leftovers, Carries, Items}
 use Rattle.domain_table.proofs.Stirred.{stirred_left, grip_set, loads_others, seated}
 use Rattle.domain_table.proofs.Stirred as items
+use Rattle.domain_table.proofs.Privates.{Keeps, private_on}
 use Rattle.sdd_base.specs.declared.sizes.Sizes.{Sizes}
 use Rattle.sdd_homes.specs.Book.{Content, blank, bag, Book}
 use Rattle.sdd_homes.specs.Lying.{Lying}
@@ -186,6 +187,7 @@ module _ (S : Type 0) (IsIn : Content → S → Type 0) (plan : Plan) where
       owners = alike.owners;
       waiting = items.waits_set bagged core.items id spent (λ w k _. absurd (omega arith)) (λ j e w other here k has. items.waits_left p e.number r.state.items r.book.slot_of w (other_number j e other here k) (r.items.waiting j e w here k has));
       leftovers = leaves;
+      private = private_on r.items.private (λ w h. items.notes_on p r.state.items r.book.slot_of w h) (set_all (λ j e. Keeps s.views j e) s.views id spent (inl refl) (λ j e _ here. inr (e, here, refl)));
       seats = set_all (λ _ e. e.kind ≡ 1 → Carries plan.sizes book' e) s.views id spent (λ k. absurd (omega arith))
           (λ j e other here k. let g = bagged.seats j e here k in record { sizes_are = g.sizes_are; leases = g.leases; spare = g.spare; fills = g.fills; distinct = g.distinct; left = put_else r.book.left p ws e.number (other_number j e other here k) ∙ g.left });
     })

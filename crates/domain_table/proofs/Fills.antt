@@ -23,6 +23,7 @@ use Rattle.domain_table.specs.Items.{owners_in_hand, Grip, Owns, Carries, Items}
 use Rattle.domain_table.specs.Rule.{Shows}
 use Rattle.domain_table.specs.declared.board.Acting.{Acting}
 use Rattle.domain_table.specs.declared.board.Plan.{Plan}
+use Rattle.domain_table.proofs.Privates.{private_set}
 use Rattle.domain_table.proofs.Moves.{items_change, slot_written}
 use Rattle.domain_table.proofs.Stirred.{rests_on, grip_set, waits_stay}
 
@@ -100,6 +101,7 @@ module _ (S : Type 0) (IsIn : Content → S → Type 0) (plan : Plan) (s : State
       given = r.items.given;
       waiting = waits_stay r.items id d' (λ w _ h. r.items.waiting id d w at kind h);
       leftovers = r.items.leftovers;
+      private = private_set r.items.private (λ _ h. h) id d d' at refl;
       seats = seats_now;
     }
 

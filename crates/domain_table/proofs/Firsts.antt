@@ -18,7 +18,7 @@ use Rattle.sdd_homes.proofs.Fillings.{resting_own, resting_else}
 use Rattle.domain_table.specs.Contents.{first_in_home}
 use Rattle.domain_table.specs.Views.{spent}
 use Rattle.domain_table.specs.Layout.{state_word, claim_word, cell_word, all_words, all_homes, own_homes, all_spares, all_extras, bag_place, packed}
-use Rattle.domain_table.specs.Items.{code, Items}
+use Rattle.domain_table.specs.Items.{code, Distinct, Items}
 use Rattle.domain_table.specs.Rule.{beginning, numbers, first_eight, first_eights, first_words}
 use Rattle.domain_table.specs.declared.board.Acting.{Acting}
 use Rattle.domain_table.specs.declared.board.Plan.{Plan}
@@ -154,6 +154,11 @@ module _ {S : Type 0} {IsIn : Content → S → Type 0} (plan : Plan) (words : L
         alone = λ c o at. ap (λ (z : Cell). z.holder) (sym (at_replicate plan.sizes.cells c empty_cell o at));
         free = λ p low _. (refl, claims p low, spare_first plan.sizes (plan.sizes.cells + p) (omega arith), bag_first plan.sizes p);
         leftovers = record { waits = λ p w h. absurd h; once = λ _. tt; apart = λ p q v w h. absurd h };
+        private = record {
+          noted = λ j d w at has. absurd (subst (λ (v : Acting). Has v.collected w) (sym (only j d at)) has);
+          once = λ j d at. subst (λ (v : Acting). Distinct v.collected) (only j d at) tt;
+          apart = λ j k d e v w at_d at_e has. absurd (subst (λ (z : Acting). Has z.collected v) (sym (only j d at_d)) has);
+        };
         hands = λ i it at. absurd (some-ne-none it (sym at));
         owners = λ j d o at has. absurd (subst (λ (v : Acting). Has v.hand o) (sym (only j d at)) has);
         seats = λ j d at k. let z : 0 ≡ d.kind = ap (λ (v : Acting). v.kind) (only j d at) in absurd (omega arith);

@@ -1,3 +1,4 @@
+pub mod Privates
 pub mod Stirred
 pub mod Taken
 pub mod Bounds
@@ -27,6 +28,7 @@ pub mod Begins
 pub mod Begun
 pub mod Crowds
 pub mod EndedReleases
+pub mod Bagging
 pub mod Fills
 pub mod Claims
 pub mod Placings
@@ -38,4 +40,7 @@ pub mod Reclaims
 pub mod Aged
 pub mod Takeovers
 pub mod OwnerSeats
+pub mod BagSeats
+pub mod Rereads
+pub mod HandOvers
 pub mod GiveUps

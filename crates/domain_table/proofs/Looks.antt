@@ -17,6 +17,7 @@ use Rattle.domain_table.specs.Layout.{state_word, claim_word, count_word, shown}
 use Rattle.domain_table.specs.Rule.{Acts, beginning, Shows}
 use Rattle.domain_table.specs.Plays.{look_then, agree_then, raise_then}
 use Rattle.domain_table.specs.declared.board.Acting.{Acting}
+use Rattle.domain_table.proofs.Privates.{private_set}
 use Rattle.domain_table.proofs.Moves.{own_load, own_inside, stays, idles}
 use Rattle.domain_table.proofs.Bounds.{raised}
 use Rattle.sdd_homes.specs.Reasons.{Loads}
@@ -73,6 +74,7 @@ module _ (S : Type 0) (IsIn : Content → S → Type 0) (plan : Plan) where
         waits_mine = λ _ w all h. all w h;
         waits_others = λ _ _ _ _ h. h;
         lefts = λ _ _ h. h;
+        notes = λ _ _ h. h;
       }) at kind refl in
       dite (ℕ_discrete w 0)
       (λ zero_w. (d', keeps, tt, noted (inl zero_w), λ q' e' iq ie. let k : q ≡ q' = omega arith in ((λ _. ap (λ (z : ℕ). (record d { known = looking z d.known }, me.1)) k), λ n0 _. absurd (n0 zero_w))))
@@ -123,7 +125,7 @@ module _ (S : Type 0) (IsIn : Content → S → Type 0) (plan : Plan) where
           items = let c = r.items.seats id d at kind in items.stays r.items core (set s.words 0 v) (set s.views id d') refl (stirred_none r.state.items)
               (λ q l _ y. ⊎_elim (λ (t : Loads r.state q l.item). inl t) (λ (g : Grip s.views q l.item). inr (grip_set s.views id d d' at (λ _ _ h. h) q l.item g)) y)
               (record { long = length-set s.words 0 v; high = λ i le. get_or-set_other s.words 0 i v 0 (λ e. omega arith); freed = λ q _ _. inl (get_or-set_other s.words 0 (claim_word q) v 0 (λ e. omega arith)) })
-              (seated r.items id d d' at refl (λ _. record { sizes_are = c.sizes_are; leases = c.leases; spare = c.spare; fills = c.fills; distinct = c.distinct; left = c.left })) (items.waits_stay r.items id d' (λ w _ has. r.items.waiting id d w at kind has)) r.items.leftovers;
+              (seated r.items id d d' at refl (λ _. record { sizes_are = c.sizes_are; leases = c.leases; spare = c.spare; fills = c.fills; distinct = c.distinct; left = c.left })) (items.waits_stay r.items id d' (λ w _ has. r.items.waiting id d w at kind has)) r.items.leftovers (private_set r.items.private (λ _ h. h) id d d' at refl);
           born = r.born;
           bounded = raised r.state.participants r.state.count r.born r.bounded p x a.is present every;
           epochs = record {

@@ -20,9 +20,10 @@ use Rattle.sdd_homes.specs.declared.Lease.{Lease}
 use Rattle.sdd_homes.specs.declared.Garbage.{Garbage}
 use Rattle.sdd_homes.specs.Reasons.{Loads, Why}
 use Rattle.domain_table.specs.Layout.{state_word, claim_word, slot_word, lock_word, count_word, epoch_words, shown}
-use Rattle.domain_table.specs.Items.{Grasps, Grip, IsWaiting, IsLeftover, Carries, Items, Distinct}
+use Rattle.domain_table.specs.Items.{Grasps, Grip, IsWaiting, IsLeftover, IsNoted, Carries, Items, Distinct}
 use Rattle.domain_table.proofs.Stirred.{Stirred, stirred_none, still_left, grip_set, loads_others, seated}
 use Rattle.domain_table.proofs.Stirred as items
+use Rattle.domain_table.proofs.Privates.{private_set}
 use Rattle.domain_table.specs.Rule.{Acts, Bounded, Runs, beginning, Shows}
 use Rattle.domain_table.proofs.Bounds.{changes}
 use Rattle.domain_table.proofs.Taken.{goes_on, run_keeps}
@@ -54,6 +55,7 @@ module _ (state core : steps.State) (d d' : Acting) where
     pub waits_mine : (slot_of : ℕ → ℕ) (w : Garbage) → ((v : Garbage) → Has d.waits v → IsWaiting state.items slot_of d.number v) → Has d'.waits w → IsWaiting core.items slot_of d.number w
     pub waits_others : (slot_of : ℕ → ℕ) (q : ℕ) (w : Garbage) → q ≢ d.number → IsWaiting state.items slot_of q w → IsWaiting core.items slot_of q w
     pub lefts : (slot_of : ℕ → ℕ) (w : Garbage) → IsLeftover state.items slot_of w → IsLeftover core.items slot_of w
+    pub notes : (slot_of : ℕ → ℕ) (w : Garbage) → IsNoted state.items slot_of w → IsNoted core.items slot_of w
 
 -- the words change at most where this participant publishes
 module _ (m p : ℕ) (before after : List ℕ) where
@@ -87,6 +89,7 @@ module _ (S : Type 0) (IsIn : Content → S → Type 0) (plan : Plan) where
       (items.waits_set r.items m.core.items id d' (λ u k has. subst (λ q. IsWaiting m.core.items r.book.slot_of q u) (sym m.number) (v.waits_mine r.book.slot_of u (λ u' h. r.items.waiting id d u' at kind h) has))
       (λ j e u other here k has. let a = r.epochs.seats id d at kind in let x = r.epochs.seats j e here k in v.waits_others r.book.slot_of e.number u (λ same. other (sym x.seated ∙ (ap r.epochs.seat_of same ∙ a.seated))) (r.items.waiting j e u here k has)))
       (still_left r.items.leftovers (λ u h. v.lefts r.book.slot_of u h))
+      (private_set r.items.private (λ u h. v.notes r.book.slot_of u h) id d d' at (ap (λ (z : Acting). z.collected) v.same))
 
   -- what stands of epochs is kept, with what is told of items and cells
   pub moved : (s : Table) (r : Shown s) (id : ℕ) (d d' : Acting) (words' : List ℕ) (homes' : List (maybe.Option S)) (book' : Book) (m : Moves r.state r.born d d') → get_elem? s.views id ≡ some d → d.kind ≡ 1
@@ -191,6 +194,7 @@ module _ (S : Type 0) (IsIn : Content → S → Type 0) (plan : Plan) where
     waits_mine = λ _ w all h. all w h;
     waits_others = λ _ _ _ _ h. h;
     lefts = λ _ _ h. h;
+    notes = λ _ _ h. h;
   }) at kind refl
 
   -- nothing is told

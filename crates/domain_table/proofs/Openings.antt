@@ -20,9 +20,9 @@ use Rattle.domain_table.specs.Rule.{Runs, Shows}
 use Rattle.domain_table.specs.Plays.{read_then, publish_then, count_then}
 use Rattle.domain_table.specs.declared.board.Acting.{Acting}
 use Rattle.domain_table.proofs.Moves.{own_load, own_store, own_inside, idles}
-use Rattle.domain_table.proofs.Stirred.{Stirred, stirred_none, stirred_older, loads_none, waits_older, waits_older_else, distinct_older, left_older}
+use Rattle.domain_table.proofs.Stirred.{Stirred, stirred_none, stirred_older, loads_none, waits_older, waits_older_else, distinct_older, left_older, notes_older}
 use Rattle.domain_table.proofs.Taken as taken
-use Rattle.domain_table.specs.Items.{IsWaiting, IsLeftover, Distinct}
+use Rattle.domain_table.specs.Items.{IsWaiting, IsLeftover, IsNoted, Distinct}
 use Rattle.sdd_homes.specs.declared.Garbage.{Garbage}
 
 -- p publishes the count that it read, and rotates if it found another one before
@@ -37,11 +37,12 @@ record Published (core : steps.State) (p e : ℕ) (x : Participant) : Type 0 whe
   waits_mine : (slot_of : ℕ → ℕ) (ws : List Garbage) (w : Garbage) → ((v : Garbage) → Has ws v → IsWaiting core.items slot_of p v) → Has (rotated e x.found ws) w → IsWaiting next.items slot_of p w
   waits_others : (slot_of : ℕ → ℕ) (q : ℕ) (w : Garbage) → q ≢ p → IsWaiting core.items slot_of q w → IsWaiting next.items slot_of q w
   lefts : (slot_of : ℕ → ℕ) (w : Garbage) → IsLeftover core.items slot_of w → IsLeftover next.items slot_of w
+  notes : (slot_of : ℕ → ℕ) (w : Garbage) → IsNoted core.items slot_of w → IsNoted next.items slot_of w
 
 published : (core : steps.State) (p e : ℕ) (x : Participant) → At core.participants p x → x.phase ≡ HasRead e → Published core p e x
 published core p e x at is = let x1 : Participant = record x { phase = Opened e; reread = None; looked = []; loaded = [] } in let t = with_participant core p x1 in
     let opens = taken.publishes core p x at e is in dite (ℕ_discrete e x.found)
-    (λ same. record { next = t; runs = taken.one core (Publish p) t opens; cells = refl; stirred = stirred_none core.items; count = refl; changed = ap (λ (z : ℕ). set core.participants p (record x1 { found = z })) (sym same); distinct = λ ws h. subst (λ b. Distinct (cond b ws (older_waits ws))) (sym (eq-eqb e x.found same)) h; waits_mine = λ _ ws w all h. all w (subst (λ b. Has (cond b ws (older_waits ws)) w) (eq-eqb e x.found same) h); waits_others = λ _ _ _ _ h. h; lefts = λ _ _ h. h })
+    (λ same. record { next = t; runs = taken.one core (Publish p) t opens; cells = refl; stirred = stirred_none core.items; count = refl; changed = ap (λ (z : ℕ). set core.participants p (record x1 { found = z })) (sym same); distinct = λ ws h. subst (λ b. Distinct (cond b ws (older_waits ws))) (sym (eq-eqb e x.found same)) h; waits_mine = λ _ ws w all h. all w (subst (λ b. Has (cond b ws (older_waits ws)) w) (eq-eqb e x.found same) h); waits_others = λ _ _ _ _ h. h; lefts = λ _ _ h. h; notes = λ _ _ h. h })
     (λ differs. let x2 : Participant = record x1 { found = e } in let u : steps.State = record t { participants = set t.participants p x2; items = map (older p) t.items } in record {
       next = u;
       runs = (Publish p ∷ Rotate p ∷ [], (t, opens, (u, taken.rotates t p x1 (set_here core.participants p x1 x at) e refl differs, refl)));
@@ -53,6 +54,7 @@ published core p e x at is = let x1 : Participant = record x { phase = Opened e;
       waits_mine = λ slot_of ws w all h. waits_older p core.items slot_of ws w all (subst (λ b. Has (cond b ws (older_waits ws)) w) (ne_eqb e x.found differs) h);
       waits_others = λ slot_of q w ne h. waits_older_else p q core.items slot_of w ne h;
       lefts = λ slot_of w h. left_older p core.items slot_of w h;
+      notes = λ slot_of w h. notes_older p core.items slot_of w h;
     })
 
 module _ (S : Type 0) (IsIn : Content → S → Type 0) (plan : Plan) where
@@ -85,6 +87,7 @@ module _ (S : Type 0) (IsIn : Content → S → Type 0) (plan : Plan) where
           waits_mine = λ _ w all h. all w h;
           waits_others = λ _ _ _ _ h. h;
           lefts = λ _ _ h. h;
+          notes = λ _ _ h. h;
         }) at kind (ap shown (sym is)),
         refl,
       )
@@ -115,6 +118,7 @@ module _ (S : Type 0) (IsIn : Content → S → Type 0) (plan : Plan) where
           waits_mine = λ slot_of w all h. t.waits_mine slot_of d.waits w all h;
           waits_others = t.waits_others;
           lefts = t.lefts;
+          notes = t.notes;
           loads = inr (λ i l. loads_none r.state d.number d.known a.is (λ n h. let bad : HasRead e ≡ Opened n = sym is ∙ h in absurd (cc)) (Loads t.next d.number i) i l);
           same = refl;
         }) at kind word,

@@ -11,7 +11,7 @@ use Rattle.sdd_base.specs.declared.sizes.Sizes.{Sizes}
 use Rattle.sdd_steps.specs.declared.item.Item.{Item}
 use Rattle.sdd_steps.specs.declared.item.Cell.{Cell}
 use Rattle.sdd_steps.specs.declared.item.ItemState.{ItemState}
-use Rattle.sdd_steps.specs.declared.item.ItemState.TheVariants.{Due, Retired, Waiting, Reclaimed}
+use Rattle.sdd_steps.specs.declared.item.ItemState.TheVariants.{Due, Retired, Collected, Waiting, Reclaimed}
 use Rattle.sdd_steps.specs.declared.step.Step.TheVariants.{Place}
 use Rattle.sdd_steps.specs.State as steps
 use Rattle.sdd_steps.specs.State.{At, Has, times, no_item, item_at, participant_is}
@@ -46,6 +46,7 @@ use Rattle.domain_table.specs.declared.board.Acting.{Acting}
 use Rattle.domain_table.specs.declared.board.Plan.{Plan}
 use Rattle.domain_table.proofs.Taken as taken
 use Rattle.domain_table.proofs.Taken.{and_true}
+use Rattle.domain_table.proofs.Privates.{private_set}
 use Rattle.domain_table.proofs.Moves.{items_change, slot_written}
 use Rattle.domain_table.proofs.Stirred.{rests_on, still_left, grip_set}
 
@@ -250,6 +251,7 @@ module _ (S : Type 0) (IsIn : Content → S → Type 0) (plan : Plan) where
       given = given_now;
       waiting = waits_now;
       leftovers = still_left r.items.leftovers (waits_on Waiting);
+      private = private_set r.items.private (λ w h. waits_on (Collected w.age) w h) id d d' at refl;
       seats = seats_now;
     }
 

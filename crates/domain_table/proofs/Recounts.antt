@@ -1,5 +1,5 @@
 -- a step on the word of a slot: its item has more owners or fewer, which come from the participant's leased parts or are joined to them
-use Rattle.std.proofs.Common.{◌≡◌, ◌≢◌, ℕ, ◌+◌, ◌<◌, List, get_or, set, sym, refl, ap, ◌∙◌, subst, ⊎_elim, arith, length-set, get_or-set_other, get_or-set_same}
+use Rattle.std.proofs.Common.{◌≡◌, ◌≢◌, ◌⊎◌, ℕ, ◌+◌, ◌<◌, List, get_or, set, sym, refl, ap, ◌∙◌, subst, ⊎_elim, arith, length-set, get_or-set_other, get_or-set_same}
 use mathlib.Core.Logic.{dite}
 use mathlib.Core.Option as maybe
 use mathlib.Core.Option.{some}
@@ -9,7 +9,7 @@ use Rattle.atomic_table.specs.Table.{State}
 use Rattle.sdd_steps.specs.declared.item.Item.{Item}
 use Rattle.sdd_steps.specs.declared.item.Cell.{Cell}
 use Rattle.sdd_steps.specs.declared.item.ItemState.{ItemState}
-use Rattle.sdd_steps.specs.declared.item.ItemState.TheVariants.{Live, Due, Retired, Waiting, Reclaimed}
+use Rattle.sdd_steps.specs.declared.item.ItemState.TheVariants.{Live, Due, Retired, Collected, Waiting, Reclaimed}
 use Rattle.sdd_steps.specs.State as steps
 use Rattle.sdd_steps.specs.State.{At, Has, times}
 use Rattle.sdd_steps.specs.Invariant.{names_of}
@@ -25,20 +25,21 @@ use Rattle.sdd_homes.specs.Lying.{Lying}
 use Rattle.sdd_homes.proofs.SpareLemmas.{Was, stays_kept}
 use Rattle.sdd_homes.proofs.HandLemmas.{owned_set}
 use Rattle.domain_table.specs.Layout.{cell_word, slot_word, claim_word, all_homes, all_extras}
-use Rattle.domain_table.specs.Items.{owners_in_hand, Grip, Owns, HasState, IsWaiting, Carries, Items, Distinct, IsGiven}
+use Rattle.domain_table.specs.Items.{owners_in_hand, Grip, Owns, HasState, IsWaiting, IsNoted, Private, Carries, Items, Distinct, IsGiven}
 use Rattle.domain_table.specs.Rule.{Runs, Shows}
 use Rattle.domain_table.specs.declared.board.Acting.{Acting}
 use Rattle.domain_table.specs.declared.board.Plan.{Plan}
+use Rattle.domain_table.proofs.Privates.{private_new}
 use Rattle.domain_table.proofs.Moves.{items_change, slot_written}
 use Rattle.domain_table.proofs.Stirred.{rests_on, still_left, waits_set}
 
 module _ (S : Type 0) (IsIn : Content → S → Type 0) (plan : Plan) (s : State S Acting) (r : Shows IsIn plan s) (id k i : ℕ) (d : Acting) (it it' : Item) (at : get_elem? s.views id ≡ some d) (kind : d.kind ≡ 1)
-    (inside : k < plan.sizes.slots) (is : r.book.stage k ≡ full i) (here : At r.state.items i it) (leases' : List Lease) (hand' : List Owner) (releasing' : ℕ) (waits' : List Garbage) (share' : ℕ → ℕ → ℕ) (out' : ℕ → List Lease) (what' : ℕ → Content) (homes' : List (maybe.Option S)) where
+    (inside : k < plan.sizes.slots) (is : r.book.stage k ≡ full i) (here : At r.state.items i it) (leases' : List Lease) (hand' : List Owner) (releasing' : ℕ) (waits' collected' : List Garbage) (share' : ℕ → ℕ → ℕ) (out' : ℕ → List Lease) (what' : ℕ → Content) (homes' : List (maybe.Option S)) where
   abbrev pub core : steps.State
   core = record r.state { items = set r.state.items i it' }
 
   abbrev pub d' : Acting
-  d' = record d { leases = leases'; hand = hand'; releasing = releasing'; waits = waits' }
+  d' = record d { leases = leases'; hand = hand'; releasing = releasing'; waits = waits'; collected = collected' }
 
   abbrev pub book' : Book
   book' = record r.book { share = share'; out = out'; what = what' }
@@ -67,6 +68,8 @@ module _ (S : Type 0) (IsIn : Content → S → Type 0) (plan : Plan) (s : State
     pub holds : it'.holds ≡ it.holds
     pub distinct : Distinct waits'
     pub waits : (w : Garbage) → Has waits' w → IsWaiting core.items r.book.slot_of d.number w
+    pub once : Distinct collected'
+    pub noted : (w : Garbage) → Has collected' w → Has d.collected w ⊎ ((w.item ≡ i) × IsNoted core.items r.book.slot_of w)
 
   -- the item has an owner, so nobody has retired it
   state_else : it.state ≡ Live → (st : ItemState) (w : Garbage) → Live ≢ st → HasState r.state.items r.book.slot_of st w → HasState core.items r.book.slot_of st w
@@ -114,6 +117,19 @@ module _ (S : Type 0) (IsIn : Content → S → Type 0) (plan : Plan) (s : State
         (λ (h : (j ≡ i) × (it' ≡ w)). let old = r.items.hands j it (subst (λ q. At r.state.items q it) (sym h.0) here) in let e = ap (λ (z : Item). z.hand) h.1 in let own = subst (λ q. it'.hand + times q (items_of d.hand) ≡ it.hand + times q (items_of hand')) (sym h.0) c.hand_here in omega arith)
         (λ (h : (j ≢ i) × At r.state.items j w). let old = r.items.hands j w h.1 in let own = c.hand_else j h.0 in omega arith) (at_set r.state.items i j it' w at_j)
 
+    notes_else : (w : Garbage) → IsNoted r.state.items r.book.slot_of w → IsNoted core.items r.book.slot_of w
+    notes_else w h = state_else c.alive (Collected w.age) w (λ e. absurd (cc)) h
+
+    -- what is in a private bag has no owner
+    owned_apart : (w : Garbage) → IsNoted r.state.items r.book.slot_of w → w.item ≢ i
+    owned_apart w h e = let same : h.0 ≡ it = same_at r.state.items i h.0 it (subst (λ m. At r.state.items m h.0) e h.1) here in let bad : Live ≡ Collected w.age = sym c.alive ∙ (ap (λ (z : Item). z.state) (sym same) ∙ h.2) in absurd (cc)
+
+    private_now : Private core.items r.book.slot_of views'
+    private_now = private_new r.items.private id d' (λ w has. ⊎_elim (λ (t : Has d.collected w). notes_else w (r.items.private.noted id d w at t)) (λ (t : (w.item ≡ i) × IsNoted core.items r.book.slot_of w). t.1) (c.noted w has)) c.once
+        (λ j e w _ e_at has. notes_else w (r.items.private.noted j e w e_at has))
+        (λ j e v w other e_at has_v has_w same. ⊎_elim (λ (t : Has d.collected v). other (r.items.private.apart j id e d w v e_at at has_w t (sym same)))
+        (λ (t : (v.item ≡ i) × IsNoted core.items r.book.slot_of v). owned_apart w (r.items.private.noted j e w e_at has_w) (sym same ∙ t.0)) (c.noted v has_v))
+
     seats_now : (j : ℕ) (e : Acting) → At views' j e → e.kind ≡ 1 → Carries plan.sizes book' e
     seats_now = set_all (λ _ e. e.kind ≡ 1 → Carries plan.sizes book' e) s.views id d' (λ _. let b = r.items.seats id d at kind in record { sizes_are = b.sizes_are; leases = c.mine; spare = b.spare; fills = b.fills; distinct = c.distinct; left = b.left })
         (λ j e other e_at e_kind. let b = r.items.seats j e e_at e_kind in let a = r.epochs.seats id d at kind in let x = r.epochs.seats j e e_at e_kind in
@@ -139,6 +155,7 @@ module _ (S : Type 0) (IsIn : Content → S → Type 0) (plan : Plan) (s : State
       given = given_now;
       waiting = waits_set r.items core.items id d' (λ w _ h. c.waits w h) (λ j e w _ e_at k' h. waits_else c.alive e.number w (r.items.waiting j e w e_at k' h));
       leftovers = still_left r.items.leftovers (λ w h. state_else c.alive Waiting w (λ e. absurd (cc)) h);
+      private = private_now;
       seats = seats_now;
     }
 

@@ -14,6 +14,7 @@ use Rattle.domain_table.specs.Views.{registered}
 use Rattle.domain_table.specs.Items.{Grip, Rests, Items}
 use Rattle.domain_table.proofs.Stirred.{stirred_none, grip_set, seated}
 use Rattle.domain_table.proofs.Stirred as items
+use Rattle.domain_table.proofs.Privates.{Keeps, private_on}
 use Rattle.sdd_homes.specs.Book.{Content, away, blank, bag, Book}
 use Rattle.sdd_homes.proofs.LyingLemmas.{takes_high}
 use Rattle.domain_table.specs.Layout.{state_word, claim_word, epoch_words, all_homes, all_extras, bag_place}
@@ -92,6 +93,7 @@ module _ (S : Type 0) (IsIn : Content → S → Type 0) (plan : Plan) where
           freed = λ p _ some_. inl (else_same p (another p some_));
         })
         (seated r.items id d d' at (sym bare) (λ _. record { sizes_are = refl; leases = rests.0; spare = refl; fills = λ f e. absurd (cc); distinct = tt; left = refl })) (items.waits_stay r.items id d' (λ w _ has. absurd has)) r.items.leftovers
+        (private_on r.items.private (λ _ h. h) (set_all (λ j e. Keeps s.views j e) s.views id d' (inl refl) (λ j e _ here. inr (e, here, refl))))
 
     unbagged : Items IsIn plan.sizes r.state (record r.book { extra = put r.book.extra b away }) words' homes1 views'
     unbagged = items.rebagged seated_now q away homes1 now (takes_high r.items.lying b bag_range)

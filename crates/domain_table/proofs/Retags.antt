@@ -61,6 +61,7 @@ module _ (S : Type 0) (IsIn : Content → S → Type 0) (plan : Plan) where
       given = r.items.given;
       waiting = r.items.waiting;
       leftovers = r.items.leftovers;
+      private = r.items.private;
       seats = r.items.seats;
     }
 

@@ -17,6 +17,7 @@ use Rattle.domain_table.specs.Views.{spent}
 use Rattle.domain_table.specs.Items.{owners_in_hand, Grip}
 use Rattle.domain_table.proofs.Stirred.{stirred_none}
 use Rattle.domain_table.proofs.Stirred as items
+use Rattle.domain_table.proofs.Privates.{private_on}
 use Rattle.sdd_homes.specs.Book.{Content}
 use Rattle.domain_table.specs.Layout.{state_word, claim_word, cell_word, shown}
 use Rattle.domain_table.specs.Rule.{beginning, first_words, Shows}
@@ -86,7 +87,8 @@ module _ (S : Type 0) (IsIn : Content → S → Type 0) (plan : Plan) where
             same = λ i. let e = owned_end owners_in_hand i s.views spent in omega arith;
             owners = λ j d o' e has. ⊎_elim (λ (h : get_elem? s.views j ≡ some d). r.items.owners j d o' h has) (λ (t : spent ≡ d). absurd (subst (λ (v : Acting). Has v.hand o') (sym t) has)) (at_snoc s.views spent d j e);
             seats = λ j d e kind. ⊎_elim (λ (h : get_elem? s.views j ≡ some d). r.items.seats j d h kind) (λ (t : spent ≡ d). nobody d _ t kind) (at_snoc s.views spent d j e);
-          }) (λ j d w e kind has. ⊎_elim (λ (h : get_elem? s.views j ≡ some d). r.items.waiting j d w h kind has) (λ (t : spent ≡ d). nobody d _ t kind) (at_snoc s.views spent d j e)) r.items.leftovers;
+          }) (λ j d w e kind has. ⊎_elim (λ (h : get_elem? s.views j ≡ some d). r.items.waiting j d w h kind has) (λ (t : spent ≡ d). nobody d _ t kind) (at_snoc s.views spent d j e)) r.items.leftovers
+          (private_on r.items.private (λ _ h. h) (λ j d e. ⊎_elim (λ (h : get_elem? s.views j ≡ some d). inr (d, h, refl)) (λ (t : spent ≡ d). inl (ap (λ (z : Acting). z.collected) (sym t))) (at_snoc s.views spent d j e)));
       born = r.born;
       bounded = r.bounded;
       epochs = record {

@@ -29,8 +29,9 @@ use Rattle.sdd_homes.proofs.PartLemmas as parts
 use Rattle.sdd_homes.proofs.SpareLemmas.{stays_kept, refilled, beside}
 use Rattle.sdd_homes.proofs.HandLemmas.{owned_set}
 use Rattle.domain_table.specs.Layout.{epoch_words, claim_word, cell_word, slot_word, all_homes, all_extras, bag_place}
-use Rattle.domain_table.specs.Items.{owners_in_hand, Grasps, Grip, Owns, IsWaiting, IsLeftover, Leftovers, IsFilling, Rests, Carries, Items, Distinct}
+use Rattle.domain_table.specs.Items.{owners_in_hand, Grasps, Grip, Owns, IsWaiting, IsLeftover, IsNoted, Leftovers, Private, IsFilling, Rests, Carries, Items, Distinct}
 use Rattle.domain_table.specs.Views.{older_waits}
+use Rattle.domain_table.proofs.Privates.{private_set}
 use Rattle.domain_table.specs.declared.board.Acting.{Acting}
 
 -- the same item, which may have aged or gone into another bag
@@ -121,6 +122,13 @@ waits_older_else p q items slot_of w ne y = (older p y.0, at_map (older p) items
 pub waits_left : (p q : ℕ) (items : List Item) (slot_of : ℕ → ℕ) (w : Garbage) → q ≢ p → IsWaiting items slot_of q w → IsWaiting (map (left_by p) items) slot_of q w
 waits_left p q items slot_of w ne y = (left_by p y.0, at_map (left_by p) items w.item y.0 y.1, ap (left p) y.2 ∙ ap (λ b. cond b Waiting (Retired q w.age)) (ne_eqb q p ne), y.3, y.4)
 
+-- so is what is in private bags
+pub notes_older : (p : ℕ) (items : List Item) (slot_of : ℕ → ℕ) (w : Garbage) → IsNoted items slot_of w → IsNoted (map (older p) items) slot_of w
+notes_older p items slot_of w y = (older p y.0, at_map (older p) items w.item y.0 y.1, ap (aged p) y.2, y.3, y.4)
+
+pub notes_on : (p : ℕ) (items : List Item) (slot_of : ℕ → ℕ) (w : Garbage) → IsNoted items slot_of w → IsNoted (map (left_by p) items) slot_of w
+notes_on p items slot_of w y = (left_by p y.0, at_map (left_by p) items w.item y.0 y.1, ap (left p) y.2, y.3, y.4)
+
 -- what was left is so where participants rotate or end, and what p has retired is left where p ends
 pub left_older : (p : ℕ) (items : List Item) (slot_of : ℕ → ℕ) (w : Garbage) → IsLeftover items slot_of w → IsLeftover (map (older p) items) slot_of w
 left_older p items slot_of w y = (older p y.0, at_map (older p) items w.item y.0 y.1, ap (aged p) y.2, y.3, y.4)
@@ -164,6 +172,7 @@ module _ {S : Type 0} {IsIn : Content → S → Type 0} {sizes : Sizes} {state :
     pub owners : (j : ℕ) (d : Acting) (o : Owner) → At views' j d → Has d.hand o → Owns state.items book.slot_of o
     pub waiting : (j : ℕ) (d : Acting) (w : Garbage) → At views' j d → d.kind ≡ 1 → Has d.waits w → IsWaiting core.items book.slot_of d.number w
     pub leftovers : Leftovers core.items book.slot_of left'
+    pub private : Private core.items book.slot_of views'
     pub seats : (j : ℕ) (d : Acting) → At views' j d → d.kind ≡ 1 → Carries sizes (record book { left = left' }) d
 
   pub renewed : (core : steps.State) (left' : ℕ → List Garbage) (words' : List ℕ) (views' : List Acting) → Anew core left' words' views' → Items IsIn sizes core (record book { left = left' }) words' homes views'
@@ -186,14 +195,15 @@ module _ {S : Type 0} {IsIn : Content → S → Type 0} {sizes : Sizes} {state :
         given = λ i it' at alive. let t = stir.back i it' at in let g = r.given i t.0 t.1 (λ q e. alive q (t.2.gone q e)) in (g.0 ∙ sym t.2.holds, λ o h. let w = g.1 o h in let u = stir.ahead o.item w.0 w.1 in (u.0, u.1, u.2.value ∙ w.2, w.3));
         waiting = v.waiting;
         leftovers = v.leftovers;
+        private = v.private;
         seats = v.seats;
       }
 
   -- the same where bags stay as they are
   pub stays : (core : steps.State) (words' : List ℕ) (views' : List Acting) → core.cells ≡ state.cells → Stirred state.items core.items
       → ((q : ℕ) (l : Lease) → Has (book.out q) l → Why state (Grip views) q l.item → Why core (Grip views') q l.item)
-      → Untouched words' → Seated views' → ((j : ℕ) (d : Acting) (w : Garbage) → At views' j d → d.kind ≡ 1 → Has d.waits w → IsWaiting core.items book.slot_of d.number w) → Leftovers core.items book.slot_of book.left → Items IsIn sizes core book words' homes views'
-  stays core words' views' same stir why w v waiting leftovers = renewed core book.left words' views' (record {
+      → Untouched words' → Seated views' → ((j : ℕ) (d : Acting) (w : Garbage) → At views' j d → d.kind ≡ 1 → Has d.waits w → IsWaiting core.items book.slot_of d.number w) → Leftovers core.items book.slot_of book.left → Private core.items book.slot_of views' → Items IsIn sizes core book words' homes views'
+  stays core words' views' same stir why w v waiting leftovers private = renewed core book.left words' views' (record {
     cells = same;
     stirred = stir;
     why = why;
@@ -204,6 +214,7 @@ module _ {S : Type 0} {IsIn : Content → S → Type 0} {sizes : Sizes} {state :
     owners = v.owners;
     waiting = waiting;
     leftovers = leftovers;
+    private = private;
     seats = v.seats;
   })
 
@@ -229,6 +240,7 @@ module _ {S : Type 0} {IsIn : Content → S → Type 0} {sizes : Sizes} {state :
     given = r.given;
     waiting = r.waiting;
     leftovers = r.leftovers;
+    private = r.private;
     seats = λ j d at k. let b = r.seats j d at k in record { sizes_are = b.sizes_are; leases = b.leases; spare = b.spare; fills = b.fills; distinct = b.distinct; left = b.left };
   }
 
@@ -300,6 +312,7 @@ module _ {S : Type 0} {IsIn : Content → S → Type 0} {sizes : Sizes} {state :
       given = r.given;
       waiting = waits_stay id d' (λ w k has. subst (λ (z : Acting). Has z.waits w → IsWaiting state.items book.slot_of z.number w) (sym l.same) (r.waiting id d w at kind) has);
       leftovers = r.leftovers;
+      private = private_set r.private (λ _ h. h) id d d' at (ap (λ (z : Acting). z.collected) l.same);
       seats = λ j e at_j k. set_all (λ _ e'. e'.kind ≡ 1 → Carries sizes book_of e') views id d'
           (λ _. record { sizes_are = ap (λ (z : Acting). z.sizes) l.same ∙ c.sizes_are; leases = ap (λ (z : Acting). out' z.number) l.same ∙ l.mine; spare = ap (λ (z : Acting). book.spare (sizes.cells + z.number)) l.same ∙ (c.spare ∙ sym (ap (λ (z : Acting). z.spare) l.same)); fills = subst (IsFilling sizes book_of) (sym l.same) c.fills; distinct = subst (λ (z : Acting). Distinct z.waits) (sym l.same) c.distinct; left = ap (λ (z : Acting). book.left z.number) l.same ∙ (c.left ∙ sym (ap (λ (z : Acting). z.left) l.same)) })
           (λ j' e' other here k'. let x = r.seats j' e' here k' in record { sizes_are = x.sizes_are; leases = l.others e'.number (l.apart j' e' other here k') ∙ x.leases; spare = x.spare; fills = x.fills; distinct = x.distinct; left = x.left }) j e at_j k;

@@ -8,7 +8,7 @@ use Rattle.atomic_table.proofs.Lists.{set_again}
 use Rattle.sdd_steps.specs.declared.participant.Participant.{Participant}
 use Rattle.sdd_steps.specs.declared.item.Item.{Item}
 use Rattle.sdd_steps.specs.declared.item.ItemState.{ItemState}
-use Rattle.sdd_steps.specs.declared.item.ItemState.TheVariants.{Retired, Waiting}
+use Rattle.sdd_steps.specs.declared.item.ItemState.TheVariants.{Retired, Collected, Waiting}
 use Rattle.sdd_steps.specs.declared.item.Cell.{Cell}
 use Rattle.sdd_steps.specs.declared.step.Step.TheVariants.{SwapCell}
 use Rattle.sdd_steps.specs.State as steps
@@ -40,6 +40,7 @@ use Rattle.domain_table.specs.Owners.{item_of, slot_code, part_of, besides}
 use Rattle.domain_table.specs.Rule.{Runs, Shows}
 use Rattle.domain_table.specs.declared.board.Acting.{Acting}
 use Rattle.domain_table.specs.declared.board.Plan.{Plan}
+use Rattle.domain_table.proofs.Privates.{private_set}
 use Rattle.domain_table.proofs.Moves.{moved, own_inside}
 use Rattle.domain_table.proofs.Stirred.{rests_on, still_left, grip_set, waits_set}
 use Rattle.domain_table.proofs.Taken as taken
@@ -247,6 +248,7 @@ module _ (S : Type 0) (IsIn : Content → S → Type 0) (plan : Plan) (s : State
     given = λ i it' at_i alive. let w = back i it' at_i in let g = r.items.given i w.0 w.1 (λ q e. alive q (ap (λ (z : Item). z.state) w.2 ∙ e)) in (g.0 ∙ sym (ap (λ (z : Item). z.holds) w.2), λ o h. owns_on o (g.1 o h));
     waiting = waits_now;
     leftovers = still_left r.items.leftovers (waits_on Waiting);
+    private = private_set r.items.private (λ w h. waits_on (Collected w.age) w h) id d d' at refl;
     seats = seats_now;
   }
     where

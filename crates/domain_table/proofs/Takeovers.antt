@@ -8,7 +8,7 @@ use lib.Seq.{set-get_or}
 use Rattle.atomic_table.specs.Table.{State, Me, step, keeps, Allows}
 use Rattle.sdd_steps.specs.declared.item.Item.{Item}
 use Rattle.sdd_steps.specs.declared.item.ItemState.{ItemState}
-use Rattle.sdd_steps.specs.declared.item.ItemState.TheVariants.{Retired, Waiting, Reclaimed}
+use Rattle.sdd_steps.specs.declared.item.ItemState.TheVariants.{Retired, Collected, Waiting, Reclaimed}
 use Rattle.sdd_steps.specs.declared.step.Step.TheVariants.{TakeOver}
 use Rattle.sdd_steps.specs.State as steps
 use Rattle.sdd_steps.specs.State.{At, Has, item_is, participant_is}
@@ -32,9 +32,10 @@ use Rattle.domain_table.proofs.Moves.{items_change, reads_only}
 use Rattle.domain_table.proofs.Reclaims.{init_distinct, snoc_same}
 use Rattle.domain_table.proofs.Stirred.{Ages, Stirred, grip_set}
 use Rattle.domain_table.proofs.Stirred as items
+use Rattle.domain_table.proofs.Privates.{private_set}
 
 -- one item changes
-stirred_set : (all : List Item) (i : ℕ) (it it' : Item) → At all i it → Ages it it' → Stirred all (set all i it')
+pub stirred_set : (all : List Item) (i : ℕ) (it it' : Item) → At all i it → Ages it it' → Stirred all (set all i it')
 stirred_set all i it it' here ages = let still : (x : Item) → Ages x x = (λ x. record { value = refl; hand = refl; owners = refl; holds = refl; due = λ q e. e; gone = λ q e. e }) in record {
   ahead = λ j x at. dite (ℕ_discrete j i)
       (λ e. let same : x ≡ it = same_at all i x it (subst (λ m. At all m x) e at) here in (it', subst (λ m. At (set all i it') m it') (sym e) (set_here all i it' it here), subst (λ z. Ages z it') (sym same) ages))
@@ -144,6 +145,7 @@ module _ (S : Type 0) (IsIn : Content → S → Type 0) (plan : Plan) where
           (λ v _ has. ⊎_elim (λ (e : record w { age = 0 } ≡ v). subst (IsWaiting core.items r.book.slot_of p) e (it', here, refl, was_left.3, was_left.4)) (λ (t : Has d.waits v). waits_on p v (r.items.waiting id d v at kind t)) has)
           (λ j e v _ at_e k has. waits_on e.number v (r.items.waiting j e v at_e k has));
       leftovers = leftovers_now;
+      private = private_set r.items.private (λ v h. states_on (Collected v.age) v (unlike (Collected v.age) v (λ e. absurd (cc)) h) h) id d d' at refl;
       seats = set_all (λ _ e. e.kind ≡ 1 → Carries plan.sizes book' e) s.views id d'
           (λ _. record {
             sizes_are = carries.sizes_are;

@@ -5,7 +5,7 @@ use Rattle.sdd_base.specs.declared.sizes.Sizes.{Sizes}
 use Rattle.sdd_steps.specs.declared.item.Item.{Item}
 use Rattle.sdd_steps.specs.declared.item.Cell.{Cell}
 use Rattle.sdd_steps.specs.declared.item.ItemState.{ItemState}
-use Rattle.sdd_steps.specs.declared.item.ItemState.TheVariants.{Due, Retired, Waiting, Reclaimed}
+use Rattle.sdd_steps.specs.declared.item.ItemState.TheVariants.{Due, Retired, Collected, Waiting, Reclaimed}
 use Rattle.sdd_steps.specs.State as steps
 use Rattle.sdd_steps.specs.State.{At, Has}
 use Rattle.sdd_steps.specs.Invariant.{names_of}
@@ -56,6 +56,10 @@ IsWaiting items slot_of p w = HasState items slot_of (Retired p w.age) w
 abbrev pub IsLeftover : List Item → (ℕ → ℕ) → Garbage → Type 0
 IsLeftover items slot_of w = HasState items slot_of Waiting w
 
+-- it is in a private bag, with this count noted
+abbrev pub IsNoted : List Item → (ℕ → ℕ) → Garbage → Type 0
+IsNoted items slot_of w = HasState items slot_of (Collected w.age) w
+
 -- the slot that the view's participant fills or empties, if it does
 abbrev pub IsFilling : Sizes → Book → Acting → Type 0
 IsFilling sizes book d = (f : Filling) → d.filling ≡ Some f → (d.slot < sizes.slots) × (f.by ≡ d.number) × (book.stage d.slot ≡ partly f)
@@ -70,6 +74,12 @@ pub record Leftovers (items : List Item) (slot_of : ℕ → ℕ) (left : ℕ →
   pub waits : (p : ℕ) (w : Garbage) → Has (left p) w → IsLeftover items slot_of w
   pub once : (p : ℕ) → Distinct (left p)
   pub apart : (p q : ℕ) (v w : Garbage) → Has (left p) v → Has (left q) w → v.item ≡ w.item → p ≡ q
+
+-- what is in private bags, each at one seat: no item is in two of them, or in one twice
+pub record Private (items : List Item) (slot_of : ℕ → ℕ) (views : List Acting) : Type 0 where
+  pub noted : (j : ℕ) (d : Acting) (w : Garbage) → At views j d → Has d.collected w → IsNoted items slot_of w
+  pub once : (j : ℕ) (d : Acting) → At views j d → Distinct d.collected
+  pub apart : (j k : ℕ) (d e : Acting) (v w : Garbage) → At views j d → At views k e → Has d.collected v → Has e.collected w → v.item ≡ w.item → j ≡ k
 
 -- nobody acts for p: none of its homes is out, its spare slot, which its claim word tells, is empty, and its bag has what it left
 abbrev pub Rests : Sizes → Book → List ℕ → ℕ → Type 0
@@ -102,4 +112,5 @@ pub record Items {S : Type 0} (IsIn : Content → S → Type 0) (sizes : Sizes) 
   pub given : (i : ℕ) (it : Item) → At state.items i it → ((q : ℕ) → it.state ≢ Reclaimed q) → IsGiven state.items book.slot_of (book.held (book.slot_of i)) it
   pub waiting : (j : ℕ) (d : Acting) (w : Garbage) → At views j d → d.kind ≡ 1 → Has d.waits w → IsWaiting state.items book.slot_of d.number w
   pub leftovers : Leftovers state.items book.slot_of book.left
+  pub private : Private state.items book.slot_of views
   pub seats : (j : ℕ) (d : Acting) → At views j d → d.kind ≡ 1 → Carries sizes book d

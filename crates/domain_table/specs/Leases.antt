@@ -4,6 +4,7 @@ use Rattle.parted.specs.declared.life.Life.{Life}
 use Rattle.sdd_homes.specs.declared.Lease.{Lease}
 use Rattle.atomic_table.specs.Table.{Me}
 use Rattle.sdd_base.specs.declared.sizes.Sizes.{Sizes}
+use Rattle.sdd_steps.specs.declared.participant.Participant.{Participant}
 use Rattle.sdd_steps.specs.declared.participant.Loaded.{Loaded}
 use Rattle.sdd_steps.specs.State.{Has}
 use Rattle.sdd_steps.specs.Steps.{is_inside, is_ready}
@@ -11,7 +12,7 @@ use Rattle.sdd_homes.specs.declared.Owner.{Owner}
 use Rattle.sdd_homes.specs.declared.Garbage.{Garbage}
 use Rattle.sdd_homes.specs.Book.{Apart}
 use Rattle.domain_table.specs.Contents.{IsIn, blanks}
-use Rattle.domain_table.specs.Plays.{HasLeasedAt, HasLoaded, own_home, releasing_one}
+use Rattle.domain_table.specs.Plays.{HasLeasedAt, HasLoaded, own_home, HasRoom, releasing_one}
 use Rattle.domain_table.specs.declared.board.Acting.{Acting}
 use Rattle.domain_table.specs.declared.board.Home.{Home}
 use Rattle.domain_table.specs.declared.board.Home.TheVariants.{Blank}
@@ -58,22 +59,31 @@ HasRows life slots ls rows room = (map row_told rows ≡ map (lease_told life) l
 abbrev pub KeepsRows : {T : Type 0} → ℕ → ℕ → List Lease → List (Row T) → ℕ → ℕ → Type 0
 KeepsRows life slots ls rows before after = (map row_told rows ≡ map (lease_told life) ls) × (all_below slots (row_slots rows) ≡ true) × (after ≡ before)
 
--- the lease of the first owner's slot has few parts, of the owner's round, and there is room for one more item to wait
+-- the lease of the first owner's slot has few parts, of the owner's round, and both bags have room for one more item
 abbrev pub HasFew : Acting → Type 0
-HasFew d = (l : Lease) (o : Owner) (os : List Owner) → Has d.leases l → o.slot ≡ l.slot → d.hand ≡ o ∷ os → (l.count < 2 ^ 63) × (length d.waits < d.sizes.slots) × Apart d.leases × (o.round ≡ l.round)
+HasFew d = (l : Lease) (o : Owner) (os : List Owner) → Has d.leases l → o.slot ≡ l.slot → d.hand ≡ o ∷ os → (l.count < 2 ^ 63) × HasRoom d × Apart d.leases × (o.round ≡ l.round)
 
 -- the first owner in hand is released, where so many were found
-abbrev pub ReleasesOne : {S : Type 0} → Me S Acting → ℕ → Me S Acting → Type 0
-ReleasesOne m n m' = (l : Lease) (o : Owner) (os : List Owner) → Has m.0.leases l → o.slot ≡ l.slot → m.0.hand ≡ o ∷ os → m' ≡ (releasing_one n l os m.0, m.1)
+abbrev pub ReleasesOne : {S : Type 0} → (Participant → Option ℕ) → Me S Acting → ℕ → Me S Acting → Type 0
+ReleasesOne to m n m' = (l : Lease) (o : Owner) (os : List Owner) → Has m.0.leases l → o.slot ≡ l.slot → m.0.hand ≡ o ∷ os → m' ≡ (releasing_one (to m.0.known) n l os m.0, m.1)
 
 -- the first owner in hand is of an item in this slot and of this round
 abbrev pub IsFirst : Acting → ℕ → ℕ → Type 0
 IsFirst d k r = (o : Owner) × (os : List Owner) × (d.hand ≡ o ∷ os) × (o.slot ≡ k) × (o.round ≡ r)
 
--- the first owner in hand was released, and so many others are left: with the last one its item, in slot k, waits; the leases are these now
-abbrev pub HasReleased : {S : Type 0} → ℕ → ℕ → Me S Acting → List Lease → Me S Acting → Type 0
-HasReleased k left m ls m' = (o : Owner) (os : List Owner) → m.0.hand ≡ o ∷ os
-    → (0 < left → m' ≡ (record m.0 { hand = os; leases = ls }, m.1)) × (left ≡ 0 → (w : Garbage) × (w.slot ≡ k) × (w.age ≡ 0) × (m' ≡ (record m.0 { hand = os; leases = ls; waits = w ∷ m.0.waits }, m.1)))
+-- an item that has lost its last owner waits, with age 0, or is in the private bag, with its note
+abbrev pub first_age : Option ℕ → ℕ
+first_age None = 0
+first_age (Some note) = note
+
+abbrev pub gone_to : Option ℕ → Garbage → Acting → Acting
+gone_to None w d = record d { waits = w ∷ d.waits }
+gone_to (Some note) w d = record d { collected = w ∷ d.collected }
+
+-- the first owner in hand was released, and so many others are left: with the last one its item, in slot k, goes where `to` tells; the leases are these now
+abbrev pub HasReleased : {S : Type 0} → (Participant → Option ℕ) → ℕ → ℕ → Me S Acting → List Lease → Me S Acting → Type 0
+HasReleased to k left m ls m' = (o : Owner) (os : List Owner) → m.0.hand ≡ o ∷ os
+    → (0 < left → m' ≡ (record m.0 { hand = os; leases = ls }, m.1)) × (left ≡ 0 → (w : Garbage) × (w.slot ≡ k) × (w.age ≡ first_age (to m.0.known)) × (m' ≡ (gone_to (to m.0.known) w (record m.0 { hand = os; leases = ls }), m.1)))
 
 -- something may have been loaded under the open guard, and leased
 abbrev pub HasLeased : {S : Type 0} → Me S Acting → Me S Acting → Type 0

@@ -3,6 +3,7 @@ use Rattle.std.specs.Prelude.{◌≡◌, ◌⊎◌, ℕ, ◌+◌, ◌-◌, ◌^�
 use Rattle.std.specs.Mem.{manually_drop_value}
 use Rattle.core.specs.declared.mem.manually_drop.ManuallyDrop.{ManuallyDrop}
 use Rattle.atomic_table.specs.Table.{Me}
+use Rattle.sdd_steps.specs.declared.participant.Participant.{Participant}
 use Rattle.sdd_steps.specs.Steps.{is_ready}
 use Rattle.sdd_homes.specs.declared.Lease.{Lease}
 use Rattle.sdd_homes.specs.declared.Owner.{Owner}
@@ -52,8 +53,8 @@ module _ {T : Type 0} (IsIn : Content → Home T → Type 0) where
   KeepsLease m after = (l : Lease) (ls : List Lease) (tail : List (ℕ × Home T)) → CanKeep IsIn m l ls tail → after ≡ (record m.0 { leases = ls; releasing = 0 }, tail)
 
   -- the release under way ends, where so many owners were found
-  abbrev pub EndsRelease : Me (Home T) Acting → ℕ → Me (Home T) Acting → Type 0
-  EndsRelease m count after = (l : Lease) (ls : List Lease) (o : Owner) (os : List Owner) (tail : List (ℕ × Home T)) → CanEnd IsIn m l ls o os tail → after ≡ (ended_release count l ls os m.0, tail)
+  abbrev pub EndsRelease : (Participant → Option ℕ) → Me (Home T) Acting → ℕ → Me (Home T) Acting → Type 0
+  EndsRelease to m count after = (l : Lease) (ls : List Lease) (o : Owner) (os : List Owner) (tail : List (ℕ × Home T)) → CanEnd IsIn m l ls o os tail → after ≡ (ended_release (to m.0.known) count l ls os m.0, tail)
 
   -- these parts go back to the home that was emptied
   abbrev pub PutsBack : Me (Home T) Acting → ℕ → Home T → Me (Home T) Acting → Type 0

@@ -1,18 +1,20 @@
 -- what each step on a word tells the seat that makes it
-use Rattle.std.specs.Prelude.{◌≡◌, ◌≢◌, ◌⊎◌, ℕ, suc, ◌+◌, ◌-◌, ◌^◌, ◌<◌, ◌≤◌, List, [], ◌∷◌, ◌++◌, length, take, drop, Option, None, Some, ◌==◌, cond}
+use Rattle.std.specs.Prelude.{◌≡◌, ◌≢◌, ◌⊎◌, ℕ, suc, ◌+◌, ◌-◌, ◌^◌, ◌<◌, ◌≤◌, List, [], ◌∷◌, ◌++◌, length, take, drop, Option, None, Some, ◌==◌, cond, true}
 use mathlib.Core.Option.{some}
 use Rattle.atomic_table.specs.Table.{Me, Step, rest}
 use Rattle.atomic_table.specs.declared.shared.Seat.{Seat}
 use Rattle.sdd_base.specs.declared.sizes.Sizes.{Sizes}
 use Rattle.sdd_steps.specs.declared.participant.Phase.TheVariants.{HasRead, Opened}
+use Rattle.sdd_steps.specs.declared.participant.Participant.{Participant}
 use Rattle.sdd_steps.specs.declared.participant.Loaded.{Loaded}
 use Rattle.sdd_steps.specs.State.{Has}
+use Rattle.sdd_steps.specs.Steps.{is_inside}
 use Rattle.sdd_homes.specs.declared.Lease.{Lease}
 use Rattle.sdd_homes.specs.declared.Owner.{Owner}
 use Rattle.sdd_homes.specs.declared.Filling.{Filling}
 use Rattle.sdd_homes.specs.declared.Garbage.{Garbage}
 use Rattle.sdd_homes.specs.Book.{Content, part, home, lease, Lends, Apart, recounted, blank, room, deed, bag}
-use Rattle.domain_table.specs.Views.{spent, registered, reading, publishing, rotated, looking, closing}
+use Rattle.domain_table.specs.Views.{spent, gathering, registered, reading, rereading, publishing, rotated, looking, closing}
 use Rattle.domain_table.specs.Layout.{state_word, claim_word, slot_word, all_homes, bag_place, Tells, shown}
 use Rattle.domain_table.specs.Owners.{slot_code, part_of, besides}
 use Rattle.domain_table.specs.declared.board.Acting.{Acting}
@@ -29,6 +31,10 @@ module _ {S : Type 0} where
   -- under an open guard the count is read: it was raised at most once since the publication
   abbrev pub count_then : Step S → Me S Acting → ℕ → Me S Acting → Type 0
   count_then t m n m' = (m' ≡ m) × (m.0.born ≤ n) × (n ≤ m.0.born + 1)
+
+  -- under an open guard the count is read again, and known from then on: it was raised at most once since the publication
+  abbrev pub reread_then : Step S → Me S Acting → ℕ → Me S Acting → Type 0
+  reread_then t m n m' = (m' ≡ (record m.0 { known = rereading n m.0.known }, m.1)) × (m.0.born ≤ n) × (n ≤ m.0.born + 1)
 
   -- a closed word, or that of the published count, is noted
   abbrev pub look_then : Step S → Me S Acting → ℕ → Me S Acting → Type 0
@@ -174,21 +180,31 @@ IsAlike l d = (o : Owner) (os : List Owner) → d.hand ≡ o ∷ os → o.slot �
 abbrev pub clone_then : {S : Type 0} → Step S → Me S Acting → ℕ → Me S Acting → Type 0
 clone_then t m n m' = (l : Lease) → Has m.0.leases l → t.word ≡ slot_word m.0.sizes l.slot → (n ≡ t.first → m' ≡ (cloning l m.0, m.1)) × (n ≢ t.first → m' ≡ m) × Apart m.0.leases × IsAlike l m.0
 
--- the item of this owner was just retired
-abbrev pub just_retired : Owner → Garbage
-just_retired o = record { item = o.item; slot = o.slot; round = o.round; age = 0 }
+-- with the last owner the item waits, with age 0, or it is put into the private bag with a note, where there is one; 3 is the word of an item with one owner
+abbrev pub retiring : Option ℕ → ℕ → Lease → List Garbage → List Garbage
+retiring None n l ws = cond (n == 3) (record { item = l.item; slot = l.slot; round = l.round; age = 0 } ∷ ws) ws
+retiring (Some note) n l ws = ws
 
--- with the last owner the item waits, with age 0; 3 is the word of an item with one owner
-abbrev pub retiring : ℕ → Lease → List Garbage → List Garbage
-retiring n l ws = cond (n == 3) (record { item = l.item; slot = l.slot; round = l.round; age = 0 } ∷ ws) ws
+abbrev pub collecting : Option ℕ → ℕ → Lease → List Garbage → List Garbage
+collecting None n l ws = ws
+collecting (Some note) n l ws = cond (n == 3) (record { item = l.item; slot = l.slot; round = l.round; age = note } ∷ ws) ws
+
+-- a note is the count that was read again under the open guard
+abbrev pub MayNote : Option ℕ → Participant → Type 0
+MayNote None x = Unit {0}
+MayNote (Some note) x = (is_inside x ≡ true) × (x.reread ≡ Some note)
 
 -- the part of an owner in hand is joined to the lease of its item
-abbrev pub releasing_one : ℕ → Lease → List Owner → Acting → Acting
-releasing_one n l os d = record d { leases = recounted l.slot (l.count + 1) d.leases; hand = os; waits = retiring n l d.waits }
+abbrev pub releasing_one : Option ℕ → ℕ → Lease → List Owner → Acting → Acting
+releasing_one to n l os d = record d { leases = recounted l.slot (l.count + 1) d.leases; hand = os; waits = retiring to n l d.waits; collected = collecting to n l d.collected }
 
--- the first owner in hand is released
-abbrev pub release_then : {S : Type 0} → Step S → Me S Acting → ℕ → Me S Acting → Type 0
-release_then t m n m' = (l : Lease) (o : Owner) (os : List Owner) → Has m.0.leases l → o.slot ≡ l.slot → m.0.hand ≡ o ∷ os → (2 < n) × (l.count < 2 ^ 63) × (length m.0.waits < m.0.sizes.slots) × Apart m.0.leases × (o.round ≡ l.round) × (m' ≡ (releasing_one n l os m.0, m.1))
+-- both bags have room for one more item
+abbrev pub HasRoom : Acting → Type 0
+HasRoom d = (length d.waits < d.sizes.slots) × (length d.collected < d.sizes.slots)
+
+-- the first owner in hand is released, and its item goes where `to` tells
+abbrev pub release_then : {S : Type 0} → (Participant → Option ℕ) → Step S → Me S Acting → ℕ → Me S Acting → Type 0
+release_then to t m n m' = (l : Lease) (o : Owner) (os : List Owner) → Has m.0.leases l → o.slot ≡ l.slot → m.0.hand ≡ o ∷ os → (2 < n) × (l.count < 2 ^ 63) × HasRoom m.0 × Apart m.0.leases × (o.round ≡ l.round) × (m' ≡ (releasing_one (to m.0.known) n l os m.0, m.1))
 
 -- a release of the owner o begins: the participant's home of its item comes out
 abbrev pub HasBegun : {S : Type 0} → (Content → S → Type 0) → Me S Acting → Owner → Me S Acting → Type 0
@@ -199,16 +215,16 @@ abbrev pub begin_then : {S : Type 0} → (Content → S → Type 0) → Step S �
 begin_then IsIn t m n m' = (o : Owner) (os : List Owner) → m.0.hand ≡ o ∷ os → HasBegun IsIn m o m'
 
 -- the participant's home is back, and the owner is gone
-abbrev pub ended_release : ℕ → Lease → List Lease → List Owner → Acting → Acting
-ended_release n l ls os d = record d { leases = ls; hand = os; releasing = 0; waits = retiring n l d.waits }
+abbrev pub ended_release : Option ℕ → ℕ → Lease → List Lease → List Owner → Acting → Acting
+ended_release to n l ls os d = record d { leases = ls; hand = os; releasing = 0; waits = retiring to n l d.waits; collected = collecting to n l d.collected }
 
 module _ {S : Type 0} (IsIn : Content → S → Type 0) where
   -- the release of the first owner in hand began: the participant's home of its item is out as the last lease, and in front of what is out with the seat, the owner's part joined to its own
   abbrev pub CanEnd : Me S Acting → Lease → List Lease → Owner → List Owner → List (ℕ × S) → Type 0
   CanEnd m l ls o os tail = (m.0.leases ≡ ls ++ l ∷ []) × (m.0.hand ≡ o ∷ os) × (o.slot ≡ l.slot) × (m.0.releasing ≡ suc o.item) × ((u : S) × IsIn (part l.round (l.count + 1)) u × (m.1 ≡ (own_home m.0 l.slot, u) ∷ tail))
 
-  abbrev pub end_release_then : Step S → Me S Acting → ℕ → Me S Acting → Type 0
-  end_release_then t m n m' = (l : Lease) (ls : List Lease) (o : Owner) (os : List Owner) (tail : List (ℕ × S)) → CanEnd m l ls o os tail → (2 < n) × (length m.0.waits < m.0.sizes.slots) × (m' ≡ (ended_release n l ls os m.0, tail))
+  abbrev pub end_release_then : (Participant → Option ℕ) → Step S → Me S Acting → ℕ → Me S Acting → Type 0
+  end_release_then to t m n m' = (l : Lease) (ls : List Lease) (o : Owner) (os : List Owner) (tail : List (ℕ × S)) → CanEnd m l ls o os tail → (2 < n) × HasRoom m.0 × (m' ≡ (ended_release (to m.0.known) n l ls os m.0, tail))
 
 module _ {S : Type 0} (IsIn : Content → S → Type 0) where
   -- the participant's home of an item that it releases or clones is out as the last lease, and in front of what is out with the seat, with all parts of the lease
@@ -287,6 +303,17 @@ first_in d = record spent { kind = 3; hand = take 1 d.hand }
 abbrev pub joined_by : Acting → Acting → Acting
 joined_by d e = record d { hand = e.hand ++ d.hand }
 
+-- the view without its private bag; the view of a seat that has it
+abbrev pub without_bag : Acting → Acting
+without_bag d = record d { collected = [] }
+
+abbrev pub bag_alone : Acting → Acting
+bag_alone d = gathering d.collected
+
+-- the private bag of another seat comes in place of one
+abbrev pub with_bag : Acting → Acting → Acting
+with_bag d e = record d { collected = e.collected }
+
 -- the slot of the owner is the one that was filled last, and it is in hand
 abbrev pub owning : Owner → Acting → Acting
 owning o d = record d { slot = o.slot; hand = o ∷ [] }
@@ -312,9 +339,21 @@ taking_over w ws d = record d { left = ws; waits = record w { age = 0 } ∷ d.wa
 abbrev pub take_over_then : {S : Type 0} → Step S → Me S Acting → ℕ → Me S Acting → Type 0
 take_over_then t m n m' = (w : Garbage) (ws : List Garbage) → m.0.left ≡ ws ++ w ∷ [] → m' ≡ (taking_over w ws m.0, m.1)
 
+-- the item w, which is in a private bag, is retired by the participant now, with age 0; the others are in it still
+abbrev pub handing_over : Garbage → List Garbage → Acting → Acting
+handing_over w ws d = record d { collected = ws; waits = record w { age = 0 } ∷ d.waits }
+
+-- what is in the private bag the longest is retired, for which there is room
+abbrev pub hand_over_then : {S : Type 0} → Step S → Me S Acting → ℕ → Me S Acting → Type 0
+hand_over_then t m n m' = (w : Garbage) (ws : List Garbage) → m.0.collected ≡ ws ++ w ∷ [] → (length m.0.waits < m.0.sizes.slots) × (m' ≡ (handing_over w ws m.0, m.1))
+
 -- the item w is being reclaimed, and has given up the owners hs; the others still wait
 abbrev pub reclaiming : Garbage → List Owner → List Garbage → Acting → Acting
 reclaiming w hs ws d = record d { hand = hs ++ d.hand; slot = w.slot; filling = Some (record { by = d.number; filled = d.sizes.participants; round = w.round; left = 0; out = d.sizes.participants }); waits = ws }
+
+-- the same of an item of a private bag
+abbrev pub reclaiming_noted : Garbage → List Owner → List Garbage → Acting → Acting
+reclaiming_noted w hs ws d = record d { hand = hs ++ d.hand; slot = w.slot; filling = Some (record { by = d.number; filled = d.sizes.participants; round = w.round; left = 0; out = d.sizes.participants }); collected = ws }
 
 -- the last filled home is out, with a parts
 abbrev pub gathered : ℕ → Filling → Filling
@@ -328,6 +367,10 @@ module _ {S : Type 0} (IsIn : Content → S → Type 0) where
   -- what has waited longest is reclaimed: its deed comes out, and the owners that it held are in hand
   abbrev pub opens_then : Step S → Me S Acting → ℕ → Me S Acting → Type 0
   opens_then t m n m' = (w : Garbage) (ws : List Garbage) → m.0.waits ≡ ws ++ w ∷ [] → (w.slot < m.0.sizes.slots) × ((hs : List Owner) × (u : S) × IsIn (deed w.round hs) u × (m' ≡ (reclaiming w hs ws m.0, (deed_home m.0 w.slot, u) ∷ m.1)))
+
+  -- the same of what is in a private bag the longest
+  abbrev pub opens_noted_then : Step S → Me S Acting → ℕ → Me S Acting → Type 0
+  opens_noted_then t m n m' = (w : Garbage) (ws : List Garbage) → m.0.collected ≡ ws ++ w ∷ [] → (w.slot < m.0.sizes.slots) × ((hs : List Owner) × (u : S) × IsIn (deed w.round hs) u × (m' ≡ (reclaiming_noted w hs ws m.0, (deed_home m.0 w.slot, u) ∷ m.1)))
 
   -- the last home that has parts comes out; with the first one all parts are in hand
   abbrev pub gathers_then : Step S → Me S Acting → ℕ → Me S Acting → Type 0

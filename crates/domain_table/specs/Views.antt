@@ -1,5 +1,5 @@
 -- what a seat at the table of a shared place knows
-use Rattle.std.specs.Prelude.{◌≡◌, ◌==◌, ◌+◌, ℕ, cond, map, List, None, [], ◌∷◌, ◌++◌}
+use Rattle.std.specs.Prelude.{◌≡◌, ◌==◌, ◌+◌, ℕ, cond, map, List, None, Some, [], ◌∷◌, ◌++◌}
 use Rattle.sdd_steps.specs.declared.participant.Phase.TheVariants.{Idle, HasRead, Opened}
 use Rattle.sdd_steps.specs.declared.participant.Participant.{Participant}
 use Rattle.sdd_steps.specs.State.{newcomer}
@@ -10,11 +10,15 @@ use Rattle.domain_table.specs.declared.board.Acting.{Acting}
 
 -- nothing: the view of a seat that acts for nobody
 abbrev pub spent : Acting
-spent = record { kind = 0; number = 0; scan = 0; born = 0; known = newcomer; sizes = record { participants = 0; slots = 0; cells = 0; jobs = 0 }; spare = 0; hand = []; leases = []; releasing = 0; slot = 0; filling = None; waits = []; left = [] }
+spent = record { kind = 0; number = 0; scan = 0; born = 0; known = newcomer; sizes = record { participants = 0; slots = 0; cells = 0; jobs = 0 }; spare = 0; hand = []; leases = []; releasing = 0; slot = 0; filling = None; waits = []; left = []; collected = [] }
 
 -- the view of a seat that has the owner o, and acts for nobody
 abbrev pub holding : Owner → Acting
 holding o = record spent { kind = 3; hand = o ∷ [] }
+
+-- the view of a seat that has a private bag with these items, and acts for nobody
+abbrev pub gathering : List Garbage → Acting
+gathering ws = record spent { collected = ws }
 
 -- the view of a seat that has just come to act for the participant p, which has the spare slot y and left these items when it ended
 abbrev pub registered : Sizes → ℕ → List Garbage → ℕ → Acting
@@ -30,6 +34,9 @@ rested found = record newcomer { found = found }
 
 abbrev pub reading : ℕ → Participant → Participant
 reading n x = record x { phase = HasRead n }
+
+abbrev pub rereading : ℕ → Participant → Participant
+rereading n x = record x { reread = Some n }
 
 -- what a participant has retired is older by one
 abbrev pub older_waits : List Garbage → List Garbage

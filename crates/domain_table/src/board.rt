@@ -36,6 +36,8 @@ pub struct Acting {
     pub waits: Seq<Garbage>,
     /// What was left when the participant ended before, and isn't taken over yet.
     pub left: Seq<Garbage>,
+    /// What is in a private bag that is at this seat.
+    pub collected: Seq<Garbage>,
 }
 
 /// An item as it lies in its box, which stays with its slot and is empty while the slot is free.

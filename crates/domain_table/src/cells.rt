@@ -11,9 +11,10 @@ ghost use Rattle.domain_table.specs.Leases.{HasFew, ReleasesOne};
 ghost use Rattle.domain_table.specs.Fitting.{FitsSlot, FitsCell, HasSlotWord};
 ghost use Rattle.domain_table.specs.Contents.{IsIn};
 ghost use Rattle.domain_table.specs.Layout.{claim_word, all_words, IsSized, AreAlike};
-ghost use Rattle.domain_table.specs.Plays.{Scans, load_then, HasLoaded, load_own_then, HasLeasedAt, CanClose, ending, end_all_then, Brings, swap_then, cloning, IsAlike, clone_then, release_then, HasBegun, begin_then, CanEnd, end_release_then, CanKeep, keep_then, exchange_then, still_then};
+ghost use Rattle.domain_table.specs.Plays.{Scans, load_then, HasLoaded, load_own_then, HasLeasedAt, CanClose, ending, end_all_then, Brings, swap_then, cloning, IsAlike, clone_then, MayNote, HasRoom, release_then, HasBegun, begin_then, CanEnd, end_release_then, CanKeep, keep_then, exchange_then, still_then};
 ghost use Rattle.domain_table.specs.declared.board.Home.{Home};
 
+use crate::aim::Aim;
 use crate::board::{Acting, Home, Place, Words};
 use crate::holding::Holding;
 use crate::tags::tag_in;
@@ -64,10 +65,10 @@ impl<T> Play<Home<T>, Acting> for OnClone {
     ghost then = { clone_then };
 }
 
-struct OnRelease;
+struct OnRelease<A>(PhantomData<A>);
 
-impl<T> Play<Home<T>, Acting> for OnRelease {
-    ghost then = { release_then };
+impl<T, A: Aim> Play<Home<T>, Acting> for OnRelease<A> {
+    ghost then = { release_then A.to };
 }
 
 struct OnBegin<H>(PhantomData<H>);
@@ -82,10 +83,17 @@ impl<T, H: Holding<T>> Play<Home<T>, Acting> for OnKeep<H> {
     ghost then = { keep_then (IsIn H.holds) };
 }
 
-struct OnEndRelease<H>(PhantomData<H>);
+struct OnEndRelease<H, A>(PhantomData<(H, A)>);
 
-impl<T, H: Holding<T>> Play<Home<T>, Acting> for OnEndRelease<H> {
-    ghost then = { end_release_then (IsIn H.holds) };
+impl<T, H: Holding<T>, A: Aim> Play<Home<T>, Acting> for OnEndRelease<H, A> {
+    ghost then = { end_release_then (IsIn H.holds) A.to };
+}
+
+/// The word of a cell.
+pub fn word_of<T, H: Holding<T>>(words: &Words<T, H>, sizes: &Sizes, cell: usize) -> u64
+    requires { (words.now.key.sizes ≡ sizes.now) × IsSized sizes.now × (cell < sizes.now.cells) × (all_words sizes.now ≤ words.now.table_id.words) }
+{
+    words.peek(8 * sizes.participants + 16 + cell)
 }
 
 /// Whether the cell names no item.
@@ -236,9 +244,9 @@ pub(crate) fn keep_home<T, H: Holding<T>>(words: &Words<T, H>, place: &mut Place
 }
 
 /// Releases the owner that is first in hand, of the item that is leased in `slot`, for `participants` and `cells` of
-/// them: its part is joined to the lease. Answers how many owners are left; with the last one the participant has
-/// retired the item, in the same step.
-pub(crate) fn release_owner<T, H: Holding<T>>(
+/// them: its part is joined to the lease. Answers how many owners are left; with the last one the item goes where `A`
+/// tells, in the same step.
+pub(crate) fn release_owner<T, H: Holding<T>, A: Aim>(
     words: &Words<T, H>,
     place: &mut Place<T>,
     participants: usize,
@@ -247,19 +255,20 @@ pub(crate) fn release_owner<T, H: Holding<T>>(
 ) -> u64
     requires table { HasSlotWord words.now.table_id words.now.key.sizes place.old.table_id participants cells slot }
     requires ready { (place.old.me.0.kind ≡ 1) × (is_ready place.old.me.0.known ≡ true) × (place.old.me.0.releasing ≡ 0) }
+    requires may { MayNote (A.to place.old.me.0.known) place.old.me.0.known }
     requires owner { (l : Lease) × (o : Owner) × (os : List Owner) × Has place.old.me.0.leases l × (l.slot ≡ slot) × (o.slot ≡ l.slot) × (place.old.me.0.hand ≡ o ∷ os) }
     ensures seat { (place.new.table_id ≡ place.old.table_id) × (place.new.id ≡ place.old.id) }
     ensures few { HasFew place.old.me.0 }
-    ensures released { ReleasesOne place.old.me (result + 3) place.new.me }
+    ensures released { ReleasesOne A.to place.old.me (result + 3) place.new.me }
 {
-    words.fetch_sub::<OnRelease>(place, 8 * participants + 16 + cells + slot, 1) - 3
+    words.fetch_sub::<OnRelease<A>>(place, 8 * participants + 16 + cells + slot, 1) - 3
 }
 
 /// Ends the release that `begin_release` began, of the owner that is first in hand and whose item is in `slot`, for
 /// `participants` and `cells` of them: the participant's home of the item is in front of what is out with the seat, the
 /// owner's part joined to its parts, and goes back in the same step. Answers how many owners are left; with the last one
-/// the participant has retired the item, in that step too.
-pub(crate) fn end_release<T, H: Holding<T>>(
+/// the item goes where `A` tells, in that step too.
+pub(crate) fn end_release<T, H: Holding<T>, A: Aim>(
     words: &Words<T, H>,
     place: &mut Place<T>,
     participants: usize,
@@ -268,12 +277,13 @@ pub(crate) fn end_release<T, H: Holding<T>>(
 ) -> u64
     requires table { HasSlotWord words.now.table_id words.now.key.sizes place.old.table_id participants cells slot }
     requires ready { (place.old.me.0.kind ≡ 1) × (is_ready place.old.me.0.known ≡ true) }
+    requires may { MayNote (A.to place.old.me.0.known) place.old.me.0.known }
     requires begun { (l : Lease) × (ls : List Lease) × (o : Owner) × (os : List Owner) × (tail : List (ℕ × Home T)) × (l.slot ≡ slot) × CanEnd (IsIn H.holds) place.old.me l ls o os tail }
     ensures seat { (place.new.table_id ≡ place.old.table_id) × (place.new.id ≡ place.old.id) }
-    ensures room { length place.old.me.0.waits < place.old.me.0.sizes.slots }
-    ensures ended { EndsRelease (IsIn H.holds) place.old.me (result + 3) place.new.me }
+    ensures room { HasRoom place.old.me.0 }
+    ensures ended { EndsRelease (IsIn H.holds) A.to place.old.me (result + 3) place.new.me }
 {
-    words.fetch_sub::<OnEndRelease<H>>(place, 8 * participants + 16 + cells + slot, 1) - 3
+    words.fetch_sub::<OnEndRelease<H, A>>(place, 8 * participants + 16 + cells + slot, 1) - 3
 }
 
 /// Closes the guard of participant `number`. All that was leased goes home in the same step: its slots are in front

@@ -1,6 +1,6 @@
 //! What lies in the slots of a place when it is made, and when it is closed.
 
-ghost use Rattle.std.specs.Prelude.{◌≡◌, ℕ, ◌+◌, ◌*◌, ◌<◌, ◌≤◌, ◌++◌, ◌∷◌, List, [], replicate, length, map, vec_len, vec_capacity, IsSome, IsSomeAnd, IfOk, OnOk};
+ghost use Rattle.std.specs.Prelude.{◌≡◌, ℕ, ◌+◌, ◌*◌, ◌^◌, ◌<◌, ◌≤◌, ◌++◌, ◌∷◌, List, [], replicate, length, map, vec_len, vec_capacity, IsSome, IsSomeAnd, IfOk, OnOk};
 ghost use Rattle.std.specs.Mem.{manually_drop_value};
 ghost use Rattle.core.specs.Mem.Slots.{IsFull};
 ghost use Rattle.sdd_homes.specs.declared.Garbage.{Garbage};
@@ -19,6 +19,14 @@ use parted::{Deed, Part};
 use sdd_base::sizes::Sizes;
 use std::alloc::{AllocError, Global};
 use std::mem::ManuallyDrop;
+
+/// Where a spare slot lies.
+pub fn spare_at(sizes: &Sizes, spare: u64) -> usize
+    requires { (sizes.now.slots ≤ 2 ^ 30) × (sizes.now.participants ≤ 2 ^ 30) × (spare < 2 ^ 31) }
+    ensures { result ≡ sizes.now.slots * (sizes.now.participants + 1) + spare }
+{
+    sizes.slots * (sizes.participants + 1) + spare as usize
+}
 
 /// Lets go of what lies in a slot: an item whose parts lie there, or its deed, isn't dropped.
 pub fn let_go<T>(home: Home<T>) {
@@ -74,7 +82,7 @@ pub fn parts_of<T, H: Holding<T>>(home: Home<T>) -> (Part<Stored<T>>, u64)
 }
 
 /// The slots that are in a bag.
-pub(crate) fn slots_left<T, H: Holding<T>>(home: Home<T>) -> Vec<usize>
+pub fn slots_left<T, H: Holding<T>>(home: Home<T>) -> Vec<usize>
     requires { (n : ℕ) × (ws : List Garbage) × IsIn H.holds (bag n ws) home }
     ensures { (n : ℕ) (ws : List Garbage) → IsIn H.holds (bag n ws) home → (result.items ≡ garbage_slots ws) × (n ≤ vec_capacity result) × (length ws ≤ n) }
 {

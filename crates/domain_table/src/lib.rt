@@ -3,18 +3,19 @@
 //!
 //! A [`Board`](board::Board) has the words and slots. Each step of [`steps`], [`slots`] and [`cells`] is one operation on one
 //! word, proved to keep the rule, and tells what the seat that took it knows then. Over them [`owners`], [`leases`],
-//! [`loading`], [`placing`], [`left`] and [`scan`] move the parts of items between their homes, their owners and what a
+//! [`loading`], [`placing`] and [`scan`] move the parts of items between their homes, their owners and what a
 //! participant has leased. What items hold is a parameter, which their [`Holding`](holding::Holding) tells the rule.
 #![tactic(auto)]
 
+pub mod aim;
 pub mod bags;
 pub mod board;
 pub mod cells;
+pub mod first_words;
 pub mod holding;
 pub mod homes;
 pub mod leases;
 pub mod ledger;
-pub mod left;
 pub mod lives;
 pub mod loading;
 pub mod owners;

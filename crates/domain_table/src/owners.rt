@@ -13,9 +13,10 @@ ghost use Rattle.domain_table.specs.Fitting.{FitsSizes};
 ghost use Rattle.domain_table.specs.Leases.{row_told, lease_told, row_slots, all_below, IsFirst, HasReleased, HasEmptied, HasClonedOne, HasOwned};
 ghost use Rattle.domain_table.specs.declared.row.Row.{Row};
 ghost use Rattle.domain_table.specs.Views.{spent, holding};
-ghost use Rattle.domain_table.specs.Plays.{others_in, first_in, joined_by, cloning, IsAlike};
+ghost use Rattle.domain_table.specs.Plays.{others_in, first_in, joined_by, cloning, IsAlike, MayNote};
 ghost use Rattle.domain_table.specs.declared.board.Home.{Home};
 
+use crate::aim::Aim;
 use crate::board::{Acting, Home, Place, Stored, Words};
 use crate::cells;
 use crate::holding::Holding;
@@ -71,8 +72,8 @@ pub fn take_in<T, H: Holding<T>>(words: &Words<T, H>, place: &mut Place<T>, owne
 }
 
 /// Releases the owner that is in hand, whose item is in `slot` and isn't leased: its part is joined to those of
-/// participant `number`. Answers how many owners are left; with the last one the participant has retired the item.
-pub fn release_home<T, H: Holding<T>>(
+/// participant `number`. Answers how many owners are left; with the last one the item goes where `A` tells.
+pub fn release_home<T, H: Holding<T>, A: Aim>(
     words: &Words<T, H>,
     place: &mut Place<T>,
     sizes: &Sizes,
@@ -82,22 +83,24 @@ pub fn release_home<T, H: Holding<T>>(
 ) -> u64
     requires table { FitsSizes words.now.table_id words.now.key.sizes place.old.table_id place.old.me.0.sizes sizes.now × (number < sizes.now.participants) }
     requires ready { (place.old.me.0.kind ≡ 1) × (place.old.me.0.number ≡ number) × (is_ready place.old.me.0.known ≡ true) × (place.old.me.0.releasing ≡ 0) }
+    requires may { MayNote (A.to place.old.me.0.known) place.old.me.0.known }
     requires owner { IsFirst place.old.me.0 slot owner.part.life.id × IsSome owner.part.seen.value }
     requires free { ¬ Lends place.old.me.0.leases slot }
     ensures seat { (place.new.table_id ≡ place.old.table_id) × (place.new.id ≡ place.old.id) }
     ensures room { length place.old.me.0.waits < sizes.now.slots }
-    ensures released { HasReleased slot result place.old.me place.old.me.0.leases place.new.me }
+    ensures bag_room { length place.old.me.0.collected < sizes.now.slots }
+    ensures released { HasReleased A.to slot result place.old.me place.old.me.0.leases place.new.me }
 {
     cells::begin_release(words, place);
     let home = number * sizes.slots + slot;
     let (mut own, count) = parts_of::<T, H>(words.exchange(place, home, Home::Blank));
     own.join(owner.into_part());
     let_go(words.exchange(place, home, Home::Part(own, count + 1)));
-    cells::end_release(words, place, sizes.participants, sizes.cells, slot)
+    cells::end_release::<T, H, A>(words, place, sizes.participants, sizes.cells, slot)
 }
 
 /// The same where the item is leased: the owner's part goes to those of its row, which is `at`.
-fn release_leased<T, H: Holding<T>>(
+fn release_leased<T, H: Holding<T>, A: Aim>(
     words: &Words<T, H>,
     place: &mut Place<T>,
     sizes: &Sizes,
@@ -108,16 +111,18 @@ fn release_leased<T, H: Holding<T>>(
 ) -> u64
     requires table { FitsSizes words.now.table_id words.now.key.sizes place.old.table_id place.old.me.0.sizes sizes.now }
     requires ready { (place.old.me.0.kind ≡ 1) × (is_ready place.old.me.0.known ≡ true) × (place.old.me.0.releasing ≡ 0) }
+    requires may { MayNote (A.to place.old.me.0.known) place.old.me.0.known }
     requires owner { IsFirst place.old.me.0 slot owner.part.life.id × IsSome owner.part.seen.value }
     requires rows { ((life : ℕ) × (map row_told rows.old.items ≡ map (lease_told life) place.old.me.0.leases)) × (all_below sizes.now.slots (row_slots rows.old.items) ≡ true) }
     requires row { (at < deque_len rows.old) × ((d : Row T) → (slice_index_or rows.old.items at d).slot ≡ slot) }
     ensures seat { (place.new.table_id ≡ place.old.table_id) × (place.new.id ≡ place.old.id) }
     ensures room { length place.old.me.0.waits < sizes.now.slots }
-    ensures released { (ls : List Lease) × (map (λ (l : Lease). l.slot) ls ≡ map (λ (l : Lease). l.slot) place.old.me.0.leases) × HasReleased slot result place.old.me ls place.new.me }
+    ensures bag_room { length place.old.me.0.collected < sizes.now.slots }
+    ensures released { (ls : List Lease) × (map (λ (l : Lease). l.slot) ls ≡ map (λ (l : Lease). l.slot) place.old.me.0.leases) × HasReleased A.to slot result place.old.me ls place.new.me }
     ensures rows { (life : ℕ) → map row_told rows.old.items ≡ map (lease_told life) place.old.me.0.leases → map row_told rows.new.items ≡ map (lease_told life) place.new.me.0.leases }
     ensures same { (deque_capacity rows.new ≡ deque_capacity rows.old) × (row_slots rows.new.items ≡ row_slots rows.old.items) }
 {
-    let left = cells::release_owner(words, place, sizes.participants, sizes.cells, slot);
+    let left = cells::release_owner::<T, H, A>(words, place, sizes.participants, sizes.cells, slot);
     match rows.get_mut(at) {
         Some(row) => row.take_in(owner),
         None => unreachable!(),
@@ -126,8 +131,8 @@ fn release_leased<T, H: Holding<T>>(
 }
 
 /// Releases the owner that is in hand, whose item is in `slot`: its part is joined to those of participant `number`.
-/// Answers how many owners are left; with the last one the participant has retired the item.
-pub fn release<T, H: Holding<T>>(
+/// Answers how many owners are left; with the last one the item goes where `A` tells.
+pub fn release<T, H: Holding<T>, A: Aim>(
     words: &Words<T, H>,
     place: &mut Place<T>,
     sizes: &Sizes,
@@ -138,17 +143,19 @@ pub fn release<T, H: Holding<T>>(
 ) -> u64
     requires table { FitsSizes words.now.table_id words.now.key.sizes place.old.table_id place.old.me.0.sizes sizes.now × (number < sizes.now.participants) }
     requires ready { (place.old.me.0.kind ≡ 1) × (place.old.me.0.number ≡ number) × (is_ready place.old.me.0.known ≡ true) × (place.old.me.0.releasing ≡ 0) }
+    requires may { MayNote (A.to place.old.me.0.known) place.old.me.0.known }
     requires owner { IsFirst place.old.me.0 slot owner.part.life.id × IsSome owner.part.seen.value }
     requires rows { ((life : ℕ) × (map row_told rows.old.items ≡ map (lease_told life) place.old.me.0.leases)) × (all_below sizes.now.slots (row_slots rows.old.items) ≡ true) }
     ensures seat { (place.new.table_id ≡ place.old.table_id) × (place.new.id ≡ place.old.id) }
     ensures room { length place.old.me.0.waits < sizes.now.slots }
-    ensures released { (ls : List Lease) × (map (λ (l : Lease). l.slot) ls ≡ map (λ (l : Lease). l.slot) place.old.me.0.leases) × HasReleased slot result place.old.me ls place.new.me }
+    ensures bag_room { length place.old.me.0.collected < sizes.now.slots }
+    ensures released { (ls : List Lease) × (map (λ (l : Lease). l.slot) ls ≡ map (λ (l : Lease). l.slot) place.old.me.0.leases) × HasReleased A.to slot result place.old.me ls place.new.me }
     ensures rows { (life : ℕ) → map row_told rows.old.items ≡ map (lease_told life) place.old.me.0.leases → map row_told rows.new.items ≡ map (lease_told life) place.new.me.0.leases }
     ensures same { (deque_capacity rows.new ≡ deque_capacity rows.old) × (row_slots rows.new.items ≡ row_slots rows.old.items) }
 {
     match row_of(rows, slot) {
-        Some(at) => release_leased(words, place, sizes, rows, at, slot, owner),
-        None => release_home(words, place, sizes, number, slot, owner),
+        Some(at) => release_leased::<T, H, A>(words, place, sizes, rows, at, slot, owner),
+        None => release_home::<T, H, A>(words, place, sizes, number, slot, owner),
     }
 }
 

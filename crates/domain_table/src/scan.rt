@@ -1,6 +1,7 @@
 //! A scan: whether the count may be raised, and its raise.
 
-ghost use Rattle.std.specs.Prelude.{◌≡◌, ◌≢◌, ℕ, ◌-◌, ◌^◌, ◌<◌, IsTrue};
+ghost use Rattle.std.specs.Prelude.{◌≡◌, ◌≢◌, ℕ, ◌-◌, ◌^◌, ◌<◌, IsTrue, cond};
+ghost use Rattle.sdd_base.specs.Steps.{closings_after, scans};
 ghost use Rattle.sdd_steps.specs.State.{Has};
 ghost use Rattle.domain_table.specs.Fitting.{HasEpochs};
 ghost use Rattle.domain_table.specs.Plays.{Steady, Scans};
@@ -8,6 +9,7 @@ ghost use Rattle.domain_table.specs.Plays.{Steady, Scans};
 use crate::board::{Place, Words};
 use crate::holding::Holding;
 use crate::steps::{give_lock, is_present, look, raise, take_lock};
+use sdd_base::status::LocalState;
 
 /// Whether each other participant is closed or has published the count `epoch`. It stops at the first that isn't.
 fn all_agree<T, H: Holding<T>>(
@@ -35,7 +37,7 @@ fn all_agree<T, H: Holding<T>>(
 /// raises the count by one only where that is the present one, and each other participant is closed or has published
 /// it. A count of `2^64 - 1` isn't raised.
 #[inline(never)]
-pub fn scan<T, H: Holding<T>>(
+fn scan<T, H: Holding<T>>(
     words: &Words<T, H>,
     place: &mut Place<T>,
     number: usize,
@@ -55,4 +57,40 @@ pub fn scan<T, H: Holding<T>>(
         raise(words, place, number, epoch);
     }
     give_lock(words, place, number, epoch);
+}
+
+/// Whether this outermost closing scans, where `closings` counts it.
+fn scans(own: &LocalState, closings: u8) -> bool
+    ensures { closings ≡ closings_after own.now → result ≡ scans own.now }
+{
+    own.accelerated || own.garbage && closings >= 64
+}
+
+/// Counts an outermost closing, and scans if one is due.
+#[inline(always)]
+pub fn scan_due<T, H: Holding<T>>(
+    words: &Words<T, H>,
+    place: &mut Place<T>,
+    number: usize,
+    participants: usize,
+    own: &mut LocalState,
+)
+    requires table { HasEpochs words.now.table_id words.now.key.sizes place.old.table_id participants }
+    requires open { Scans place.old number own.old.previous 0 }
+    ensures seat { (place.new.table_id ≡ place.old.table_id) × (place.new.id ≡ place.old.id) × Steady place.old.me place.new.me }
+    ensures open { Scans place.new number own.old.previous 0 }
+    ensures counted { own.new ≡ record own.old { closings = cond (scans own.old) 0 (closings_after own.old) } }
+{
+    let closings = if own.closings < 64 {
+        own.closings + 1
+    } else {
+        64
+    };
+    if scans(own, closings) {
+        let epoch = own.previous;
+        scan(words, place, number, participants, epoch);
+        own.closings = 0;
+    } else {
+        own.closings = closings;
+    }
 }

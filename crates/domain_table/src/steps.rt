@@ -10,7 +10,7 @@ ghost use Rattle.domain_table.specs.Fitting.{HasEpochOf, HasClaimOf};
 ghost use Rattle.domain_table.specs.Contents.{IsIn, Announces};
 ghost use Rattle.domain_table.specs.Outcomes.{HasPublished};
 ghost use Rattle.domain_table.specs.Views.{IsBare, spent, reading, rotated, looking};
-ghost use Rattle.domain_table.specs.Layout.{lock_word, claim_word, epoch_words, shown};
+ghost use Rattle.domain_table.specs.Layout.{lock_word, claim_word, epoch_words, all_words, IsSized, shown};
 ghost use Rattle.domain_table.specs.Plays.{read_then, publish_then, count_then, look_then, agree_then, raise_then, lock_then, unlock_then, sit_then, HasRegistered, CanLeave, claim_then, learn_then, taking_over, take_over_then, end_then, Steady, Scans};
 ghost use Rattle.domain_table.specs.declared.board.Home.{Home};
 
@@ -164,15 +164,27 @@ pub fn learn<T, H: Holding<T>>(words: &Words<T, H>, place: &mut Place<T>, sizes:
 }
 
 /// Whether somebody acts for participant `number`.
-pub fn is_claimed<T, H: Holding<T>>(words: &Words<T, H>, number: usize) -> bool
+fn is_claimed<T, H: Holding<T>>(words: &Words<T, H>, number: usize) -> bool
     requires { (number < words.now.key.sizes.participants) × (epoch_words words.now.key.sizes.participants ≤ words.now.table_id.words) × (words.now.key.sizes.participants ≤ 2 ^ 30) }
 {
     words.peek(STRIDE * number + CLAIM) == 0
 }
 
+/// Whether somebody acts for any participant.
+pub fn any_claimed<T, H: Holding<T>>(words: &Words<T, H>, sizes: &Sizes) -> bool
+    requires { (words.now.key.sizes ≡ sizes.now) × IsSized sizes.now × (all_words sizes.now ≤ words.now.table_id.words) }
+{
+    for number in 0..sizes.participants {
+        if is_claimed(words, number) {
+            return true;
+        }
+    }
+    false
+}
+
 /// Takes over the last of the items that were left where the participant ended before: the participant has retired it,
 /// and hasn't rotated since. The bag that is out stays as it is. No word changes.
-pub(crate) fn take_over<T, H: Holding<T>>(words: &Words<T, H>, place: &mut Place<T>)
+pub fn take_over<T, H: Holding<T>>(words: &Words<T, H>, place: &mut Place<T>)
     requires table { (place.old.table_id ≡ words.now.table_id) × (1 < words.now.table_id.words) }
     requires ready { (place.old.me.0.kind ≡ 1) × (is_ready place.old.me.0.known ≡ true) }
     requires left { (w : Garbage) × (ws : List Garbage) × (place.old.me.0.left ≡ ws ++ w ∷ []) }

@@ -1,6 +1,6 @@
 //! The tag in the word of a cell.
 
-ghost use Rattle.std.specs.Prelude.{◌≡◌, ℕ, ◌+◌, ◌*◌, ◌^◌, ◌<◌};
+ghost use Rattle.std.specs.Prelude.{◌≡◌, ℕ, ◌+◌, ◌*◌, ◌^◌, ◌<◌, ◌↔◌, IsTrue};
 ghost use Rattle.sdd_base.specs.Epochs.{tag_number};
 ghost use Rattle.domain_table.specs.Layout.{packed, AreAlike};
 
@@ -61,4 +61,11 @@ pub fn tag_in(word: u64) -> Tag
     ensures { (y t c : ℕ) → y < 2 ^ 31 → t < 4 → word ≡ packed y t c → tag_number result ≡ t }
 {
     tag_of(number_in(word))
+}
+
+/// Whether a cell's word has this tag.
+pub fn has_tag(word: u64, tag: Tag) -> bool
+    ensures { (y t c : ℕ) → y < 2 ^ 31 → t < 4 → word ≡ packed y t c → (IsTrue result ↔ t ≡ tag_number tag) }
+{
+    number_in(word) == number_of(tag)
 }

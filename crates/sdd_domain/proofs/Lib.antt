@@ -3,3 +3,4 @@ pub mod Missed
 pub mod Handed
 pub mod Bagged
 pub mod Hands
+pub mod Collected

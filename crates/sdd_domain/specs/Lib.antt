@@ -7,3 +7,4 @@ pub mod Pointers
 pub mod Comparing
 pub mod Laws
 pub mod formers
+pub mod Collecting

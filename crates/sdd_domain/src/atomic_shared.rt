@@ -3,7 +3,7 @@
 ghost use Rattle.std.specs.Prelude.{◌≡◌, ◌<◌, ◌+◌, ◌||◌, Bool, true, [], IsTrue, IfSome, IfNone, IfOk, IfErr, OnOk, OnErr};
 ghost use Rattle.sdd_domain.specs.Tokens.{cell_count};
 
-use crate::comparing::{named_by, names, try_exchange, try_tag, word_of};
+use crate::comparing::{named_by, names, try_exchange, try_tag};
 use crate::domain::Domain;
 use crate::guard::Guard;
 use crate::holds::Holds;
@@ -11,7 +11,7 @@ use crate::local::Local;
 use crate::pointer::{Loaded, Named, Ptr};
 use crate::shared::Shared;
 use crate::swapping::swap_owner;
-use domain_table::cells::{is_null, tag};
+use domain_table::cells::{is_null, tag, word_of};
 use sdd_base::tag::Tag;
 use std::sync::atomic::Ordering;
 use tally::Tally;

@@ -28,37 +28,17 @@ use domain_table::cells;
 use domain_table::leases::seen_at;
 use domain_table::loading::{note_found, slot_named};
 use domain_table::row::Row;
-use domain_table::tags::{number_in, number_of, tag_in, with_tag};
+use domain_table::tags::{has_tag, tag_in, with_tag};
 use parted::Life;
 use sdd_base::sizes::Sizes;
 use sdd_base::tag::Tag;
 use std::collections::VecDeque;
 
-/// The word of a cell.
-pub(crate) fn word_of<T: Holds>(words: &Words<T>, sizes: &Sizes, cell: usize) -> u64
-    requires { (words.now.key.sizes ≡ sizes.now) × IsSized sizes.now × (cell < sizes.now.cells) × (all_words sizes.now ≤ words.now.table_id.words) }
-{
-    words.peek(8 * sizes.participants + 16 + cell)
-}
-
 /// Whether a cell's word names the item in this slot, or nothing where that is none.
 fn names_slot(word: u64, slot: Option<usize>) -> bool
     ensures { (y t c : ℕ) → y < 2 ^ 31 → t < 4 → word ≡ packed y t c → (IsTrue result ↔ c ≡ code_of slot) }
 {
-    match slot_named(word) {
-        Some(found) => match slot {
-            Some(slot) => found == slot,
-            None => false,
-        },
-        None => slot.is_none(),
-    }
-}
-
-/// Whether a cell's word has this tag.
-fn has_tag(word: u64, tag: Tag) -> bool
-    ensures { (y t c : ℕ) → y < 2 ^ 31 → t < 4 → word ≡ packed y t c → (IsTrue result ↔ t ≡ tag_number tag) }
-{
-    number_in(word) == number_of(tag)
+    slot_named(word) == slot
 }
 
 /// Whether a cell's word names the item that the pointer is to, or nothing where that is to nothing, and has its tag.

@@ -3,7 +3,6 @@
 ghost use Rattle.std.specs.Prelude.{◌≡◌, ◌+◌, ◌*◌, ◌^◌, ◌<◌, ◌≤◌, [], ◌++◌, replicate, vec_len, IfOk, OnOk, IfErr};
 ghost use Rattle.sdd_base.specs.State.{no_local};
 ghost use Rattle.domain_table.specs.Layout.{all_words, IsSized};
-ghost use Rattle.domain_table.specs.Rule.{numbers, first_eights, first_words};
 
 use crate::board::{Board, Told, Words};
 use crate::guard::Guard;
@@ -12,10 +11,11 @@ use crate::local::Local;
 use crate::refusal::RegisterRefused;
 use atomic_table::Refused;
 use domain_table::board::Plan;
+use domain_table::first_words::{free_cells, words_from};
 use domain_table::homes::{clear, empty, homes_from};
 use domain_table::ledger::Ledger;
-use domain_table::slots::{has_owner, is_used};
-use domain_table::steps::{claim, is_claimed, learn, sit};
+use domain_table::slots::{any_owned, is_used};
+use domain_table::steps::{any_claimed, claim, learn, sit};
 use sdd_base::sizes::Sizes;
 use std::alloc::{AllocError, Global};
 use std::sync::atomic::AtomicBool;
@@ -24,71 +24,11 @@ use std::sync::atomic::AtomicBool;
 pub struct Domain<T: Holds> {
     pub(crate) table: Board<T>,
     pub(crate) sizes: Sizes,
-    heap: Global,
+    pub(crate) heap: Global,
     /// Which cells somebody has.
     pub(crate) taken: Vec<AtomicBool>,
     ghost cells: { vec_len taken ≡ sizes.cells },
     ghost sized: { (sizes ≡ table.shared.key.sizes) × IsSized sizes × (all_words sizes ≤ table.shared.table_id.words) },
-}
-
-/// So many words 0 behind these.
-fn push_zeros(words: &mut Vec<u64>, count: usize) -> Result<(), AllocError>
-    ensures { OnOk result (words.new.items ≡ words.old.items ++ replicate count 0) }
-{
-    for _i in 0..count {
-        words.push(0)?;
-    }
-    Ok(())
-}
-
-/// The numbers below this one behind these.
-fn push_numbers(words: &mut Vec<u64>, count: usize) -> Result<(), AllocError>
-    ensures { OnOk result (words.new.items ≡ words.old.items ++ numbers count) }
-{
-    for number in 0..count {
-        words.push(number as u64)?;
-    }
-    Ok(())
-}
-
-/// The words of `count` participants behind these, for so many cells: each is closed, and nobody acts for it. Its spare
-/// slot is behind those of the cells and of the participants before it.
-fn push_participants(words: &mut Vec<u64>, cells: usize, count: usize) -> Result<(), AllocError>
-    requires { (cells ≤ 2 ^ 30) × (count ≤ 2 ^ 30) }
-    ensures { OnOk result (words.new.items ≡ words.old.items ++ first_eights cells count) }
-{
-    for number in 0..count {
-        words.push(0)?;
-        words.push((cells + number + 1) as u64)?;
-        push_zeros(words, 6)?;
-    }
-    Ok(())
-}
-
-/// The words of a new place: the count of raises, those of participants, those of cells, each of which has the spare
-/// slot of its own number, and 0 for each slot.
-fn words_from(alloc: Global, plan: &Plan) -> Result<Vec<u64>, AllocError>
-    requires { IsSized plan.now.sizes }
-    ensures { IfOk result (λ words. words.items ≡ first_words plan.now) }
-{
-    let mut words = Vec::new(alloc);
-    words.push(plan.first)?;
-    push_zeros(&mut words, 15)?;
-    push_participants(&mut words, plan.sizes.cells, plan.sizes.participants)?;
-    push_numbers(&mut words, plan.sizes.cells)?;
-    push_zeros(&mut words, plan.sizes.slots)?;
-    Ok(words)
-}
-
-/// So many cells that nobody has.
-fn free_cells(alloc: Global, count: usize) -> Result<Vec<AtomicBool>, AllocError>
-    ensures { IfOk result (λ taken. vec_len taken ≡ count) }
-{
-    let mut taken = Vec::with_capacity(alloc, count)?;
-    for _i in 0..count {
-        taken.push(AtomicBool::new(false))?;
-    }
-    Ok(taken)
 }
 
 impl<T: Holds> Domain<T> {
@@ -208,26 +148,6 @@ impl<T: Holds> Domain<T> {
         }
     }
 
-    /// Whether somebody acts for a participant.
-    fn any_claimed(&self) -> bool {
-        for number in 0..self.sizes.participants {
-            if is_claimed(self.words(), number) {
-                return true;
-            }
-        }
-        false
-    }
-
-    /// Whether an item has an owner.
-    fn any_owned(&self) -> bool {
-        for slot in 0..self.sizes.slots {
-            if has_owner(self.words(), &self.sizes, slot) {
-                return true;
-            }
-        }
-        false
-    }
-
     /// How many slots it has.
     pub fn slots(&self) -> usize
         ensures { result ≡ slot_count self.now }
@@ -261,11 +181,11 @@ impl<T: Holds> Domain<T> {
     pub fn close(self) -> Result<(), Domain<T>>
         ensures back { IfErr result (λ d. (place_of d ≡ place_of self) × (participants_of d ≡ participants_of self) × (first_of d ≡ first_of self)) }
     {
-        if self.any_claimed() {
+        if any_claimed(self.words(), &self.sizes) {
             return Err(self);
         }
         self.reclaim_left();
-        if self.any_owned() {
+        if any_owned(self.words(), &self.sizes) {
             return Err(self);
         }
         let Domain {

@@ -19,6 +19,7 @@ pub mod laws;
 pub mod local;
 pub mod plain;
 pub mod pointer;
+pub mod private_collector;
 mod reclaiming;
 pub mod refusal;
 pub mod shared;

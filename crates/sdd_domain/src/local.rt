@@ -4,7 +4,6 @@ ghost use Rattle.std.specs.Prelude.{◌≡◌, ℕ, ◌+◌, ◌-◌, ◌*◌, �
 ghost use Rattle.std.specs.Option.{ForNone, ForSome};
 ghost use Rattle.std.specs.VecDeque.{deque_capacity};
 ghost use Rattle.sdd_base.specs.State.{no_local};
-ghost use Rattle.sdd_base.specs.Steps.{closings_after, scans};
 ghost use Rattle.sdd_steps.specs.declared.participant.Phase.TheVariants.{Idle, Opened};
 ghost use Rattle.sdd_homes.specs.declared.Garbage.{Garbage};
 ghost use Rattle.domain_table.specs.Ledgers.{WaitsIn};
@@ -20,15 +19,15 @@ use crate::board::Words;
 use crate::domain::Domain;
 use crate::holds::Holds;
 use crate::reclaiming::reclaim_due;
+use domain_garbage::left::{bag_in, bag_out, filled, take_left};
 use domain_table::bags::Bags;
 use domain_table::board::{Place, Stored};
 use domain_table::leases::{give_home, seen_at};
 use domain_table::ledger::Ledger;
-use domain_table::left::{bag_in, bag_out, filled, take_left};
 use domain_table::lives::{first_token, last_token, no_token};
 use domain_table::loading::lease;
 use domain_table::row::Row;
-use domain_table::scan::scan;
+use domain_table::scan::scan_due;
 use domain_table::{cells, steps};
 use parted::{Life, Seen};
 use sdd_base::sizes::Sizes;
@@ -66,42 +65,6 @@ pub struct Local<T> {
     ghost noted: { own.published ≡ own.previous },
     ghost fills: { (place.me.0.filling ≡ None) × (next < 2 ^ 63) × (number < place.me.0.sizes.participants) },
     ghost waits: { Waits place.me.0.waits bags.slots.items (ages bags.current bags.previous bags.next bags.due) × (bags.due ≡ 0) × (deque_capacity bags.slots ≡ place.me.0.sizes.slots) },
-}
-
-/// Whether this outermost closing scans, where `closings` counts it.
-fn scans(own: &LocalState, closings: u8) -> bool
-    ensures { closings ≡ closings_after own.now → result ≡ scans own.now }
-{
-    own.accelerated || own.garbage && closings >= 64
-}
-
-/// Counts an outermost closing, and scans if one is due.
-#[inline(always)]
-fn scan_due<T: Holds>(
-    words: &Words<T>,
-    place: &mut Place<T>,
-    number: usize,
-    participants: usize,
-    own: &mut LocalState,
-)
-    requires table { HasEpochs words.now.table_id words.now.key.sizes place.old.table_id participants }
-    requires open { Scans place.old number own.old.previous 0 }
-    ensures seat { (place.new.table_id ≡ place.old.table_id) × (place.new.id ≡ place.old.id) × Steady place.old.me place.new.me }
-    ensures open { Scans place.new number own.old.previous 0 }
-    ensures counted { own.new ≡ record own.old { closings = cond (scans own.old) 0 (closings_after own.old) } }
-{
-    let closings = if own.closings < 64 {
-        own.closings + 1
-    } else {
-        64
-    };
-    if scans(own, closings) {
-        let epoch = own.previous;
-        scan(words, place, number, participants, epoch);
-        own.closings = 0;
-    } else {
-        own.closings = closings;
-    }
 }
 
 /// Behind a publication: turns the bags if the count isn't the one that was found before, and reclaims what is due then.

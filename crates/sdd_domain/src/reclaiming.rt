@@ -1,97 +1,33 @@
-//! Reclaiming an item that nobody reads any more: its slot is opened, all its parts come home, and the slot is free again.
+//! What a reclaimed item held is released, and what is due is reclaimed: of what a participant retired, and of what is in a
+//! private bag.
 
-ghost use Rattle.std.specs.Prelude.{◌≡◌, ℕ, ◌+◌, ◌-◌, ◌^◌, ◌<◌, ◌++◌, ◌∷◌, [], List, true, Some, None, IsSome, map};
-ghost use Rattle.sdd_steps.specs.Steps.{is_ready};
-ghost use Rattle.sdd_homes.specs.declared.Filling.{Filling};
+ghost use Rattle.std.specs.Prelude.{◌≡◌, ℕ, ◌<◌, ◌++◌, ◌∷◌, [], List, true, Some, None, map};
+ghost use Rattle.sdd_steps.specs.Steps.{is_ready, is_inside};
 ghost use Rattle.std.specs.VecDeque.{deque_capacity};
 ghost use Rattle.sdd_homes.specs.declared.Garbage.{Garbage};
+ghost use Rattle.sdd_homes.specs.declared.Lease.{Lease};
 ghost use Rattle.sdd_homes.specs.declared.Owner.{Owner};
-ghost use Rattle.domain_table.specs.Outcomes.{Gathers, GathersAll, HasGivenUp, ReclaimsLast};
+ghost use Rattle.domain_table.specs.Outcomes.{HasGivenUp};
 ghost use Rattle.domain_table.specs.Ledgers.{WaitsIn};
-ghost use Rattle.domain_table.specs.Fitting.{FitsSizes, FitsTaken};
+ghost use Rattle.domain_table.specs.Fitting.{FitsSizes};
 ghost use Rattle.domain_table.specs.Owners.{told};
 ghost use Rattle.sdd_domain.specs.Holding.{told_of};
-ghost use Rattle.domain_table.specs.Leases.{IsFirst, IsAtRest};
+ghost use Rattle.domain_table.specs.Leases.{row_told, lease_told, row_slots, all_below, IsFirst, IsAtRest};
+ghost use Rattle.domain_garbage.specs.Bag.{Notes, NoneDue, AreAt};
+ghost use Rattle.sdd_domain.specs.Collecting.{CanRelease, GivesUpUnder, IsSweptOf};
 
 use crate::board::{Told, Words};
 use crate::held::Held;
 use crate::holds::Holds;
+use domain_garbage::private::{Noted, give_back, take_due};
+use domain_garbage::reclaiming::{reclaim, reclaim_noted};
+use domain_table::aim::Retire;
 use domain_table::bags::Bags;
-use domain_table::board::{Home, Place, Stored};
-use domain_table::homes::{deed_of, let_go, parts_of};
+use domain_table::board::Place;
 use domain_table::owners::release_home;
-use domain_table::slots;
-use domain_table::stored::take_out;
-use parted::Part;
+use domain_table::row::Row;
 use sdd_base::sizes::Sizes;
-
-/// Takes the parts of participant `at` out of its home, the last one that has some. The home is empty then.
-fn gather_home<T: Holds>(
-    words: &Words<T>,
-    place: &mut Place<T>,
-    sizes: &Sizes,
-    slot: usize,
-    at: usize,
-) -> Part<Stored<T>>
-    requires table { FitsTaken words.now.table_id place.old.table_id place.old.me.0 sizes.now slot }
-    requires filled { (f : Filling) × (place.old.me.0.filling ≡ Some f) × (f.filled ≡ at + 1) × (at < sizes.now.participants) × (f.out ≡ sizes.now.participants) }
-    ensures seat { (place.new.table_id ≡ place.old.table_id) × (place.new.id ≡ place.old.id) }
-    ensures gathered { Gathers place.old.me slot at result.life.id result.life.count place.new.me }
-    ensures some { (0 < result.life.count) × IsSome result.seen.value }
-{
-    slots::gather(words, place);
-    let (part, _) = parts_of::<T, Told>(words.exchange(
-        place,
-        at * sizes.slots + slot,
-        Home::Blank,
-    ));
-    slots::empty(words, place);
-    part
-}
-
-/// Takes all parts of the item whose slot was opened out of their homes. Together they are all that there are.
-fn gather_all<T: Holds>(
-    words: &Words<T>,
-    place: &mut Place<T>,
-    sizes: &Sizes,
-    slot: usize,
-) -> Part<Stored<T>>
-    requires table { FitsTaken words.now.table_id place.old.table_id place.old.me.0 sizes.now slot }
-    requires filled { (f : Filling) × (place.old.me.0.filling ≡ Some f) × (f.filled ≡ sizes.now.participants) × (f.out ≡ sizes.now.participants) × (f.left ≡ 0) }
-    ensures seat { (place.new.table_id ≡ place.old.table_id) × (place.new.id ≡ place.old.id) }
-    ensures gathered { GathersAll place.old.me slot sizes.now.participants result.life.id place.new.me }
-    ensures all { result.life.count ≡ 2 ^ 63 }
-{
-    let mut all = gather_home(words, place, sizes, slot, sizes.participants - 1);
-    for gone in 1..sizes.participants {
-        all.join(gather_home(words, place, sizes, slot, sizes.participants - 1 - gone));
-    }
-    all
-}
-
-/// Reclaims the item that waits the longest, in `slot`, which the participant retired three rotations ago. The item is
-/// the answer, the owners that it holds are in hand, and the slot is free.
-pub(crate) fn reclaim<T: Holds>(
-    words: &Words<T>,
-    place: &mut Place<T>,
-    sizes: &Sizes,
-    slot: usize,
-) -> T
-    requires table { FitsSizes words.now.table_id words.now.key.sizes place.old.table_id place.old.me.0.sizes sizes.now }
-    requires ready { (place.old.me.0.kind ≡ 1) × (is_ready place.old.me.0.known ≡ true) × (place.old.me.0.filling ≡ None) }
-    requires waits { (w : Garbage) × (ws : List Garbage) × (place.old.me.0.waits ≡ ws ++ w ∷ []) × (w.age ≡ 3) × (w.slot ≡ slot) }
-    ensures seat { (place.new.table_id ≡ place.old.table_id) × (place.new.id ≡ place.old.id) }
-    ensures reclaimed { ReclaimsLast place.old.me slot (T.holds result) place.new.me }
-{
-    slots::open(words, place);
-    let own = sizes.participants * sizes.slots + slot;
-    let deed = deed_of::<T, Told>(words.exchange(place, own, Home::Blank));
-    let all = gather_all(words, place, sizes, slot);
-    let (item, room) = take_out(deed, all);
-    let_go(words.exchange(place, own, Home::Room(room)));
-    slots::vacate(words, place, sizes.participants, sizes.cells, slot);
-    item
-}
+use std::collections::VecDeque;
 
 /// Releases an owner that a reclaimed item held, which is first in hand: with the last one the participant has retired its
 /// item.
@@ -113,7 +49,7 @@ fn release_held<T: Holds>(
     ensures bags { (bags.new.due ≡ bags.old.due) × (deque_capacity bags.new.slots ≡ deque_capacity bags.old.slots) }
 {
     let Held { slot, part } = held;
-    if release_home(words, place, sizes, number, slot, part) == 0 {
+    if release_home::<T, Told, Retire>(words, place, sizes, number, slot, part) == 0 {
         bags.retire(slot);
     }
 }
@@ -164,5 +100,63 @@ pub(crate) fn reclaim_due<T: Holds>(
     while let Some(slot) = bags.take_due() {
         let item = reclaim(words, place, sizes, slot);
         give_up(words, place, sizes, number, bags, item);
+    }
+}
+
+/// Spends a reclaimed item, as `give_up` does, under open guards: what it held may be leased.
+fn give_up_under<T: Holds>(
+    words: &Words<T>,
+    place: &mut Place<T>,
+    sizes: &Sizes,
+    number: usize,
+    rows: &mut VecDeque<Row<T>>,
+    bags: &mut Bags,
+    item: T,
+)
+    requires table { FitsSizes words.now.table_id words.now.key.sizes place.old.table_id place.old.me.0.sizes sizes.now × (number < sizes.now.participants) }
+    requires ready { CanRelease number place.old.me.0 }
+    requires owners { (hs : List Owner) × (os : List Owner) × (T.holds item ≡ map told hs) × (place.old.me.0.hand ≡ hs ++ os) }
+    requires rows { ((life : ℕ) × (map row_told rows.old.items ≡ map (lease_told life) place.old.me.0.leases)) × (all_below sizes.now.slots (row_slots rows.old.items) ≡ true) }
+    requires waits { WaitsIn place.old.me.0.waits bags.old × (deque_capacity bags.old.slots ≡ sizes.now.slots) }
+    ensures seat { (place.new.table_id ≡ place.old.table_id) × (place.new.id ≡ place.old.id) }
+    ensures released { GivesUpUnder T.holds item place.old.me place.new.me }
+    ensures rows { ((life : ℕ) → map row_told rows.old.items ≡ map (lease_told life) place.old.me.0.leases → map row_told rows.new.items ≡ map (lease_told life) place.new.me.0.leases) × (deque_capacity rows.new ≡ deque_capacity rows.old) × (row_slots rows.new.items ≡ row_slots rows.old.items) }
+    ensures waits { WaitsIn place.new.me.0.waits bags.new × (bags.new.due ≡ bags.old.due) × (deque_capacity bags.new.slots ≡ deque_capacity bags.old.slots) }
+{
+    let mut item = item;
+    while let Some(held) = item.give_up() {
+        let Held { slot, part } = held;
+        give_back(words, place, sizes, number, rows, bags, slot, part);
+    }
+    item.end();
+}
+
+/// Reclaims what is in the private bag that is at the participant's seat, from the longest there on, while its note lies
+/// three or more below the count, which was read again under the open guard. What these items held is released.
+pub(crate) fn sweep<T: Holds>(
+    words: &Words<T>,
+    place: &mut Place<T>,
+    sizes: &Sizes,
+    number: usize,
+    rows: &mut VecDeque<Row<T>>,
+    bags: &mut Bags,
+    waiting: &mut VecDeque<Noted>,
+    count: u64,
+)
+    requires table { FitsSizes words.now.table_id words.now.key.sizes place.old.table_id place.old.me.0.sizes sizes.now × (number < sizes.now.participants) }
+    requires ready { CanRelease number place.old.me.0 × (place.old.me.0.filling ≡ None) × (is_inside place.old.me.0.known ≡ true) × (place.old.me.0.known.reread ≡ Some count) }
+    requires rows { ((life : ℕ) × (map row_told rows.old.items ≡ map (lease_told life) place.old.me.0.leases)) × (all_below sizes.now.slots (row_slots rows.old.items) ≡ true) }
+    requires waits { WaitsIn place.old.me.0.waits bags.old × (deque_capacity bags.old.slots ≡ sizes.now.slots) }
+    requires noted { Notes place.old.me.0.collected waiting.old.items }
+    ensures seat { (place.new.table_id ≡ place.old.table_id) × (place.new.id ≡ place.old.id) }
+    ensures swept { (k : ℕ) × (ws : List Garbage) × (ls : List Lease) × (cs : List Garbage) × AreAt place.old.me.0.leases ls × (place.new.me ≡ (record place.old.me.0 { slot = k; leases = ls; waits = ws; collected = cs }, place.old.me.1)) }
+    ensures rows { ((life : ℕ) → map row_told rows.old.items ≡ map (lease_told life) place.old.me.0.leases → map row_told rows.new.items ≡ map (lease_told life) place.new.me.0.leases) × (deque_capacity rows.new ≡ deque_capacity rows.old) × (row_slots rows.new.items ≡ row_slots rows.old.items) }
+    ensures waits { WaitsIn place.new.me.0.waits bags.new × (bags.new.due ≡ bags.old.due) × (deque_capacity bags.new.slots ≡ deque_capacity bags.old.slots) }
+    ensures noted { Notes place.new.me.0.collected waiting.new.items × (deque_capacity waiting.new ≡ deque_capacity waiting.old) }
+    ensures left { IsSweptOf count waiting.old.items waiting.new.items }
+{
+    while let Some(noted) = take_due(waiting, count) {
+        let item = reclaim_noted(words, place, sizes, noted.slot);
+        give_up_under(words, place, sizes, number, rows, bags, item);
     }
 }

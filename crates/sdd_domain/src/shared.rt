@@ -4,6 +4,7 @@ ghost use Rattle.std.specs.Prelude.{◌≡◌, ◌+◌, ◌^◌, ◌<◌, ◌∷
 ghost use Rattle.domain_table.specs.Views.{holding};
 ghost use Rattle.domain_table.specs.Owners.{item_in};
 
+use crate::board::Told;
 use crate::domain::Domain;
 use crate::guard::Guard;
 use crate::held::Held;
@@ -11,6 +12,7 @@ use crate::holds::Holds;
 use crate::local::Local;
 use crate::pointer::{Loaded, Ptr};
 use calm::Calm;
+use domain_table::aim::Retire;
 use domain_table::board::{Acting, Stored};
 use domain_table::leases::seen_in;
 use domain_table::loading::lease_own;
@@ -314,7 +316,7 @@ impl<T: Holds> Shared<T> {
             ..
         } = local;
         take_in(domain.words(), place, seat);
-        let left = release(
+        let left = release::<T, Told, Retire>(
             domain.words(),
             place,
             &domain.sizes,

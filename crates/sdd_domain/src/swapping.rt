@@ -22,20 +22,12 @@ use crate::holds::Holds;
 use crate::shared::Shared;
 use domain_table::board::{Home, Place};
 use domain_table::cells::swap;
-use domain_table::homes::{let_go, parts_of};
+use domain_table::homes::{let_go, parts_of, spare_at};
 use domain_table::owners::{part_with, take_in};
 use domain_table::tags::{tag_in, word_with};
 use parted::One;
 use sdd_base::sizes::Sizes;
 use sdd_base::tag::Tag;
-
-/// Where a spare slot lies.
-fn spare_at(sizes: &Sizes, spare: u64) -> usize
-    requires { (sizes.now.slots ≤ 2 ^ 30) × (sizes.now.participants ≤ 2 ^ 30) × (spare < 2 ^ 31) }
-    ensures { result ≡ sizes.now.slots * (sizes.now.participants + 1) + spare }
-{
-    sizes.slots * (sizes.participants + 1) + spare as usize
-}
 
 /// Puts the part of an owner into the participant's spare slot, and the owner into its hand, or leaves both empty. The
 /// word that says so in a cell, with this tag, is the answer.

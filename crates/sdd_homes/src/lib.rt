@@ -30,7 +30,7 @@ pub struct Garbage {
     /// Where the item is, and its round there.
     pub slot: u64,
     pub round: u64,
-    /// How often the participant has rotated since.
+    /// How often the participant has rotated since, or the count that was noted, where the item is in a private bag.
     pub age: u64,
 }
 

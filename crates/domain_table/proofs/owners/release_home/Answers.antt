@@ -1,18 +1,25 @@
-use Rattle.std.proofs.Common.{◌≡◌, ℕ, suc, ◌+◌, ◌*◌, ◌<◌, List, [], ◌∷◌, ◌++◌, cond, ne_eqb, length, IsSome, ap, sym, ◌∙◌, subst, refl, arith}
+use Rattle.std.proofs.Common.{◌≡◌, ℕ, suc, ◌+◌, ◌*◌, ◌<◌, List, [], ◌∷◌, ◌++◌, Option, None, Some, length, IsSome, ap, sym, ◌∙◌, subst, refl, arith}
 use Rattle.atomic_table.specs.Table.{Me, rest}
 use Rattle.sdd_base.specs.declared.sizes.Sizes.{Sizes}
+use Rattle.sdd_steps.specs.declared.participant.Participant.{Participant}
 use Rattle.sdd_homes.specs.declared.Owner.{Owner}
 use Rattle.sdd_homes.specs.declared.Garbage.{Garbage}
 use Rattle.sdd_homes.specs.declared.Lease.{Lease}
 use Rattle.sdd_homes.specs.Book.{part, lease, Lends}
 use Rattle.domain_table.specs.Contents.{IsIn}
-use Rattle.domain_table.specs.Plays.{own_home, HasBegun, CanEnd, ended_release, just_retired, retiring}
+use Rattle.domain_table.specs.Plays.{own_home, HasBegun, CanEnd, ended_release}
 use Rattle.domain_table.specs.declared.board.Acting.{Acting}
 use Rattle.domain_table.specs.declared.board.Home.{Home}
 use Rattle.domain_table.specs.declared.board.Home.TheVariants.{Blank, Part}
+use Rattle.domain_table.proofs.Bagging.{rebagged, gone, bags_stay, one_goes}
 use Rattle.domain_table.proofs.Begun.{had, emptied}
 use Rattle.domain_table.proofs.Fronts.{put_in}
 use Rattle.domain_table.proofs.owners.release_home.Goals as goal
+
+-- how many parts a lease has doesn't matter to bags
+same_bags : (to : Option ℕ) (k n : ℕ) (o : Owner) (d : Acting) → rebagged to k (lease o.slot o.item n o.round) d ≡ rebagged to k (lease o.slot o.item 0 o.round) d
+same_bags None k n o d = refl
+same_bags (Some note) k n o d = refl
 
 -- the participant's home came out, and its parts
 module _ {T : Type 0} (holds : T → List (ℕ × ℕ)) (m0 m1 : Me (Home T) Acting) (o : Owner) (begun : HasBegun (IsIn holds) m0 o m1) (i : ℕ) (r : Home T) (front : m1.1 ≡ (i, r) ∷ rest m1.1) where
@@ -36,15 +43,8 @@ module _ {T : Type 0} (holds : T → List (ℕ × ℕ)) (m0 m1 : Me (Home T) Act
     can : (os : List Owner) → m0.0.hand ≡ o ∷ os → IsIn holds (part o.round (n + 1)) y → CanEnd (IsIn holds) m3 l m0.0.leases o os m0.1
     can os first is_in = subst (λ m. CanEnd (IsIn holds) m l m0.0.leases o os m0.1) (sym joined) (refl, first, refl, refl, (y, is_in, refl))
 
-    after : (os : List Owner) (k : ℕ) (m4 : Me (Home T) Acting) → m0.0.releasing ≡ 0 → m4 ≡ (ended_release k l m0.0.leases os m3.0, m0.1) → m4 ≡ (record m0.0 { hand = os; waits = retiring k (lease o.slot o.item 0 o.round) m0.0.waits }, m0.1)
-    after os k m4 idle e = e ∙ (ap (λ (t : Me (Home T) Acting). (ended_release k l m0.0.leases os t.0, m0.1)) joined ∙ λ j. (record m0.0 { hand = os; releasing = sym idle j; waits = retiring k (lease o.slot o.item 0 o.round) m0.0.waits }, m0.1))
-
--- what waits is the same, or one item more
-still : (r : ℕ) (ws : List Garbage) (o : Owner) → 0 < r → retiring (r + 3) (lease o.slot o.item 0 o.round) ws ≡ ws
-still r ws o more = ap (λ b. cond b (just_retired o ∷ ws) ws) (ne_eqb (r + 3) 3 (λ e. omega arith))
-
-gone : (r : ℕ) (ws : List Garbage) (o : Owner) → r ≡ 0 → retiring (r + 3) (lease o.slot o.item 0 o.round) ws ≡ just_retired o ∷ ws
-gone r ws o none = ap (λ z. retiring (z + 3) (lease o.slot o.item 0 o.round) ws) none
+    after : (to : Participant → Option ℕ) (os : List Owner) (k : ℕ) (m4 : Me (Home T) Acting) → m0.0.releasing ≡ 0 → m4 ≡ (ended_release (to m3.0.known) k l m0.0.leases os m3.0, m0.1) → m4 ≡ (rebagged (to m0.0.known) k (lease o.slot o.item 0 o.round) (record m0.0 { hand = os }), m0.1)
+    after to os k m4 idle e = e ∙ (ap (λ (t : Me (Home T) Acting). (ended_release (to t.0.known) k l m0.0.leases os t.0, m0.1)) joined ∙ ((λ j. (record (rebagged (to m0.0.known) k l (record m0.0 { hand = os })) { releasing = sym idle j }, m0.1)) ∙ λ j. (same_bags (to m0.0.known) k n o (record m0.0 { hand = os }) j, m0.1)))
 
 pub begin_release-requires-clause-owner : goal.begin_release-requires-clause-owner
 begin_release-requires-clause-owner g c = let q = c.requires.owner.0 in (q.0, q.1, q.2, (λ h. c.requires.free (subst (Lends c.args.place.now.me.0.leases) q.3 h)))
@@ -75,13 +75,18 @@ returns-clause-released g c = λ o' os' first'. let m = c.args.place.now.me in l
     let p = c.parts_of-own.ensures o.round n (had g.H.Holding.holds m m1 o b i r e.2) in let many : c.parts_of-own.result.0.life.count ≡ n = p.1 in let one = c.into_part.ensures.1 in let sum = ap (λ z. z.count) told.life in
     let all : s.life.count ≡ n + 1 = omega arith in let is_in : IsIn g.H.Holding.holds (part o.round (n + 1)) y = (s, ap (λ z. Part s (z + 1)) p.2, ap (λ z. z.id) told.life ∙ p.0, all, omega arith, subst (λ z. IsSome z.value) (sym told.seen) p.4) in
     let lists : o ∷ q.1 ≡ o' ∷ os' = sym q.2 ∙ first' in let others : q.1 ≡ os' = cc in let k : ℕ = c.end_release.result + 3 in
-    let now = after g.H.Holding.holds m m1 o b i r e.2 m2 m3 i r' Blank y e.3 e'.2 e'.3 q.1 k c.end_release.new.place.me c.requires.ready.3
+    let now = after g.H.Holding.holds m m1 o b i r e.2 m2 m3 i r' Blank y e.3 e'.2 e'.3 g.A.Aim.to q.1 k c.end_release.new.place.me c.requires.ready.3
     (c.end_release.ensures.ended (lease o.slot o.item n o.round) m.0.leases o q.1 m.1 (can g.H.Holding.holds m m1 o b i r e.2 m2 m3 i r' Blank y e.3 e'.2 e'.3 q.1 q.2 is_in)) in (
-      (λ more. now ∙ λ j. (record m.0 { hand = others j; waits = still c.end_release.result m.0.waits o more j }, m.1)),
-      (λ none. (just_retired o, q.3, refl, now ∙ λ j. (record m.0 { hand = others j; waits = gone c.end_release.result m.0.waits o none j }, m.1))),
+      (λ more. now ∙ λ j. (bags_stay (g.A.Aim.to m.0.known) c.end_release.result (lease o.slot o.item 0 o.round) (record m.0 { hand = others j }) more j, m.1)),
+      (λ none. (gone (g.A.Aim.to m.0.known) (lease o.slot o.item 0 o.round), q.3, refl, now ∙ λ j. (one_goes (g.A.Aim.to m.0.known) c.end_release.result (lease o.slot o.item 0 o.round) (record m.0 { hand = others j }) none j, m.1))),
     )
 
 pub returns-clause-room : goal.returns-clause-room
 returns-clause-room g c = let m = c.args.place.now.me in let q = c.requires.owner.0 in let o = q.0 in let b = c.begin_release.ensures.begun o q.1 q.2 in let i : ℕ = c.args.number * c.args.sizes.now.slots + c.args.slot in let e = c.exchange.ensures in let e' = c.exchange-2.ensures in
     let is = joined g.H.Holding.holds m c.begin_release.new.place.me o b i c.exchange.result e.2 c.exchange.new.seat.me c.exchange-2.new.seat.me i c.exchange-2.result Blank _ e.3 e'.2 e'.3 in
-    subst (λ (z : Sizes). length m.0.waits < z.slots) c.requires.table.0.2 (subst (λ (t : Me _ Acting). length t.0.waits < t.0.sizes.slots) is c.end_release.ensures.room)
+    subst (λ (z : Sizes). length m.0.waits < z.slots) c.requires.table.0.2 (subst (λ (t : Me _ Acting). length t.0.waits < t.0.sizes.slots) is c.end_release.ensures.room.0)
+
+pub returns-clause-bag_room : goal.returns-clause-bag_room
+returns-clause-bag_room g c = let m = c.args.place.now.me in let q = c.requires.owner.0 in let o = q.0 in let b = c.begin_release.ensures.begun o q.1 q.2 in let i : ℕ = c.args.number * c.args.sizes.now.slots + c.args.slot in let e = c.exchange.ensures in let e' = c.exchange-2.ensures in
+    let is = joined g.H.Holding.holds m c.begin_release.new.place.me o b i c.exchange.result e.2 c.exchange.new.seat.me c.exchange-2.new.seat.me i c.exchange-2.result Blank _ e.3 e'.2 e'.3 in
+    subst (λ (z : Sizes). length m.0.collected < z.slots) c.requires.table.0.2 (subst (λ (t : Me _ Acting). length t.0.collected < t.0.sizes.slots) is c.end_release.ensures.room.1)

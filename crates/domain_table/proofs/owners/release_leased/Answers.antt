@@ -6,8 +6,8 @@ use Rattle.sdd_homes.specs.declared.Owner.{Owner}
 use Rattle.sdd_homes.specs.Book.{recounted}
 use Rattle.domain_table.specs.Leases.{row_told, lease_told}
 use Rattle.domain_table.specs.Layout.{all_words}
-use Rattle.domain_table.specs.Plays.{retiring}
 use Rattle.domain_table.specs.declared.board.Acting.{Acting}
+use Rattle.domain_table.proofs.Bagging.{gone, bags_stay, one_goes}
 use Rattle.domain_table.proofs.Rows.{row_at, at_slot, inside, slots_told, recounted_slots}
 use Rattle.domain_table.proofs.owners.release_leased.Goals as goal
 
@@ -29,14 +29,12 @@ take_in-requires g c = let r = c.requires.rows in let rows = c.args.rows.now.ite
 pub returns-clause-room : goal.returns-clause-room
 returns-clause-room g c = let r = c.requires.rows in let rows = c.args.rows.now.items in let ls = c.args.place.now.me.0.leases in let low = c.requires.row.0 in let long = c.args.rows.now.ok.0 in let f = row_at r.0.0 rows ls c.args.at r.0.1 (omega arith) in
     let at = at_slot r.0.0 rows ls c.args.at c.args.slot f c.requires.row.1 in let q = c.requires.owner.0 in let few = c.release_owner-left.ensures.few f.lease q.0 q.1 f.has (q.3 ∙ sym at) q.2 in
-    subst (λ (z : Sizes). length c.args.place.now.me.0.waits < z.slots) c.requires.table.2 few.1
+    subst (λ (z : Sizes). length c.args.place.now.me.0.waits < z.slots) c.requires.table.2 few.1.0
 
--- what waits is the same, or one item more
-still : (n : ℕ) (l : Lease) (ws : List Garbage) → 0 < n → retiring (n + 3) l ws ≡ ws
-still n l ws more = ap (λ b. cond b (record { item = l.item; slot = l.slot; round = l.round; age = 0 } ∷ ws) ws) (ne_eqb (n + 3) 3 (λ e. omega arith))
-
-gone : (n : ℕ) (l : Lease) (ws : List Garbage) → n ≡ 0 → retiring (n + 3) l ws ≡ record { item = l.item; slot = l.slot; round = l.round; age = 0 } ∷ ws
-gone n l ws none = ap (λ z. retiring (z + 3) l ws) none
+pub returns-clause-bag_room : goal.returns-clause-bag_room
+returns-clause-bag_room g c = let r = c.requires.rows in let rows = c.args.rows.now.items in let ls = c.args.place.now.me.0.leases in let low = c.requires.row.0 in let long = c.args.rows.now.ok.0 in let f = row_at r.0.0 rows ls c.args.at r.0.1 (omega arith) in
+    let at = at_slot r.0.0 rows ls c.args.at c.args.slot f c.requires.row.1 in let q = c.requires.owner.0 in let few = c.release_owner-left.ensures.few f.lease q.0 q.1 f.has (q.3 ∙ sym at) q.2 in
+    subst (λ (z : Sizes). length c.args.place.now.me.0.collected < z.slots) c.requires.table.2 few.1.1
 
 pub returns-clause-released : goal.returns-clause-released
 returns-clause-released g c = let r = c.requires.rows in let m = c.args.place.now.me in let rows = c.args.rows.now.items in let ls = m.0.leases in let low = c.requires.row.0 in let long = c.args.rows.now.ok.0 in let f = row_at r.0.0 rows ls c.args.at r.0.1 (omega arith) in
@@ -45,8 +43,8 @@ returns-clause-released g c = let r = c.requires.rows in let m = c.args.place.no
       new,
       recounted_slots l.slot (l.count + 1) ls,
       (λ o os first. let lists : q.0 ∷ q.1 ≡ o ∷ os = sym q.2 ∙ first in let same : q.0 ≡ o = cc in let now = c.release_owner-left.ensures.released l o os f.has (ap (λ (z : Owner). z.slot) (sym same) ∙ (q.3 ∙ sym at)) first in (
-        (λ more. now ∙ λ j. (record m.0 { hand = os; leases = new; waits = still n l m.0.waits more j }, m.1)),
-        (λ none. (record { item = l.item; slot = l.slot; round = l.round; age = 0 }, at, refl, now ∙ λ j. (record m.0 { hand = os; leases = new; waits = gone n l m.0.waits none j }, m.1))),
+        (λ more. now ∙ λ j. (bags_stay (g.A.Aim.to m.0.known) n l (record m.0 { hand = os; leases = new }) more j, m.1)),
+        (λ none. (gone (g.A.Aim.to m.0.known) l, at, refl, now ∙ λ j. (one_goes (g.A.Aim.to m.0.known) n l (record m.0 { hand = os; leases = new }) none j, m.1))),
       )),
     )
 

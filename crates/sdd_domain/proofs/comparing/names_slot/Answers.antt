@@ -1,23 +1,22 @@
-use Rattle.std.proofs.Common.{◌≡◌, ℕ, ◌+◌, Bool, true, false, Option, None, Some, IsTrue, refl, sym, ap, ◌∙◌, not, eq-eqb, eqb-true, arith}
-use Rattle.core.specs.Option.{is_some}
-use Rattle.std.proofs.lemmas.Bool.{false≢true}
+use Rattle.std.proofs.Common.{◌≡◌, ℕ, ◌+◌, ◌^◌, ◌<◌, Bool, true, false, Option, None, Some, IsTrue, IfSome, IfNone, eqb, eq-eqb, eqb-true, refl, sym, ap, ◌∙◌, arith}
+use Rattle.core.specs.Option.{option_eq}
+use Rattle.domain_table.specs.Layout.{packed}
 use Rattle.sdd_domain.specs.Comparing.{code_of}
 use Rattle.sdd_domain.proofs.comparing.names_slot.Goals as goal
 
-none_code : (o : Option ℕ) (b : Bool) → is_some o ≡ not b → (IsTrue b → code_of o ≡ 0) × (code_of o ≡ 0 → IsTrue b)
-none_code None true e = ((λ t. refl), (λ z. refl))
-none_code None false e = absurd (false≢true e)
-none_code (Some x) true e = absurd (false≢true (sym e))
-none_code (Some x) false e = ((λ t. absurd (false≢true t)), (λ z. absurd (omega arith)))
+-- slots are the same where their codes are
+same_code : (a b : Option ℕ) (k : ℕ) → k ≡ code_of a → (IsTrue (option_eq eqb a b) → k ≡ code_of b) × (k ≡ code_of b → IsTrue (option_eq eqb a b))
+same_code None None k e = ((λ _. e), (λ _. refl))
+same_code None (Some y) k e = ((λ t. absurd (cc)), (λ z. absurd (omega arith)))
+same_code (Some x) None k e = ((λ t. absurd (cc)), (λ z. absurd (omega arith)))
+same_code (Some x) (Some y) k e = ((λ t. let same = eqb-true x y t in omega arith), (λ z. eq-eqb x y (omega arith)))
 
-pub returns-in-Some-slot : goal.returns-in-Some-slot
-returns-in-Some-slot c = λ y t k low few is. let found : ℕ = c.in-Some.found in let slot : ℕ = c.in-Some-slot.slot in let code : k ≡ found + 1 = c.in-Some.ensures.some.1 y t k low few is in let asked : code_of c.args.slot ≡ slot + 1 = ap code_of c.in-Some-slot.is in
-    ((λ e. let same = eqb-true found slot e in omega arith), (λ e. eq-eqb found slot (omega arith)))
+-- a word's code is that of the slot that it names
+coded : (word : ℕ) (a : Option ℕ) → IfSome a (λ k. (k < 2 ^ 31) × ((y t c : ℕ) → y < 2 ^ 31 → t < 4 → word ≡ packed y t c → c ≡ k + 1)) → IfNone a ((y t c : ℕ) → y < 2 ^ 31 → t < 4 → word ≡ packed y t c → c ≡ 0)
+    → (y t c : ℕ) → y < 2 ^ 31 → t < 4 → word ≡ packed y t c → c ≡ code_of a
+coded word None some none y t c low few is = none y t c low few is
+coded word (Some k) some none y t c low few is = some.1 y t c low few is
 
-pub returns-in-None-slot : goal.returns-in-None-slot
-returns-in-None-slot c = λ y t k low few is. let found : ℕ = c.in-Some.found in let code : k ≡ found + 1 = c.in-Some.ensures.some.1 y t k low few is in let asked : code_of c.args.slot ≡ 0 = ap code_of c.in-None-slot.is in
-    ((λ e. absurd (false≢true e)), (λ e. absurd (omega arith)))
-
-pub returns-in-None : goal.returns-in-None
-returns-in-None c = λ y t k low few is. let code : k ≡ 0 = c.in-None.ensures.none y t k low few is in let both = none_code c.args.slot c.is_none.result c.is_none.ensures in
-    ((λ e. code ∙ sym (both.0 e)), (λ e. both.1 (sym e ∙ code)))
+pub returns : goal.returns
+returns c = λ y t k low few is. let r = c.slot_named.ensures in let both = same_code c.slot_named.result c.args.slot k (coded c.args.word c.slot_named.result r.some r.none y t k low few is) in
+    ((λ e. both.0 (sym c.eq.ensures ∙ e)), (λ z. c.eq.ensures ∙ both.1 z))

@@ -1,4 +1,4 @@
-use Rattle.std.proofs.Common.{◌≡◌, ◌<◌, ◌≤◌, true, ℕ, List, [], ◌∷◌, map, vec_capacity, ap, sym, ◌∙◌, subst, arith}
+use Rattle.std.proofs.Common.{◌≡◌, ◌<◌, ◌≤◌, true, ℕ, List, [], ◌∷◌, None, map, vec_capacity, ap, sym, ◌∙◌, subst, arith}
 use Rattle.std.specs.VecDeque.{deque_capacity}
 use Rattle.atomic_table.specs.Seated.{TableId}
 use Rattle.atomic_table.specs.Table.{Me}
@@ -24,7 +24,7 @@ module _ {T : Type 0} (l : Local T) (s : Shared T) (m1 : Me (Home T) Acting) (ta
   d = l.place.me.0
 
   -- the owner is gone, with what waits behind it
-  module _ (left : ℕ) (m2 : Me (Home T) Acting) (ls : List Lease) (is : map (λ (x : Lease). x.slot) ls ≡ map (λ (x : Lease). x.slot) m1.0.leases) (released : HasReleased s.slot left m1 ls m2) where
+  module _ (left : ℕ) (m2 : Me (Home T) Acting) (ls : List Lease) (is : map (λ (x : Lease). x.slot) ls ≡ map (λ (x : Lease). x.slot) m1.0.leases) (released : HasReleased (λ _. None) s.slot left m1 ls m2) where
     kept : 0 < left → m2 ≡ (record d { leases = ls }, l.place.me.1)
     kept more = (released (owner s) d.hand (first l s m1 taken)).0 more ∙ ap (λ (z : Me (Home T) Acting). (record z.0 { hand = d.hand; leases = ls }, z.1)) (mine l s m1 taken)
 

@@ -1,0 +1,44 @@
+-- private bags
+use Rattle.std.specs.Prelude.{◌≡◌, ℕ, ◌+◌, ◌<◌, ◌≤◌, List, [], ◌∷◌, ◌++◌, map, length}
+use Rattle.atomic_table.specs.Table.{Me}
+use Rattle.sdd_homes.specs.declared.Garbage.{Garbage}
+use Rattle.sdd_homes.specs.declared.Lease.{Lease}
+use Rattle.sdd_homes.specs.declared.Owner.{Owner}
+use Rattle.domain_table.specs.declared.board.Acting.{Acting}
+use Rattle.domain_garbage.specs.declared.private.Noted.{Noted}
+
+-- an item in one is told by its slot and its note
+abbrev pub noted_told : Noted → ℕ × ℕ
+noted_told n = (n.slot, n.note)
+
+abbrev pub garbage_told : Garbage → ℕ × ℕ
+garbage_told w = (w.slot, w.age)
+
+-- these are the items in the bag, in their order
+abbrev pub Notes : List Garbage → List Noted → Type 0
+Notes ws ns = map garbage_told ws ≡ map noted_told ns
+
+-- all that was in the private bag is retired, besides what waited
+abbrev pub HandsAll : {S : Type 0} → Me S Acting → Me S Acting → Type 0
+HandsAll m m' = (ws : List Garbage) × (length ws ≡ length m.0.waits + length m.0.collected) × (m' ≡ (record m.0 { collected = []; waits = ws }, m.1))
+
+-- what has been in the bag the longest was noted less than three below the count
+abbrev pub NoneDue : ℕ → List Noted → Type 0
+NoneDue count ns = (ms : List Noted) (n : Noted) → ns ≡ ms ++ n ∷ [] → count < n.note + 3
+
+-- the private bag of the first view
+abbrev pub bag_in : List Acting → List Garbage
+bag_in [] = []
+bag_in (d ∷ ds) = d.collected
+
+-- the leases are in the slots that they were in
+abbrev pub AreAt : List Lease → List Lease → Type 0
+AreAt ls ls' = map (λ (l : Lease). l.slot) ls' ≡ map (λ (l : Lease). l.slot) ls
+
+-- the first owner in hand is released; with the last one of its item that waits
+abbrev pub GivesBack : {S : Type 0} → Me S Acting → Me S Acting → Type 0
+GivesBack m m' = (o : Owner) (os : List Owner) → m.0.hand ≡ o ∷ os → (ws : List Garbage) × (ls : List Lease) × AreAt m.0.leases ls × (m' ≡ (record m.0 { hand = os; leases = ls; waits = ws }, m.1))
+
+-- or it is in the private bag
+abbrev pub PutsIn : {S : Type 0} → Me S Acting → Me S Acting → Type 0
+PutsIn m m' = (o : Owner) (os : List Owner) → m.0.hand ≡ o ∷ os → (cs : List Garbage) × (ls : List Lease) × AreAt m.0.leases ls × (m' ≡ (record m.0 { hand = os; leases = ls; collected = cs }, m.1))

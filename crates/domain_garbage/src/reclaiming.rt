@@ -1,0 +1,119 @@
+//! Reclaiming an item that nobody reads any more: its slot is opened, all its parts come home, and the slot is free again.
+
+ghost use Rattle.std.specs.Prelude.{◌≡◌, ℕ, ◌+◌, ◌-◌, ◌^◌, ◌<◌, ◌++◌, ◌∷◌, [], List, true, Some, None, IsSome, map};
+ghost use Rattle.sdd_steps.specs.Steps.{is_ready, is_inside, is_past};
+ghost use Rattle.sdd_homes.specs.declared.Filling.{Filling};
+ghost use Rattle.sdd_homes.specs.declared.Garbage.{Garbage};
+ghost use Rattle.sdd_homes.specs.declared.Owner.{Owner};
+ghost use Rattle.domain_table.specs.Contents.{IsIn};
+ghost use Rattle.domain_table.specs.Outcomes.{Gathers, GathersAll, ReclaimsLast};
+ghost use Rattle.domain_table.specs.Fitting.{FitsSizes, FitsTaken};
+ghost use Rattle.domain_table.specs.Owners.{told};
+ghost use Rattle.domain_table.specs.declared.board.Home.{Home};
+ghost use Rattle.domain_garbage.specs.Opened.{IsOpened, ReclaimsNoted};
+
+use crate::emptying::{empty, gather, open, open_noted, vacate};
+use domain_table::board::{Home, Place, Stored, Words};
+use domain_table::holding::Holding;
+use domain_table::homes::{deed_of, let_go, parts_of};
+use domain_table::stored::take_out;
+use parted::Part;
+use sdd_base::sizes::Sizes;
+
+/// Takes the parts of participant `at` out of its home, the last one that has some. The home is empty then.
+fn gather_home<T, H: Holding<T>>(
+    words: &Words<T, H>,
+    place: &mut Place<T>,
+    sizes: &Sizes,
+    slot: usize,
+    at: usize,
+) -> Part<Stored<T>>
+    requires table { FitsTaken words.now.table_id place.old.table_id place.old.me.0 sizes.now slot }
+    requires filled { (f : Filling) × (place.old.me.0.filling ≡ Some f) × (f.filled ≡ at + 1) × (at < sizes.now.participants) × (f.out ≡ sizes.now.participants) }
+    ensures seat { (place.new.table_id ≡ place.old.table_id) × (place.new.id ≡ place.old.id) }
+    ensures gathered { Gathers place.old.me slot at result.life.id result.life.count place.new.me }
+    ensures some { (0 < result.life.count) × IsSome result.seen.value }
+{
+    gather(words, place);
+    let (part, _) = parts_of::<T, H>(words.exchange(place, at * sizes.slots + slot, Home::Blank));
+    empty(words, place);
+    part
+}
+
+/// Takes all parts of the item whose slot was opened out of their homes. Together they are all that there are.
+fn gather_all<T, H: Holding<T>>(
+    words: &Words<T, H>,
+    place: &mut Place<T>,
+    sizes: &Sizes,
+    slot: usize,
+) -> Part<Stored<T>>
+    requires table { FitsTaken words.now.table_id place.old.table_id place.old.me.0 sizes.now slot }
+    requires filled { (f : Filling) × (place.old.me.0.filling ≡ Some f) × (f.filled ≡ sizes.now.participants) × (f.out ≡ sizes.now.participants) × (f.left ≡ 0) }
+    ensures seat { (place.new.table_id ≡ place.old.table_id) × (place.new.id ≡ place.old.id) }
+    ensures gathered { GathersAll place.old.me slot sizes.now.participants result.life.id place.new.me }
+    ensures all { result.life.count ≡ 2 ^ 63 }
+{
+    let mut all = gather_home(words, place, sizes, slot, sizes.participants - 1);
+    for gone in 1..sizes.participants {
+        all.join(gather_home(words, place, sizes, slot, sizes.participants - 1 - gone));
+    }
+    all
+}
+
+/// Takes the item out of `slot`, which was opened. The slot is free then.
+fn take_whole<T, H: Holding<T>>(
+    words: &Words<T, H>,
+    place: &mut Place<T>,
+    sizes: &Sizes,
+    slot: usize,
+) -> T
+    requires table { FitsSizes words.now.table_id words.now.key.sizes place.old.table_id place.old.me.0.sizes sizes.now × (slot < sizes.now.slots) }
+    requires acts { place.old.me.0.kind ≡ 1 }
+    requires opened { (hs : List Owner) × (tail : List (ℕ × Home T)) × IsOpened (IsIn H.holds) place.old.me slot hs tail }
+    ensures seat { (place.new.table_id ≡ place.old.table_id) × (place.new.id ≡ place.old.id) }
+    ensures taken { (hs : List Owner) (tail : List (ℕ × Home T)) → IsOpened (IsIn H.holds) place.old.me slot hs tail → (H.holds result ≡ map told hs) × (place.new.me ≡ (record place.old.me.0 { filling = None }, tail)) }
+{
+    let own = sizes.participants * sizes.slots + slot;
+    let deed = deed_of::<T, H>(words.exchange(place, own, Home::Blank));
+    let all = gather_all(words, place, sizes, slot);
+    let (item, room) = take_out(deed, all);
+    let_go(words.exchange(place, own, Home::Room(room)));
+    vacate(words, place, sizes.participants, sizes.cells, slot);
+    item
+}
+
+/// Reclaims the item that waits the longest, in `slot`, which the participant retired three rotations ago. The item is
+/// the answer, the owners that it holds are in hand, and the slot is free.
+pub fn reclaim<T, H: Holding<T>>(
+    words: &Words<T, H>,
+    place: &mut Place<T>,
+    sizes: &Sizes,
+    slot: usize,
+) -> T
+    requires table { FitsSizes words.now.table_id words.now.key.sizes place.old.table_id place.old.me.0.sizes sizes.now }
+    requires ready { (place.old.me.0.kind ≡ 1) × (is_ready place.old.me.0.known ≡ true) × (place.old.me.0.filling ≡ None) }
+    requires waits { (w : Garbage) × (ws : List Garbage) × (place.old.me.0.waits ≡ ws ++ w ∷ []) × (w.age ≡ 3) × (w.slot ≡ slot) }
+    ensures seat { (place.new.table_id ≡ place.old.table_id) × (place.new.id ≡ place.old.id) }
+    ensures reclaimed { ReclaimsLast place.old.me slot (H.holds result) place.new.me }
+{
+    open(words, place);
+    take_whole(words, place, sizes, slot)
+}
+
+/// The same of the item that is in the private bag at the participant's seat the longest, with a note at least three below
+/// the count that was read again under the open guard.
+pub fn reclaim_noted<T, H: Holding<T>>(
+    words: &Words<T, H>,
+    place: &mut Place<T>,
+    sizes: &Sizes,
+    slot: usize,
+) -> T
+    requires table { FitsSizes words.now.table_id words.now.key.sizes place.old.table_id place.old.me.0.sizes sizes.now }
+    requires ready { (place.old.me.0.kind ≡ 1) × (is_ready place.old.me.0.known ≡ true) × (is_inside place.old.me.0.known ≡ true) × (place.old.me.0.filling ≡ None) }
+    requires noted { (w : Garbage) × (ws : List Garbage) × (place.old.me.0.collected ≡ ws ++ w ∷ []) × (is_past w.age place.old.me.0.known.reread ≡ true) × (w.slot ≡ slot) }
+    ensures seat { (place.new.table_id ≡ place.old.table_id) × (place.new.id ≡ place.old.id) }
+    ensures reclaimed { ReclaimsNoted place.old.me slot (H.holds result) place.new.me }
+{
+    open_noted(words, place);
+    take_whole(words, place, sizes, slot)
+}

@@ -1,5 +1,0 @@
-use Rattle.std.proofs.Common.{◌≡◌, ◌++◌, zero, replicate}
-use Rattle.sdd_domain.proofs.domain.push_zeros.Given as goal
-
-abbrev pub invariant-loop-i : goal.invariant-loop-i
-invariant-loop-i l = record { filled : l.words.items ≡ l.fn.words.items ++ replicate l._i zero }

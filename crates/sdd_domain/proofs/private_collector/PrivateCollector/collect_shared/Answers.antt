@@ -1,0 +1,69 @@
+use Rattle.std.proofs.Common.{◌≡◌, ◌<◌, ◌≤◌, ◌==◌, ◌+◌, ◌^◌, cond, true, ℕ, List, [], ◌∷◌, map, vec_capacity, ap, sym, ◌∙◌, subst, refl, arith}
+use Rattle.std.specs.VecDeque.{deque_capacity}
+use Rattle.atomic_table.specs.Seated.{TableId}
+use Rattle.atomic_table.specs.Table.{Me}
+use Rattle.sdd_base.specs.declared.sizes.Sizes.{Sizes}
+use Rattle.sdd_base.specs.declared.status.LocalState.{LocalState}
+use Rattle.sdd_steps.specs.declared.participant.Phase.TheVariants.{Idle, Opened}
+use Rattle.sdd_homes.specs.declared.Lease.{Lease}
+use Rattle.domain_table.specs.Bags.{ages, Waits}
+use Rattle.domain_table.specs.Layout.{claim_word}
+use Rattle.domain_table.specs.Leases.{life_number, lease_told, row_slots, all_below}
+use Rattle.domain_table.specs.declared.board.Acting.{Acting}
+use Rattle.domain_table.proofs.Rows.{none_same}
+use Rattle.domain_garbage.specs.Bag.{bag_in, noted_told}
+use Rattle.sdd_domain.proofs.Collected.{noted, all, at_last, spare_there, swept_told, put_told}
+use Rattle.sdd_domain.proofs.Handed.{owner}
+use Rattle.sdd_domain.proofs.private_collector.PrivateCollector.collect_shared.Goals as goal
+
+pub sweep-requires-clause-rows : goal.sweep-requires-clause-rows
+sweep-requires-clause-rows g c = let l = c.args.local.now in let ws0 = bag_in c.args.self.seat.badge.views in let m1 = c.take_bag.new.place.me in let m2 = c.reread-note.new.place.me in let taken = c.take_bag.ensures.taken ws0 c.args.self.at in
+    let is = noted l c.reread-note.result ws0 m1 m2 taken c.reread-note.ensures.noted in let sizes : l.place.me.0.sizes ≡ c.args.domain.now.sizes = ap (λ (t : TableId × Sizes). t.1) c.requires.home ∙ sym c.args.domain.now.sized.0 in
+    ((life_number l.life, l.lends.0 ∙ sym (ap (λ (z : Me _ Acting). map (lease_told (life_number l.life)) z.0.leases) is)), subst (λ (z : Sizes). all_below z.slots (row_slots l.rows.items) ≡ true) sizes l.lends.2)
+
+pub invariant_of-local : goal.invariant_of-local
+invariant_of-local g c = let l = c.args.local.now in let d = l.place.me.0 in let ws0 = bag_in c.args.self.seat.badge.views in let o = owner c.args.shared in let m1 = c.take_bag.new.place.me in let m2 = c.reread-note.new.place.me in let m3 = c.sweep.new.place.me in let m4 = c.take_in.new.place.me in let m5 = c.put_in-last.new.place.me in let m6 = c.part_bag-seat.new.place.me in
+    let s = c.sweep.ensures.swept in let taken = c.take_bag.ensures.taken ws0 c.args.self.at in let came = c.take_in.ensures.taken o c.args.shared.owns in let p = c.put_in-last.ensures.given o m3.0.hand (ap (λ (z : Me _ Acting). z.0.hand) came) in
+    let is = all l c.reread-note.result ws0 m1 m2 taken c.reread-note.ensures.noted m3 s.0 s.1 s.2 s.3 s.4 s.5 o m4 m5 m6 came p.0 p.1 p.2 p.3 c.part_bag-seat.ensures.seat.2 in
+    let same = at_last l c.reread-note.result ws0 m1 m2 taken c.reread-note.ensures.noted m3 s.0 s.1 s.2 s.3 s.4 s.5 o m4 m5 m6 came p.0 p.1 p.2 p.3 c.part_bag-seat.ensures.seat.2 in
+    let rows = c.put_in-last.new.rows in let bags = c.sweep.new.bags in let own = c.flag_waiting.ensures m3.0.waits c.sweep.ensures.waits.0 in
+    let table = c.part_bag-seat.ensures.seat.0 ∙ (c.put_in-last.ensures.seat.0 ∙ (c.take_in.ensures.seat.0 ∙ (c.sweep.ensures.seat.0 ∙ (c.reread-note.ensures.seat.0 ∙ c.take_bag.ensures.seat.0)))) in record {
+      acts = (
+        ap (λ (z : Me _ Acting). z.0.kind) is ∙ l.acts.0,
+        ap (λ (z : Me _ Acting). z.0.number) is ∙ l.acts.1,
+        ap (λ (z : Me _ Acting). z.0.scan) is ∙ l.acts.2,
+        l.acts.3,
+        subst (λ (z : TableId). claim_word l.number < z.words) (sym table) l.acts.4,
+        ap (λ (z : Me _ Acting). z.0.releasing) is ∙ l.acts.5,
+      );
+      has_spare = (ap (λ (z : Me _ Acting). z.0.spare) is ∙ l.has_spare.0, l.has_spare.1, spare_there l c.reread-note.result ws0 m1 m2 taken c.reread-note.ensures.noted m3 s.0 s.1 s.2 s.3 s.4 s.5 o m4 m5 m6 came p.0 p.1 p.2 p.3 c.part_bag-seat.ensures.seat.2);
+      lends = (
+        c.put_in-last.ensures.rows (life_number l.life) (c.sweep.ensures.rows.0 (life_number l.life) (l.lends.0 ∙ sym (ap (λ (z : Me _ Acting). map (lease_told (life_number l.life)) z.0.leases) (noted l c.reread-note.result ws0 m1 m2 taken c.reread-note.ensures.noted)))
+            ∙ sym (ap (λ (z : Me _ Acting). map (lease_told (life_number l.life)) z.0.leases) came)) ∙ sym (ap (λ (z : Me _ Acting). map (lease_told (life_number l.life)) z.0.leases) c.part_bag-seat.ensures.seat.2),
+        subst (λ (z : Me _ Acting). z.0.sizes.slots ≤ deque_capacity rows) (sym is) (subst (λ n. d.sizes.slots ≤ n) (sym (c.put_in-last.ensures.same.0 ∙ c.sweep.ensures.rows.1)) l.lends.1),
+        subst (λ (z : Me _ Acting). all_below z.0.sizes.slots (row_slots rows.items) ≡ true) (sym is) (ap (all_below d.sizes.slots) (c.put_in-last.ensures.same.1 ∙ c.sweep.ensures.rows.2) ∙ l.lends.2),
+      );
+      shut = λ e. (ap (λ (z : LocalState). z.nesting) own ∙ (l.shut e).0, ap (λ (z : Me _ Acting). z.0.leases) is ∙ none_same p.1 (same ∙ ap (map (λ (x : Lease). x.slot)) (l.shut e).1));
+      alive = λ f e. subst (λ (z : LocalState). (0 < z.nesting) × (f.count + z.nesting ≡ 2 ^ 63)) (sym own) (l.alive f e);
+      leaves = (ap (λ (z : Me _ Acting). z.0.left) is ∙ l.leaves.0, l.leaves.1, subst (λ (z : Me _ Acting). z.0.sizes.slots ≤ vec_capacity l.bag) (sym is) l.leaves.2);
+      phase = ap (λ (z : Me _ Acting). z.0.known.phase) is ∙ (l.phase ∙ ap (λ (z : LocalState). cond (z.nesting == 0) Idle (Opened z.previous)) (sym own));
+      found = ap (λ (z : Me _ Acting). z.0.known.found) is ∙ (l.found ∙ sym (ap (λ (z : LocalState). z.previous) own));
+      noted = ap (λ (z : LocalState). z.published) own ∙ (l.noted ∙ sym (ap (λ (z : LocalState). z.previous) own));
+      fills = (ap (λ (z : Me _ Acting). z.0.filling) is ∙ l.fills.0, l.fills.1, subst (λ (z : Me _ Acting). l.number < z.0.sizes.participants) (sym is) l.fills.2);
+      waits = (
+        subst (λ zs. Waits zs bags.slots.items (ages bags.current bags.previous bags.next bags.due)) (ap (λ (z : Me _ Acting). z.0.waits) s.5 ∙ sym (ap (λ (z : Me _ Acting). z.0.waits) is)) c.sweep.ensures.waits.0,
+        c.sweep.ensures.waits.1 ∙ l.waits.1,
+        c.sweep.ensures.waits.2 ∙ (l.waits.2 ∙ sym (ap (λ (z : Me _ Acting). z.0.sizes.slots) is)),
+      );
+    }
+
+pub returns-clause-held : goal.returns-clause-held
+returns-clause-held g c = let ws0 = bag_in c.args.self.seat.badge.views in let taken = c.take_bag.ensures.taken ws0 c.args.self.at in let born = ap (λ (z : Me _ Acting). z.0.born) taken in let least = c.reread-note.ensures.least in let most = c.reread-note.ensures.most in
+    let old = c.args.self.waiting.items in let kept = c.sweep.new.waiting.items in (
+      c.reread-note.result,
+      map noted_told kept,
+      swept_told c.reread-note.result old kept c.sweep.ensures.left,
+      put_told c.put_in-last.result (record { slot = c.args.shared.slot; note = c.reread-note.result }) kept c.put_in-last.new.waiting.items c.put_in-last.ensures.last c.put_in-last.ensures.more,
+      omega arith,
+      omega arith,
+    )

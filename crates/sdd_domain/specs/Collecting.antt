@@ -1,0 +1,44 @@
+-- what private collectors show to clauses
+use Rattle.std.specs.Prelude.{◌≡◌, ℕ, ◌+◌, ◌<◌, ◌≤◌, true, List, ◌∷◌, [], ◌++◌, map}
+use Rattle.atomic_table.specs.Seated.{TableId}
+use Rattle.atomic_table.specs.Table.{Me}
+use Rattle.sdd_base.specs.declared.sizes.Sizes.{Sizes}
+use Rattle.sdd_steps.specs.State.{Has}
+use Rattle.sdd_steps.specs.Steps.{is_ready}
+use Rattle.sdd_homes.specs.declared.Garbage.{Garbage}
+use Rattle.sdd_homes.specs.declared.Lease.{Lease}
+use Rattle.sdd_homes.specs.declared.Owner.{Owner}
+use Rattle.domain_table.specs.Owners.{told}
+use Rattle.domain_table.specs.declared.board.Acting.{Acting}
+use Rattle.domain_garbage.specs.Bag.{noted_told, NoneDue, AreAt}
+use Rattle.domain_garbage.specs.declared.private.Noted.{Noted}
+use Rattle.sdd_domain.specs.declared.private_collector.PrivateCollector.{PrivateCollector}
+use Rattle.sdd_domain.specs.declared.shared.Shared.{Shared}
+
+-- the place of a collector, with its sizes
+abbrev pub collects_in : PrivateCollector → TableId × Sizes
+collects_in c = (c.seat.badge.table_id, c.sizes)
+
+-- what is in it, by the slot and the note, what came last in front
+abbrev pub held_in : PrivateCollector → List (ℕ × ℕ)
+held_in c = map noted_told c.waiting.items
+
+-- the slot of an owner's item
+abbrev pub slot_in : {T : Type 0} → Shared T → ℕ
+slot_in s = s.slot
+
+-- at this count, what was noted three or more below is gone, from the first that came on; what has been there the longest of the others wasn't
+abbrev pub IsSwept : ℕ → List (ℕ × ℕ) → List (ℕ × ℕ) → Type 0
+IsSwept count old kept = (gone : List (ℕ × ℕ)) × (old ≡ kept ++ gone) × ((t : ℕ × ℕ) → Has gone t → t.1 + 3 ≤ count) × ((ts : List (ℕ × ℕ)) (t : ℕ × ℕ) → kept ≡ ts ++ t ∷ [] → count < t.1 + 3)
+
+-- the same of the items themselves
+abbrev pub IsSweptOf : ℕ → List Noted → List Noted → Type 0
+IsSweptOf count old kept = (gone : List Noted) × (old ≡ kept ++ gone) × ((n : Noted) → Has gone n → n.note + 3 ≤ count) × NoneDue count kept
+
+-- the seat acts for p, releases nothing, and may make steps on items
+abbrev pub CanRelease : ℕ → Acting → Type 0
+CanRelease p d = (d.kind ≡ 1) × (d.number ≡ p) × (is_ready d.known ≡ true) × (d.releasing ≡ 0)
+
+-- the owners that an item holds, which are first in hand, are released under open guards
+abbrev pub GivesUpUnder : {T S : Type 0} → (T → List (ℕ × ℕ)) → T → Me S Acting → Me S Acting → Type 0
+GivesUpUnder holds item m m' = (hs os : List Owner) → holds item ≡ map told hs → m.0.hand ≡ hs ++ os → (ws : List Garbage) × (ls : List Lease) × AreAt m.0.leases ls × (m' ≡ (record m.0 { hand = os; leases = ls; waits = ws }, m.1))

@@ -1,0 +1,149 @@
+//! Collecting items apart from the bags of the participants.
+
+ghost use Rattle.std.specs.Prelude.{◌≡◌, ◌+◌, ◌<◌, ◌≤◌, ◌∷◌, [], ◌||◌, ℕ, List, cond, length, nat_lt, IfOk};
+ghost use Rattle.std.specs.VecDeque.{deque_capacity};
+ghost use Rattle.domain_table.specs.Views.{gathering};
+ghost use Rattle.domain_garbage.specs.Bag.{Notes, bag_in};
+
+use crate::domain::Domain;
+use crate::guard::Guard;
+use crate::holds::Holds;
+use crate::local::Local;
+use crate::reclaiming::sweep;
+use crate::shared::Shared;
+use calm::Calm;
+use domain_garbage::private::{
+    Noted, flag_waiting, hand_all, new_bag, part_bag, put_in, reread, take_bag,
+};
+use domain_table::board::Acting;
+use domain_table::owners::take_in;
+use sdd_base::sizes::Sizes;
+use std::alloc::AllocError;
+use std::collections::VecDeque;
+
+/// Items that wait beside the bags of the participants, each with the count of raises at which it was collected. It must be
+/// spent by `hand_over`: until then nobody else reclaims what is in it, and what is in it as its place is closed is let go
+/// without being dropped.
+pub struct PrivateCollector {
+    pub(crate) sizes: Sizes,
+    pub(crate) waiting: VecDeque<Noted>,
+    pub(crate) seat: Calm<Acting>,
+    ghost at: { seat.badge.views ≡ gathering (bag_in seat.badge.views) ∷ [] },
+    ghost told: { Notes (bag_in seat.badge.views) waiting.items },
+    ghost room: { deque_capacity waiting ≡ sizes.slots },
+}
+
+impl PrivateCollector {
+    ghost use Rattle.sdd_domain.specs.Tokens.{place_of, home_of, own_of, born_of, waiting_of, nest_of, nest_in, IsInNest};
+    ghost use Rattle.sdd_domain.specs.Sharing.{kept_in};
+    ghost use Rattle.sdd_domain.specs.Collecting.{collects_in, held_in, slot_in, IsSwept};
+
+    /// An empty collector, with room for as many items as the place has slots: 16 bytes a slot.
+    pub fn new<T: Holds>(domain: &Domain<T>) -> Result<PrivateCollector, AllocError>
+        ensures home { IfOk result (λ c. collects_in c ≡ place_of domain.now) }
+        ensures empty { IfOk result (λ c. held_in c ≡ []) }
+    {
+        let sizes = domain.sizes;
+        let waiting = VecDeque::with_capacity(domain.heap, sizes.slots)?;
+        let seat = new_bag(domain.words());
+        Ok(PrivateCollector {
+            sizes,
+            waiting,
+            seat,
+        })
+    }
+
+    /// Reads the count of raises again, reclaims what was noted three or more below it, and then gives an owner back: in Rust
+    /// that is `collect_shared(&mut self, ..)`. Whether it was the last one: then the item is in the collector, with that
+    /// count as its note. What reclaimed items held is released, and may wait for the participant. It takes no memory.
+    pub fn collect_shared<T: Holds>(
+        self,
+        shared: Shared<T>,
+        domain: &Domain<T>,
+        guard: &Guard,
+        local: &mut Local<T>,
+    ) -> (PrivateCollector, bool)
+        requires home { home_of local.old ≡ place_of domain.now }
+        requires mine { kept_in shared ≡ (place_of domain.now).0 }
+        requires place { collects_in self ≡ place_of domain.now }
+        requires nest { nest_of guard.now ≡ nest_in local.old }
+        requires open { 0 < (own_of local.old).nesting }
+        ensures home { collects_in result.0 ≡ collects_in self }
+        ensures held { (count : ℕ) × (kept : List (ℕ × ℕ)) × IsSwept count (held_in self) kept × (held_in result.0 ≡ cond result.1 ((slot_in shared, count) ∷ kept) kept) × (born_of local.old ≤ count) × (count ≤ born_of local.old + 1) }
+        ensures own { own_of local.new ≡ record (own_of local.old) { garbage = (own_of local.old).garbage || nat_lt 0 (waiting_of local.new) } }
+        ensures same { IsInNest local.old local.new × (born_of local.new ≡ born_of local.old) }
+    {
+        let PrivateCollector {
+            sizes,
+            mut waiting,
+            seat,
+        } = self;
+        let Local {
+            place,
+            number,
+            own,
+            bags,
+            rows,
+            ..
+        } = local;
+        let words = domain.words();
+        take_bag(words, place, seat);
+        let note = reread(words, place);
+        sweep(
+            words,
+            place,
+            &domain.sizes,
+            *number,
+            rows,
+            bags,
+            &mut waiting,
+            note,
+        );
+        let Shared { slot, part, seat } = shared;
+        take_in(words, place, seat);
+        let last = put_in(
+            words,
+            place,
+            &domain.sizes,
+            *number,
+            rows,
+            &mut waiting,
+            Noted { slot, note },
+            part,
+        );
+        let seat = part_bag(words, place);
+        flag_waiting(own, bags);
+        (
+            PrivateCollector {
+                sizes,
+                waiting,
+                seat,
+            },
+            last,
+        )
+    }
+
+    /// Ends the collector: the participant has retired what was in it.
+    pub fn hand_over<T: Holds>(self, domain: &Domain<T>, local: &mut Local<T>)
+        requires home { home_of local.old ≡ place_of domain.now }
+        requires place { collects_in self ≡ place_of domain.now }
+        ensures waits { waiting_of local.new ≡ waiting_of local.old + length (held_in self) }
+        ensures own { own_of local.new ≡ record (own_of local.old) { garbage = (own_of local.old).garbage || nat_lt 0 (waiting_of local.new) } }
+        ensures same { IsInNest local.old local.new × (born_of local.new ≡ born_of local.old) }
+    {
+        let PrivateCollector {
+            sizes: _,
+            waiting,
+            seat,
+        } = self;
+        let Local {
+            place,
+            own,
+            bags,
+            ..
+        } = local;
+        take_bag(domain.words(), place, seat);
+        hand_all(domain.words(), place, waiting, bags);
+        flag_waiting(own, bags);
+    }
+}
