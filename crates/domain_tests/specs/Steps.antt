@@ -2,12 +2,14 @@
 use Rattle.std.specs.Prelude.{◌≡◌, ◌<◌, [], Option}
 use Rattle.std.specs.Option.{ForSome}
 use Rattle.sdd_domain.specs.Cells.{cell_number}
+use Rattle.sdd_domain.specs.Collecting.{collects_in}
 use Rattle.sdd_domain.specs.Sharing.{kept_in}
 use Rattle.sdd_domain.specs.Tokens.{place_of, home_of, hand_of, own_of, cell_count, nest_of, nest_in, IsInNestButMisses}
 use Rattle.sdd_domain.specs.declared.atomic_shared.AtomicShared.{AtomicShared}
 use Rattle.sdd_domain.specs.declared.domain.Domain.{Domain}
 use Rattle.sdd_domain.specs.declared.guard.Guard.{Guard}
 use Rattle.sdd_domain.specs.declared.local.Local.{Local}
+use Rattle.sdd_domain.specs.declared.private_collector.PrivateCollector.{PrivateCollector}
 use Rattle.sdd_domain.specs.declared.shared.Shared.{Shared}
 
 -- a participant of the place, with no owner in its hand
@@ -31,6 +33,10 @@ IsOpen g l = (nest_of g ≡ nest_in l) × (0 < (own_of l).nesting)
 -- an owner of the place, or none
 abbrev pub IsOurs : {T : Type 0} → Domain T → Option (Shared T) → Type 0
 IsOurs d o = ForSome o (λ s. kept_in s ≡ (place_of d).0)
+
+-- a private collector of the place, or none
+abbrev pub IsMine : {T : Type 0} → Domain T → Option PrivateCollector → Type 0
+IsMine d o = ForSome o (λ c. collects_in c ≡ place_of d)
 
 -- a cell of the place, or none
 abbrev pub IsInside : {T : Type 0} → Domain T → Option AtomicShared → Type 0

@@ -6,6 +6,8 @@ mod cells;
 #[cfg(test)]
 mod clones;
 #[cfg(test)]
+mod collectors;
+#[cfg(test)]
 mod crowd;
 #[cfg(test)]
 mod domain;

@@ -8,7 +8,7 @@ use crate::domain::{self, end};
 use crate::stage::Stage;
 use crate::steps::{Act, Found, Part, Table, Task, View};
 use crate::views::Seen;
-use crate::{cells, clones, guard, items, owners, shares, tags, threads};
+use crate::{cells, clones, collectors, guard, items, owners, shares, tags, threads};
 use sdd_base::sizes::Sizes;
 use sdd_domain::domain::Domain;
 use sdd_domain::guard::Guard;
@@ -143,8 +143,8 @@ fn first_wrong<R: Threads + Abort + Sync>(
     None
 }
 
-/// All tables, by what they are about: counts and guards, participants, items, owners, cells, and tags.
-const TABLES: [Table; 44] = [
+/// All tables, by what they are about: counts and guards, participants, items, owners, cells, private collectors, and tags.
+const TABLES: [Table; 50] = [
     guard::EACH_RAISES,
     guard::ONCE_BESIDE_A_GUARD,
     guard::NOT_REGISTERED,
@@ -185,6 +185,12 @@ const TABLES: [Table; 44] = [
     shares::MADE,
     shares::SHARED_BY_THREADS,
     clones::BY_THREADS,
+    collectors::HANDED_OVER,
+    collectors::THREE_COUNTS,
+    collectors::OTHERS_LEFT,
+    collectors::BESIDE_A_GUARD,
+    collectors::TAKEN_OVER,
+    collectors::BY_THREADS,
     tags::SWAPPED,
     tags::EQUAL,
     tags::REFUSED_FOR_THE_TAG,

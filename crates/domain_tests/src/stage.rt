@@ -3,9 +3,10 @@
 ghost use Rattle.std.specs.Prelude.{◌≡◌, IfSome};
 ghost use Rattle.std.specs.Option.{ForSome};
 ghost use Rattle.sdd_domain.specs.Tokens.{place_of, home_of, hand_of, own_of};
-ghost use Rattle.domain_tests.specs.Steps.{IsHome, Rests, Stays, IsOpen, IsOurs, IsInside};
+ghost use Rattle.domain_tests.specs.Steps.{IsHome, Rests, Stays, IsOpen, IsOurs, IsMine, IsInside};
 
 use crate::cells::{read, reclaim_all};
+use crate::collectors::{collected, handed_over};
 use crate::crowd::{Work, four};
 use crate::domain::member;
 use crate::guard::{pass, passes, raised};
@@ -16,6 +17,7 @@ use sdd_domain::atomic_shared::AtomicShared;
 use sdd_domain::domain::Domain;
 use sdd_domain::guard::Guard;
 use sdd_domain::local::Local;
+use sdd_domain::private_collector::PrivateCollector;
 use sdd_domain::refusal::RegisterRefused;
 use sdd_domain::shared::Shared;
 use std::mem;
@@ -76,6 +78,7 @@ pub(crate) struct Stage<'d> {
     third: Option<Shared<u64>>,
     pub(crate) cell: Option<AtomicShared>,
     pub(crate) spare: Option<AtomicShared>,
+    collector: Option<PrivateCollector>,
     /// How often threads did what they were to do when that was done last.
     pub(crate) sum: u32,
     ghost home: { IsHome domain.now here },
@@ -85,6 +88,7 @@ pub(crate) struct Stage<'d> {
     ghost last: { IsOurs domain.now third },
     ghost inside: { IsInside domain.now cell },
     ghost spared: { IsInside domain.now spare },
+    ghost collects: { IsMine domain.now collector },
 }
 
 impl<'d> Stage<'d> {
@@ -101,6 +105,7 @@ impl<'d> Stage<'d> {
             third: None,
             cell: None,
             spare: None,
+            collector: None,
             sum: 0,
         }
     }
@@ -244,6 +249,9 @@ impl<'d> Stage<'d> {
             }
             Act::Peek => self.peek(),
             Act::IsSum => told(self.peek() == Found::Is(u64::from(self.sum))),
+            Act::Gather => self.gather(),
+            Act::Collect(accelerated) => self.collect(accelerated),
+            Act::HandOver => self.hand_over(),
             Act::Join => self.join(),
             Act::Leave => self.leave(),
             Act::Alternate => self.alternate(),
@@ -260,6 +268,54 @@ impl<'d> Stage<'d> {
             Some(cell) => hands::item(read(self.domain, &mut self.here, cell).as_ref()),
             None => Found::Nothing,
         }
+    }
+
+    /// Has this private collector. One that was there is handed over.
+    fn put_collector(&mut self, collector: Option<PrivateCollector>)
+        requires { IsMine self.old.domain.now collector }
+        ensures stays { Stays self.old.here self.new.here }
+    {
+        let older = mem::replace(&mut self.collector, collector);
+        handed_over(self.domain, &mut self.here, older);
+    }
+
+    /// Makes a private collector: whether memory was there.
+    fn gather(&mut self) -> Found
+        ensures stays { Stays self.old.here self.new.here }
+    {
+        match PrivateCollector::new(self.domain) {
+            Ok(collector) => {
+                self.put_collector(Some(collector));
+                Found::Yes
+            }
+            Err(_) => Found::No,
+        }
+    }
+
+    fn hand_over(&mut self) -> Found
+        ensures stays { Stays self.old.here self.new.here }
+    {
+        self.put_collector(None);
+        Found::Nothing
+    }
+
+    /// Collects the owner in hand under a guard of its own.
+    fn collect(&mut self, accelerated: bool) -> Found
+        requires { (own_of self.old.here).nesting ≡ 0 }
+        ensures closed { (own_of self.new.here).nesting ≡ 0 }
+        ensures home { home_of self.new.here ≡ home_of self.old.here }
+    {
+        let Some(owner) = self.hand.take() else {
+            return Found::Nothing;
+        };
+        let Some(collector) = self.collector.take() else {
+            self.put(Some(owner));
+            return Found::Nothing;
+        };
+        let (domain, local) = (self.domain, &mut self.here);
+        let (collector, last) = collected(domain, local, collector, owner, accelerated);
+        self.put_collector(Some(collector));
+        told(last)
     }
 
     /// Has this participant beside the one that acts. One that was there is ended.
@@ -336,6 +392,7 @@ impl<'d> Stage<'d> {
             third,
             cell,
             spare,
+            collector,
             sum: _,
         } = self;
         here.end(domain);
@@ -349,6 +406,7 @@ impl<'d> Stage<'d> {
             third,
             cell,
             spare,
+            collector,
             sum,
         }
     }
@@ -366,6 +424,7 @@ impl<'d> Stage<'d> {
             third,
             cell,
             spare,
+            collector,
             sum: _,
         } = self;
         let mut here = here;
@@ -378,6 +437,7 @@ impl<'d> Stage<'d> {
             hands::retire(domain, &mut here, cell),
             hands::retire(domain, &mut here, spare),
         ];
+        handed_over(domain, &mut here, collector);
         ended(domain, there);
         here.end(domain);
         owners == [Found::Nothing; 3] && cells == [Found::Nothing; 2]

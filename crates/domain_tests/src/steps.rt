@@ -50,6 +50,12 @@ pub(crate) enum Act {
     /// How many slots are in use, and the participant's number.
     Slots,
     Number,
+    /// Makes a private collector, if memory is there. One that was there is handed over.
+    Gather,
+    /// Collects the owner in hand under a guard of its own, accelerated or not: whether it was the last one.
+    Collect(bool),
+    /// Hands the collector over.
+    HandOver,
     /// Opens a guard and closes it, accelerated or not: the epoch that it saw.
     Pass(bool),
     /// The same so many times: nothing is told.
@@ -92,6 +98,8 @@ pub(crate) enum Task {
     Shares,
     /// Takes the owner out of the cell, if it is there, makes two of it, and puts one back.
     Clones,
+    /// Collects a thousand items, where slots are free, into a private collector.
+    Collects,
     /// Defers a job.
     Defers,
 }

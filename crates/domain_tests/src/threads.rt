@@ -7,6 +7,7 @@ ghost use Rattle.domain_tests.specs.Steps.{IsHome, IsInside};
 
 use crate::cells::{adds_one, keeps};
 use crate::clones::clones;
+use crate::collectors::collecting;
 use crate::guard::pass;
 use crate::hands::{item, told};
 use crate::items::places;
@@ -136,6 +137,7 @@ pub(crate) fn done(scene: &Scene, task: Task) -> Option<u32> {
                 None
             };
         }
+        Task::Collects => return collecting(scene.domain),
         Task::ComesAndGoes => (1000, 1),
         Task::Counts => (1, 4000),
         _ => (1, 1000),
