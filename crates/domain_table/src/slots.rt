@@ -42,30 +42,25 @@ impl<T, H: Holding<T>> Play<Home<T>, Acting> for OnPlace<H> {
     ghost then = { place_then (IsIn H.holds) };
 }
 
-/// Whether the item in `slot` has an owner, if there is one.
-fn has_owner<T, H: Holding<T>>(words: &Words<T, H>, sizes: &Sizes, slot: usize) -> bool
-    requires { (words.now.key.sizes ≡ sizes.now) × IsSized sizes.now × (slot < sizes.now.slots) × (all_words sizes.now ≤ words.now.table_id.words) }
-{
-    words.peek(8 * sizes.participants + 16 + sizes.cells + slot) > 2
-}
-
-/// Whether any item has an owner.
-pub fn any_owned<T, H: Holding<T>>(words: &Words<T, H>, sizes: &Sizes) -> bool
-    requires { (words.now.key.sizes ≡ sizes.now) × IsSized sizes.now × (all_words sizes.now ≤ words.now.table_id.words) }
-{
-    for slot in 0..sizes.slots {
-        if has_owner(words, sizes, slot) {
-            return true;
-        }
-    }
-    false
-}
-
 /// Whether `slot` isn't vacant: it has an item, or is filled or emptied.
-pub fn is_used<T, H: Holding<T>>(words: &Words<T, H>, sizes: &Sizes, slot: usize) -> bool
+fn is_used<T, H: Holding<T>>(words: &Words<T, H>, sizes: &Sizes, slot: usize) -> bool
     requires { (words.now.key.sizes ≡ sizes.now) × IsSized sizes.now × (slot < sizes.now.slots) × (all_words sizes.now ≤ words.now.table_id.words) }
 {
     words.peek(8 * sizes.participants + 16 + sizes.cells + slot) > 0
+}
+
+/// How many slots aren't vacant, each looked at in one step of its own.
+pub fn count_used<T, H: Holding<T>>(words: &Words<T, H>, sizes: &Sizes) -> usize
+    requires { (words.now.key.sizes ≡ sizes.now) × IsSized sizes.now × (all_words sizes.now ≤ words.now.table_id.words) }
+    ensures { result ≤ sizes.now.slots }
+{
+    let mut used = 0;
+    for slot in 0..sizes.slots {
+        if is_used(words, sizes, slot) {
+            used += 1;
+        }
+    }
+    used
 }
 
 /// Tries once to claim `slot`, for `participants` and `cells` of them. Where it was vacant it is the participant's to

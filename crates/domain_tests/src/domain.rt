@@ -4,6 +4,7 @@ ghost use Rattle.std.specs.Prelude.{◌≡◌, []};
 ghost use Rattle.sdd_domain.specs.Tokens.{place_of, home_of, hand_of, own_of};
 
 use crate::cells::read;
+use crate::collectors::collected;
 use crate::items::sized;
 use crate::steps::Act::{Join, Number};
 use crate::steps::Found::{Is, No};
@@ -13,6 +14,7 @@ use sdd_domain::atomic_shared::AtomicShared;
 use sdd_domain::domain::Domain;
 use sdd_domain::holds::Holds;
 use sdd_domain::local::Local;
+use sdd_domain::private_collector::PrivateCollector;
 use sdd_domain::refusal::RegisterRefused;
 use sdd_domain::shared::Shared;
 use std::process::Abort;
@@ -114,6 +116,24 @@ fn handed_back_twice<R: Abort>(
     (domain, (item, last), (owned, retired))
 }
 
+/// The place, which is handed back while a collector holds an item, and not once it is handed over.
+fn handed_back_from_a_collector<R: Abort>(rt: &R, domain: Domain<u64>) -> (Domain<u64>, bool) {
+    let mut local = member(rt, &domain);
+    let Ok(collector) = PrivateCollector::new(&domain) else {
+        panic!(rt; "memory is there");
+    };
+    let Ok(owner) = Shared::new(1, &domain, &mut local) else {
+        panic!(rt; "a slot is free");
+    };
+    let (collector, last) = collected(&domain, &mut local, collector, owner, false);
+    local.end(&domain);
+    let domain = handed_back(rt, domain);
+    let mut local = member(rt, &domain);
+    collector.hand_over(&domain, &mut local);
+    local.end(&domain);
+    (domain, last)
+}
+
 #[test]
 fn participants_are_registered_from_the_lowest_and_a_place_is_handed_back_while_something_is_out(
     rt: HostRuntime,
@@ -126,7 +146,11 @@ fn participants_are_registered_from_the_lowest_and_a_place_is_handed_back_while_
     let domain = handed_back(&rt, domain);
     one.end(&domain);
     let (domain, owner, cell) = handed_back_twice(&rt, domain);
+    let (domain, collected) = handed_back_from_a_collector(&rt, domain);
     end(&rt, domain);
     assert!(rt; registered == ([0, 1, 2], RegisterRefused::Full, 1));
-    assert_eq!(rt; (owner, cell), ((1, true), (Some(1), true)));
+    assert_eq!(rt;
+        (owner, cell, collected),
+        ((1, true), (Some(1), true), true)
+    );
 }

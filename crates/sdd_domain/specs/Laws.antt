@@ -1,11 +1,16 @@
 -- what stands between any two steps of any threads, in a place of items of some type
-use Rattle.std.specs.Prelude.{◌≡◌, ℕ, ◌+◌, ◌≤◌, List, slice_index}
+use Rattle.std.specs.Prelude.{◌≡◌, ◌≢◌, ℕ, ◌+◌, ◌<◌, ◌≤◌, List, slice_index}
 use mathlib.Core.Option.{some}
 use lib.ListN.{get_elem?}
 use Rattle.atomic_table.specs.Table.{State}
 use Rattle.sdd_steps.specs.declared.participant.Phase.TheVariants.{Opened}
+use Rattle.sdd_steps.specs.declared.item.Item.{Item}
+use Rattle.sdd_steps.specs.declared.item.ItemState.TheVariants.{Live, Reclaimed}
 use Rattle.sdd_steps.specs.State as steps
+use Rattle.sdd_steps.specs.State.{At, Has}
 use Rattle.sdd_steps.specs.Invariant.{Inv, Safe}
+use Rattle.sdd_homes.specs.declared.Lease.{Lease}
+use Rattle.sdd_homes.specs.declared.Owner.{Owner}
 use Rattle.domain_table.specs.Contents.{IsIn}
 use Rattle.domain_table.specs.declared.board.Home.{Home}
 use Rattle.domain_table.specs.Layout.{count_word}
@@ -21,3 +26,13 @@ ShowsSafe T holds = (plan : Plan) (s : State (Home T) Acting) → Shows (IsIn ho
 abbrev pub RaisedAtMostOnce : (T : Type 0) → (T → List (ℕ × ℕ)) → Type 0
 RaisedAtMostOnce T holds = (plan : Plan) (s : State (Home T) Acting) (seat : ℕ) (v : Acting) (e : ℕ) → Shows (IsIn holds) plan s → get_elem? s.views seat ≡ some v → v.kind ≡ 1 → v.known.phase ≡ Opened e
     → (e ≤ v.born) × (v.born ≤ slice_index s.words count_word) × (slice_index s.words count_word ≤ v.born + 1)
+
+-- what the seat of a participant has leased is an item of that round, which isn't reclaimed
+abbrev pub LeasedStays : (T : Type 0) → (T → List (ℕ × ℕ)) → Type 0
+LeasedStays T holds = (plan : Plan) (s : State (Home T) Acting) (seat : ℕ) (v : Acting) (l : Lease) → Shows (IsIn holds) plan s → get_elem? s.views seat ≡ some v → v.kind ≡ 1 → Has v.leases l
+    → (t : steps.State) × (it : Item) × Runs (beginning plan) t × At t.items l.item it × (it.value ≡ l.round) × ((q : ℕ) → it.state ≢ Reclaimed q)
+
+-- what a seat has an owner of is an item of that round, which is live
+abbrev pub OwnedStays : (T : Type 0) → (T → List (ℕ × ℕ)) → Type 0
+OwnedStays T holds = (plan : Plan) (s : State (Home T) Acting) (seat : ℕ) (v : Acting) (o : Owner) → Shows (IsIn holds) plan s → get_elem? s.views seat ≡ some v → Has v.hand o
+    → (t : steps.State) × (it : Item) × Runs (beginning plan) t × At t.items o.item it × (it.value ≡ o.round) × (it.state ≡ Live) × (0 < it.owners)

@@ -16,8 +16,7 @@ use sdd_base::tag::Tag;
 use std::sync::atomic::Ordering;
 use tally::Tally;
 
-/// Takes a cell that nobody has: each of those of the place is tried once. Where each was taken when it was tried, that is
-/// a miss.
+/// Takes a cell that nobody has: each of the place is tried once. Where each was taken when it was tried, that is a miss.
 fn take_cell<T: Holds>(domain: &Domain<T>, misses: &mut Tally) -> Option<usize>
     ensures inside { IfSome result (λ c. c < cell_count domain.now) }
     ensures hit { IfSome result (λ c. misses.new.count ≡ misses.old.count) }
@@ -252,8 +251,7 @@ impl AtomicShared {
         self.load(domain, guard, local).get_shared(domain, local)
     }
 
-    /// Swaps what the cell owns and its tag, in one step: the owner and the tag go into it, and those that it had come
-    /// out.
+    /// Swaps what the cell owns and its tag, in one step: the owner and the tag go in, and those that it had come out.
     pub fn swap<T: Holds>(
         &self,
         new: (Option<Shared<T>>, Tag),

@@ -14,7 +14,7 @@ use domain_table::board::Plan;
 use domain_table::first_words::{free_cells, words_from};
 use domain_table::homes::{clear, empty, homes_from};
 use domain_table::ledger::Ledger;
-use domain_table::slots::{any_owned, is_used};
+use domain_table::slots::count_used;
 use domain_table::steps::{any_claimed, claim, learn, sit};
 use sdd_base::sizes::Sizes;
 use std::alloc::{AllocError, Global};
@@ -166,18 +166,11 @@ impl<T: Holds> Domain<T> {
     pub fn slots_in_use(&self) -> usize
         ensures { result ≤ slot_count self.now }
     {
-        let mut used = 0;
-        for slot in 0..self.sizes.slots {
-            if is_used(self.words(), &self.sizes, slot) {
-                used += 1;
-            }
-        }
-        used
+        count_used(self.words(), &self.sizes)
     }
 
-    /// Ends the place, and drops what still waits, with what that holds. It is handed back while a `Local` or an owner is
-    /// out, and where memory is refused that reclaiming what waits takes, if that holds owners; what waits and holds none is
-    /// let go then without being dropped.
+    /// Ends the place, and drops what still waits, with what that holds. It is handed back while a `Local`, an owner or
+    /// what a collector holds is out, and where memory is refused that reclaiming what waits takes.
     pub fn close(self) -> Result<(), Domain<T>>
         ensures back { IfErr result (λ d. (place_of d ≡ place_of self) × (participants_of d ≡ participants_of self) × (first_of d ≡ first_of self)) }
     {
@@ -185,7 +178,7 @@ impl<T: Holds> Domain<T> {
             return Err(self);
         }
         self.reclaim_left();
-        if any_owned(self.words(), &self.sizes) {
+        if self.slots_in_use() > 0 {
             return Err(self);
         }
         let Domain {

@@ -22,8 +22,7 @@ use std::alloc::AllocError;
 use std::collections::VecDeque;
 
 /// Items that wait beside the bags of the participants, each with the count of raises at which it was collected. It must be
-/// spent by `hand_over`: until then nobody else reclaims what is in it, and what is in it as its place is closed is let go
-/// without being dropped.
+/// spent by `hand_over`: until then nobody else reclaims what is in it, and its place isn't closed.
 pub struct PrivateCollector {
     pub(crate) sizes: Sizes,
     pub(crate) waiting: VecDeque<Noted>,
