@@ -1,6 +1,5 @@
 //! How many comparisons a look-up makes, by keys that count them.
 
-ghost use Rattle.version_views.specs.Sizes.{IsStoreSized};
 ghost use Rattle.ordered_index.specs.State.{IsSessionOf};
 
 use leaf_array::Array;
@@ -107,108 +106,105 @@ fn upserts<'c>(
     Ok(writes)
 }
 
-// What the look-ups of a number answer: its value twice, and twice whether it is there; and the most comparisons that one of
-// them made.
-fn look_up<'c, const S: usize>(
+// Whether each look-up of a number finds this value, or nothing, by so many comparisons at most.
+fn is_looked_up<'c, const S: usize>(
     index: &LocalIndex<CountedKey<'c>, u64, S>,
     session: &Session<CountedKey<'c>, u64>,
-    count: &'c Cell<u64>,
-    number: u64,
-) -> ([Option<u64>; 2], [bool; 2], u64)
+    key: &CountedKey<'c>,
+    wanted: Option<u64>,
+    most: u64,
+) -> bool
     requires { IsSessionOf index.now session.now }
 {
     let mut steps = Steps::new();
-    let key = CountedKey { number, count };
+    let count = key.count;
     count.set(0);
-    let value = index.get(session, &key).copied();
+    let value = index.get(session, key).copied() == wanted;
     let first = count.get();
     count.set(0);
-    let counted = index.get_counted(session, &key, &mut steps).copied();
+    let counted = index.get_counted(session, key, &mut steps).copied() == wanted;
     let second = count.get();
     count.set(0);
-    let there = index.contains_counted(session, &key, &mut steps);
+    let there = index.contains_counted(session, key, &mut steps) == wanted.is_some();
     let third = count.get();
     count.set(0);
-    let found = index.contains(session, &key);
-    let most = first.max(second).max(third).max(count.get());
-    ([value, counted], [there, found], most)
+    let found = index.contains(session, key) == wanted.is_some();
+    let made = first.max(second).max(third).max(count.get());
+    value && counted && there && found && made <= most
 }
 
-// Looks up the keys from 0 to one above the last, where those from 1 on are there: each look-up answers as the list does, and
-// makes so many comparisons at most.
-fn look_up_all<'c, R: Abort, const S: usize>(
-    rt: &R,
+// Whether the look-ups of the keys from 0 to one above the last answer as the list does, where those from 1 on are there, each
+// by so many comparisons at most.
+fn are_looked_up<'c, const S: usize>(
     index: &LocalIndex<CountedKey<'c>, u64, S>,
     session: &Session<CountedKey<'c>, u64>,
     count: &'c Cell<u64>,
     last: u64,
     most: u64,
-)
+) -> bool
     requires { IsSessionOf index.now session.now }
 {
+    let mut right = true;
     for number in 0..=last.saturating_add(1) {
         let there = 1 <= number && number <= last;
         let wanted = if there { Some(number) } else { None };
-        let (values, found, made) = look_up(index, session, count, number);
-        assert!(rt; values == [wanted; 2] && found == [there; 2] && made <= most);
+        let key = CountedKey { number, count };
+        right = is_looked_up(index, session, &key, wanted, most) && right;
     }
+    right
 }
 
-// Looks up keys in an index of so many, which one commit puts in.
+// An index of so many keys, which one commit puts in, if there are any.
+fn index_of<'c, R: Abort, const S: usize>(
+    rt: &R,
+    alloc: Global,
+    count: &'c Cell<u64>,
+    slots: usize,
+    last: u64,
+) -> LocalIndex<CountedKey<'c>, u64, S> {
+    if slots == 0 || slots > 1_000 || S == 0 || S > 225 {
+        panic!(rt; "a small index");
+    }
+    let mut index = LocalIndex::new(alloc, 1, slots).expect(rt, ROOM);
+    if last > 0 {
+        let writes = upserts(alloc, count, last).expect(rt, ROOM);
+        if index.commit(&Receipt::blank(alloc), writes).is_err() {
+            panic!(rt; "slots are free");
+        }
+    }
+    index
+}
+
+// Whether keys are looked up by so many comparisons at most in an index of so many.
 fn look_up_among<R: Abort, const S: usize>(
     rt: &R,
     alloc: Global,
     slots: usize,
     last: u64,
     most: u64,
-)
-    requires { IsStoreSized 1 slots S }
-{
+) -> bool {
     let count = Cell::new(0u64);
-    let mut index: LocalIndex<CountedKey<'_>, u64, S> = LocalIndex::new(alloc, 1, slots).expect(
-        rt, ROOM,
-    );
-    let writes = upserts(alloc, &count, last).expect(rt, ROOM);
-    assert!(rt; index.commit(&Receipt::blank(alloc), writes).is_ok());
+    let mut index = index_of::<R, S>(rt, alloc, &count, slots, last);
     let session = index.open().expect(rt, "a free place");
-    look_up_all(rt, &index, &session, &count, last, most);
+    let right = are_looked_up(&index, &session, &count, last, most);
     let _receipt = index.close_session(session);
     match index.close() {
-        Ok(()) => {}
+        Ok(()) => right,
         Err(_open) => panic!(rt; "a session is open"),
     }
 }
 
-// 1,000 pairs lie in at most 9 segments of 225 pairs: 4 binary digits.
+// 1,000 pairs lie in at most 9 segments of 225 pairs: 4 binary digits. 100 pairs lie in 100 segments of one pair: 7 binary
+// digits. Where there is no segment, nothing is compared.
 #[test]
-fn a_look_up_among_a_thousand_keys_makes_at_most_34_comparisons(rt: HostRuntime) {
-    look_up_among::<_, 225>(&rt, rt.alloc(), 100, 1_000, 34);
-}
-
-// 100 pairs lie in 100 segments of one pair: 7 binary digits.
-#[test]
-fn a_look_up_among_a_hundred_segments_makes_at_most_37_comparisons(rt: HostRuntime) {
-    look_up_among::<_, 1>(&rt, rt.alloc(), 105, 100, 37);
-}
-
-#[test]
-fn a_look_up_in_no_segment_makes_no_comparison(rt: HostRuntime) {
-    let count = Cell::new(0u64);
-    let mut index: LocalIndex<CountedKey<'_>, u64, 225> = LocalIndex::new(rt.alloc(), 1, 1).expect(
-        &rt, ROOM,
-    );
-    let session = index.open().expect(&rt, "a free place");
-    let key = CountedKey {
-        number: 1,
-        count: &count,
-    };
-    let found = index.get(&session, &key).is_some() || index.contains(&session, &key);
-    let _receipt = index.close_session(session);
-    assert!(rt; !found && count.get() == 0);
-    match index.close() {
-        Ok(()) => {}
-        Err(_open) => panic!(rt; "a session is open"),
-    }
+fn a_look_up_makes_at_most_30_comparisons_and_one_a_binary_digit_of_the_segments(rt: HostRuntime) {
+    let alloc = rt.alloc();
+    let right = [
+        look_up_among::<_, 225>(&rt, alloc, 100, 1_000, 34),
+        look_up_among::<_, 1>(&rt, alloc, 105, 100, 37),
+        look_up_among::<_, 225>(&rt, alloc, 1, 0, 0),
+    ];
+    assert!(rt; right == [true; 3]);
 }
 
 // A tree of the keys from 1 to 225.
@@ -297,8 +293,5 @@ fn array_is_looked_up() -> bool {
 
 #[test]
 fn a_look_up_in_an_array_and_in_a_flat_tree_makes_few_comparisons(rt: HostRuntime) {
-    assert_eq!(rt;
-        (tree_is_looked_up(rt.alloc()), array_is_looked_up()),
-        (true, true)
-    );
+    assert!(rt; tree_is_looked_up(rt.alloc()) && array_is_looked_up());
 }

@@ -1,18 +1,13 @@
 //! Calls with many writes, many reads and many pairs: a body that gives up on them has another answer.
 
-ghost use Rattle.ordered_index.specs.State.{IsSessionOf};
-
-use crate::slots::end;
+use crate::scene::Scene;
+use crate::table::Call::{Close, Open};
+use crate::table::Told::{All, Audited, Closed, Opened};
+use crate::table::{Call, Told, is_told};
 use ordered_index::{
-    Answer, Audit, LocalIndex, Query, Receipt, Recorded, Reply, Seq, Session, Write,
+    Answer, Audit, DeskCall, Query, ReadSet, Receipt, Recorded, Reply, Seq, Write,
 };
 use std::alloc::{AllocError, Global};
-use std::process::Abort;
-
-// Indexes of numbers, with large segments.
-type Wide = LocalIndex<u64, u64, 225>;
-
-const ROOM: &str = "memory";
 
 const WRITES: u64 = 100_000;
 
@@ -34,70 +29,62 @@ fn look_ups(
     number: u64,
     count: u64,
     found: bool,
-) -> Result<Receipt<u64, u64>, AllocError> {
+) -> Result<ReadSet<u64, u64>, AllocError> {
     let mut reads: Vec<Recorded<u64, u64>> = Vec::with_capacity(alloc, count as usize)?;
     for key in 0..count {
         let told = if found { Some(key) } else { None };
         reads.push((Query::Get(key), Answer::Get(told)))?;
     }
-    Ok(Receipt {
+    Ok(ReadSet::Receipt(Receipt {
         number,
         reads: Seq::from_vec(reads),
-    })
+    }))
 }
 
-// Commits inserts of so many keys on a receipt, and looks what is told.
-fn commit<R: Abort>(
-    rt: &R,
-    alloc: Global,
-    index: &mut Wide,
-    receipt: &Receipt<u64, u64>,
-    count: u64,
-) {
-    let writes = inserts(alloc, count).expect(rt, ROOM);
-    let accepted = index
-        .commit(receipt, writes)
-        .expect(rt, "an accepted commit");
-    let replies = accepted.replies.as_slice();
-    let inserted = replies.iter().all(|reply| *reply == Reply::Inserted);
-    assert!(rt; accepted.number == 1 && replies.len() as u64 == count && inserted);
+// Whether a call that isn't named by a row is told this.
+fn is_answered(
+    scene: &mut Scene<225>,
+    call: DeskCall<u64, u64>,
+    told: Told,
+) -> Result<bool, AllocError> {
+    let reply = scene.reply(call)?;
+    is_told(scene.alloc, &reply, Call::Slots, told)
 }
 
 // Whether the list of a session has the keys below a number, each its own value, and no other.
-fn has_all(index: &Wide, session: &Session<u64, u64>, count: u64) -> bool
-    requires { IsSessionOf index.now session.now }
-{
+fn has_all(scene: &Scene<225>, label: u64, count: u64) -> bool {
+    let Some(session) = scene.session(label) else {
+        return false;
+    };
     let mut next = 0u64;
     let mut in_order = true;
-    for (key, value) in index.iter(session) {
+    for (key, value) in scene.index.iter(session) {
         in_order = *key == next && *value == next && in_order;
         next = next.saturating_add(1);
     }
-    in_order && next == count && index.len(session) as u64 == count
+    in_order && next == count && scene.index.len(session) as u64 == count
 }
 
-// Looks whether the present list has the keys below a number, and no other.
-fn look<R: Abort>(rt: &R, index: &mut Wide, count: u64) {
-    let session = index.open().expect(rt, "a free place");
-    let all = has_all(index, &session, count);
-    let _receipt = index.close_session(session);
-    assert!(rt; all);
-}
-
-// Whether an audit finds that a receipt holds.
-fn is_right<R: Abort>(rt: &R, index: &Wide, receipt: &Receipt<u64, u64>) -> bool {
-    index.audit(receipt).expect(rt, ROOM) == Audit::Yes
+// Commits many writes on many reads; looks at the list; and audits what is there at the present number, and what holds no
+// more.
+fn committed(alloc: Global, scene: &mut Scene<225>) -> Result<[bool; 6], AllocError> {
+    let absent = look_ups(alloc, 0, READS, false)?;
+    let there = look_ups(alloc, 1, READS, true)?;
+    let commit = DeskCall::Commit(absent.clone()?, inserts(alloc, WRITES)?);
+    Ok([
+        is_answered(scene, commit, All(1, WRITES as usize, Reply::Inserted))?,
+        scene.answers(Open(1), Opened(1)),
+        has_all(scene, 1, WRITES),
+        scene.answers(Close(1), Closed(1, &[])),
+        is_answered(scene, DeskCall::Audit(there), Audited(Audit::Yes))?,
+        is_answered(scene, DeskCall::Audit(absent), Audited(Audit::Yes))?,
+    ])
 }
 
 #[test]
 fn many_writes_are_committed_on_many_reads(rt: HostRuntime) {
-    let alloc = rt.alloc();
-    let absent = look_ups(alloc, 0, READS, false).expect(&rt, ROOM);
-    let mut index = Wide::new(alloc, 1, 2_000).expect(&rt, ROOM);
-    commit(&rt, alloc, &mut index, &absent, WRITES);
-    look(&rt, &mut index, WRITES);
-    // an audit at the present number, and one of what holds no more
-    let there = look_ups(alloc, 1, READS, true).expect(&rt, ROOM);
-    assert!(rt; is_right(&rt, &index, &there) && is_right(&rt, &index, &absent));
-    end(&rt, index);
+    let mut scene = Scene::<225>::new(&rt, rt.alloc(), 1, 2_000, u64::MAX);
+    let found = committed(rt.alloc(), &mut scene);
+    scene.end(&rt);
+    assert!(rt; found == Ok([true; 6]));
 }

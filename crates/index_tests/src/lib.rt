@@ -19,6 +19,8 @@ mod reads;
 #[cfg(test)]
 mod refusals;
 #[cfg(test)]
+mod scene;
+#[cfg(test)]
 mod session;
 #[cfg(test)]
 mod slots;

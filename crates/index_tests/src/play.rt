@@ -1,5 +1,6 @@
 //! Lists of calls of a desk, played at once.
 
+use crate::scene::Scene;
 use crate::table::Call::{
     AuditOf, Close, Commit, CommitOf, CommitOn, Len, Number, Open, Read, Reclaim, Slots,
 };
@@ -9,33 +10,31 @@ use crate::table::Told::{
 };
 use crate::table::{Row, Told, desk_call, is_told};
 use ordered_index::Reply::Inserted;
-use ordered_index::{Audit, Cause, Desk, DeskCall, DeskReply, LocalIndex, play_all};
+use ordered_index::{Audit, Cause, DeskCall, DeskReply};
 use std::alloc::{AllocError, Global};
 use std::ops::Bound::Unbounded;
 use std::process::Abort;
 use versions::Write::Insert;
 
-// An index of numbers, with two pairs in a segment.
-type Numbers = LocalIndex<u64, u64, 2>;
-
-// The calls of a table.
-fn calls(alloc: Global, rows: &[Row]) -> Result<Vec<DeskCall<u64, u64>>, AllocError> {
+// The calls of a table, from a row on.
+fn calls(alloc: Global, rows: &[Row], from: usize) -> Result<Vec<DeskCall<u64, u64>>, AllocError> {
     let mut calls = Vec::new(alloc);
-    for (call, _) in rows {
-        calls.push(desk_call(alloc, *call)?)?;
+    for row in rows.iter().skip(from) {
+        calls.push(desk_call(alloc, row.0)?)?;
     }
     Ok(calls)
 }
 
-// How many replies are those that are wanted, before the first that isn't.
+// How many replies are those that are wanted from a row on, before the first that isn't.
 fn right(
     alloc: Global,
     replies: &[DeskReply<u64, u64>],
     rows: &[Row],
+    from: usize,
 ) -> Result<usize, AllocError> {
     let mut right = 0usize;
-    for (reply, (call, wanted)) in replies.iter().zip(rows) {
-        if !is_told(alloc, reply, *call, *wanted)? {
+    for (reply, row) in replies.iter().zip(rows.iter().skip(from)) {
+        if !is_told(alloc, reply, row.0, row.1)? {
             return Ok(right);
         }
         right = right.saturating_add(1);
@@ -43,36 +42,62 @@ fn right(
     Ok(right)
 }
 
-// The replies of an index with two places and sixteen slots.
-fn replies<R: Abort>(
-    rt: &R,
-    alloc: Global,
-    calls: Vec<DeskCall<u64, u64>>,
-) -> Vec<DeskReply<u64, u64>> {
-    let mut index = Numbers::new(alloc, 2, 16).expect(rt, "room for an index");
-    let mut desk = Desk::new(alloc, 2).expect(rt, "room for a desk");
-    let Ok(replies) = play_all(alloc, &mut index, &mut desk, calls) else {
-        panic!(rt; "memory was refused");
-    };
-    desk.end(&mut index);
-    match index.close() {
-        Ok(()) => replies,
-        Err(_open) => panic!(rt; "a session is open"),
+// The two of these, each made again where its memory was refused.
+fn calls_again(
+    scene: &mut Scene<2>,
+    rows: &[Row],
+    from: usize,
+) -> Result<Vec<DeskCall<u64, u64>>, AllocError> {
+    match calls(scene.alloc, rows, from) {
+        Ok(calls) => Ok(calls),
+        Err(AllocError) => {
+            scene.met = true;
+            calls(scene.alloc, rows, from)
+        }
     }
 }
 
-// Plays the calls of a table as one list, and compares the replies.
-fn plays<R: Abort>(rt: &R, alloc: Global, rows: &[Row]) {
-    let calls = calls(alloc, rows).expect(rt, "room for calls");
-    let replies = replies(rt, alloc, calls);
-    let right = right(alloc, &replies, rows).expect(rt, "room for what is wanted");
-    assert_eq!(rt;
-        (replies.len(), right),
-        (rows.len(), rows.len()),
-        "the first row that isn't right"
-    );
+fn right_again(
+    scene: &mut Scene<2>,
+    replies: &[DeskReply<u64, u64>],
+    rows: &[Row],
+    from: usize,
+) -> Result<usize, AllocError> {
+    match right(scene.alloc, replies, rows, from) {
+        Ok(right) => Ok(right),
+        Err(AllocError) => {
+            scene.met = true;
+            right(scene.alloc, replies, rows, from)
+        }
+    }
 }
 
+/// Plays the calls of a table as one list, and those from the one on that was refused memory again: how many have the replies
+/// that are wanted.
+pub(crate) fn played(scene: &mut Scene<2>, rows: &[Row]) -> Result<usize, AllocError> {
+    let all = calls_again(scene, rows, 0)?;
+    let replies = match scene.replies(all) {
+        Ok(replies) => return right_again(scene, &replies, rows, 0),
+        Err((replies, AllocError)) => replies,
+    };
+    scene.met = true;
+    let done = right_again(scene, &replies, rows, 0)?;
+    let rest = calls_again(scene, rows, done)?;
+    match scene.replies(rest) {
+        Ok(others) => Ok(done.saturating_add(right_again(scene, &others, rows, done)?)),
+        Err((_others, AllocError)) => Err(AllocError),
+    }
+}
+
+// The same of an index with two places and sixteen slots.
+fn plays<R: Abort>(rt: &R, alloc: Global, rows: &[Row]) -> Result<usize, AllocError> {
+    let mut scene = Scene::new(rt, alloc, 2, 16, u64::MAX);
+    let found = played(&mut scene, rows);
+    scene.end(rt);
+    found
+}
+
+// Slots are used by commits and reclaimed.
 const USED_AND_RECLAIMED: [Row; 6] = [
     (Slots, Told::Slots(1)),
     (Commit(&[Insert(1, 10)]), Accepted(1, &[Inserted])),
@@ -82,11 +107,7 @@ const USED_AND_RECLAIMED: [Row; 6] = [
     (Slots, Told::Slots(2)),
 ];
 
-#[test]
-fn slots_are_used_by_commits_and_reclaimed(rt: HostRuntime) {
-    plays(&rt, rt.alloc(), &USED_AND_RECLAIMED);
-}
-
+// Number and length are those of the session.
 const BY_SESSIONS: [Row; 10] = [
     (Commit(&[Insert(1, 10)]), Accepted(1, &[Inserted])),
     (Open(7), Opened(1)),
@@ -99,11 +120,6 @@ const BY_SESSIONS: [Row; 10] = [
     (Number(9), NoSession),
     (Len(9), NoSession),
 ];
-
-#[test]
-fn number_and_length_are_those_of_the_session(rt: HostRuntime) {
-    plays(&rt, rt.alloc(), &BY_SESSIONS);
-}
 
 // Calls that meet each reply but those of memory.
 const BY_LABELS: [Row; 20] = [
@@ -136,6 +152,12 @@ const BY_LABELS: [Row; 20] = [
 ];
 
 #[test]
-fn calls_are_played_by_labels(rt: HostRuntime) {
-    plays(&rt, rt.alloc(), &BY_LABELS);
+fn lists_of_calls_are_played_by_labels(rt: HostRuntime) {
+    let alloc = rt.alloc();
+    let found = [
+        plays(&rt, alloc, &USED_AND_RECLAIMED),
+        plays(&rt, alloc, &BY_SESSIONS),
+        plays(&rt, alloc, &BY_LABELS),
+    ];
+    assert_eq!(rt; found, [Ok(6), Ok(10), Ok(20)]);
 }

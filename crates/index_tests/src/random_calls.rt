@@ -1,15 +1,13 @@
 //! Lists of calls at random, made on an index and on plain lists, one for each number: both have to answer the same.
 
-ghost use Rattle.ordered_index.specs.Desk.{Serves};
-ghost use Rattle.version_views.specs.Sizes.{IsStoreSized};
-
 use crate::dice::{Dice, thrown};
 use crate::plain;
-use crate::table::{looked_up, read_of};
+use crate::scene::Scene;
+use crate::table::read_of;
 use leaf_array::plain::find_value;
 use ordered_index::{
-    Accepted, Answer, Audit, Cause, Desk, DeskCall, DeskReply, LocalIndex, Query, ReadSet, Receipt,
-    Recorded, Reply, Seq, Write, play_all,
+    Accepted, Answer, Audit, Cause, DeskCall, DeskReply, Query, ReadSet, Receipt, Recorded,
+    Refused, Seq, Write,
 };
 use std::alloc::{AllocError, Global};
 use std::process::Abort;
@@ -24,35 +22,34 @@ const ROUNDS: usize = 900;
 // The last number, low enough to be reached.
 const LAST: u64 = 24;
 
-// How often each kind of reply was met.
-#[derive(Drop)]
-struct Met {
-    accepted: usize,
-    // accepted with a list that no one segment has room for
-    several: usize,
-    // such a commit, with fewer slots than its version has: it took segments over
-    shared: usize,
-    conflicts: usize,
-    exhausted: usize,
-    no_slot: usize,
-    no_place: usize,
-    busy: usize,
-    no_session: usize,
-    older: usize,
-    unknown: usize,
-    broken: usize,
-}
+// What a list of calls has to meet, a bit each: an accepted commit; one with a list that no one segment has room for; such a
+// commit with fewer slots than its version has, which took segments over; the refusals; audits that find no list and that
+// find another answer; and a look at an older list.
+const ACCEPTED: u32 = 1;
 
-impl Met {
-    // Whether each kind of reply was met.
-    fn has_all(&self) -> bool {
-        let least = self.accepted.min(self.several).min(self.shared);
-        let refused = self.conflicts.min(self.exhausted).min(self.no_slot);
-        let unseated = self.no_place.min(self.busy).min(self.no_session);
-        let audited = self.unknown.min(self.broken).min(self.older);
-        least.min(refused).min(unseated).min(audited) > 0
-    }
-}
+const SEVERAL: u32 = 2;
+
+const SHARED: u32 = 4;
+
+const CONFLICT: u32 = 8;
+
+const EXHAUSTED: u32 = 16;
+
+const NO_SLOT: u32 = 32;
+
+const NO_PLACE: u32 = 64;
+
+const BUSY: u32 = 128;
+
+const NO_SESSION: u32 = 256;
+
+const UNKNOWN: u32 = 512;
+
+const BROKEN: u32 = 1024;
+
+const OLDER: u32 = 2048;
+
+const ALL: u32 = 4095;
 
 // A session: its label, its number, and what it recorded.
 #[derive(Drop)]
@@ -62,31 +59,42 @@ struct Sitting {
     reads: Vec<Recorded<u64, u64>>,
 }
 
-// What an index has to be: a list for each number, and the sessions.
+// What an index has to be: a list for each number, and the sessions; and what was met.
 #[derive(Drop)]
 struct Lists {
     lists: Vec<Seq<(u64, u64)>>,
     sessions: Vec<Sitting>,
-    met: Met,
+    met: u32,
 }
 
-// What a call has to be answered.
+// A call, the reply that the lists have, and the list that a commit leaves.
 #[derive(Drop)]
-enum Wanted {
-    Opened,
-    NoPlace,
-    Busy,
-    Closed(usize),
-    NoSession,
-    Answer(Query<u64>, Answer<u64, u64>),
-    Audit(Audit),
-    Number(usize),
-    Len(usize),
-    Slots,
-    Conflict(usize),
-    Exhausted,
-    // The list after the commit, and what its writes are told.
-    Made(Vec<(u64, u64)>, Vec<Reply>),
+struct Turn {
+    call: DeskCall<u64, u64>,
+    wanted: DeskReply<u64, u64>,
+    after: Vec<(u64, u64)>,
+}
+
+// What a call reads, by the session with the label.
+fn read_by(call: &DeskCall<u64, u64>) -> Result<Option<(u64, Query<u64>)>, AllocError> {
+    Ok(match call {
+        DeskCall::Get(label, key) => Some((*label, Query::Get(*key))),
+        DeskCall::Contains(label, key) => Some((*label, Query::Contains(*key))),
+        DeskCall::Range(label, lower, upper) => Some((
+            *label,
+            Query::Range(lower.clone()?, upper.clone()?),
+        )),
+        DeskCall::Locate(label, key) => Some((*label, Query::Locate(*key))),
+        _ => None,
+    })
+}
+
+// The writes of a call.
+fn writes_of(call: &DeskCall<u64, u64>) -> &[Write<u64, u64>] {
+    match call {
+        DeskCall::Commit(_, writes) => writes.as_slice(),
+        _ => &[],
+    }
 }
 
 impl Lists {
@@ -96,21 +104,12 @@ impl Lists {
         Ok(Lists {
             lists,
             sessions: Vec::new(alloc),
-            met: Met {
-                accepted: 0,
-                several: 0,
-                shared: 0,
-                conflicts: 0,
-                exhausted: 0,
-                no_slot: 0,
-                no_place: 0,
-                busy: 0,
-                no_session: 0,
-                older: 0,
-                unknown: 0,
-                broken: 0,
-            },
+            met: 0,
         })
+    }
+
+    fn meets(&mut self, met: u32) {
+        self.met |= met;
     }
 
     // The present number.
@@ -136,98 +135,162 @@ impl Lists {
         None
     }
 
-    fn wanted(&self, alloc: Global, call: &DeskCall<u64, u64>) -> Result<Wanted, AllocError> {
-        match call {
-            DeskCall::Open(label) => Ok(self.wanted_of_open(*label)),
-            // the dice throw no `Reclaim`: that is asked of the index itself
-            DeskCall::Reclaim | DeskCall::Slots => Ok(Wanted::Slots),
-            DeskCall::Commit(ReadSet::Session(label), writes) => match self.session(*label) {
-                Some(session) => self.wanted_of_commit(alloc, &session.reads, writes),
-                None => Ok(Wanted::NoSession),
-            },
-            DeskCall::Commit(ReadSet::Receipt(receipt), writes) => {
-                self.wanted_of_commit(alloc, receipt.reads.as_slice(), writes)
+    // The reply to a call that isn't a commit. Where none is wanted, no session has the label.
+    fn wanted(
+        &self,
+        alloc: Global,
+        call: &DeskCall<u64, u64>,
+        used: usize,
+    ) -> Result<Option<DeskReply<u64, u64>>, AllocError> {
+        Ok(match call {
+            DeskCall::Open(label) => Some(self.wanted_of_open(*label)),
+            DeskCall::Slots => Some(DeskReply::Slots(used)),
+            DeskCall::Audit(ReadSet::Receipt(receipt)) => {
+                Some(DeskReply::Audit(self.wanted_of_audit(alloc, receipt)?))
             }
-            DeskCall::Commit(ReadSet::Empty, writes) => self.wanted_of_commit(alloc, &[], writes),
-            DeskCall::Audit(ReadSet::Receipt(receipt)) => self.wanted_of_audit(alloc, receipt),
-            DeskCall::Audit(ReadSet::Empty) => Ok(Wanted::Audit(Audit::Yes)),
+            DeskCall::Audit(ReadSet::Empty) => Some(DeskReply::Audit(Audit::Yes)),
             DeskCall::Audit(ReadSet::Session(label))
             | DeskCall::Close(label)
             | DeskCall::Number(label)
-            | DeskCall::Len(label)
-            | DeskCall::Get(label, _)
-            | DeskCall::Contains(label, _)
-            | DeskCall::Range(label, _, _)
-            | DeskCall::Locate(label, _) => match self.session(*label) {
-                Some(session) => self.wanted_of_session(alloc, session, call),
-                None => Ok(Wanted::NoSession),
+            | DeskCall::Len(label) => match self.session(*label) {
+                Some(session) => Some(self.wanted_of_session(session, call)?),
+                None => None,
             },
+            _ => self.wanted_of_read(alloc, call)?,
+        })
+    }
+
+    fn wanted_of_open(&self, label: u64) -> DeskReply<u64, u64> {
+        if self.session(label).is_some() {
+            return DeskReply::Busy;
         }
+        if self.sessions.len() == PLACES {
+            return DeskReply::NoPlace;
+        }
+        DeskReply::Opened(self.number() as u64)
     }
 
     fn wanted_of_session(
         &self,
-        alloc: Global,
         session: &Sitting,
         call: &DeskCall<u64, u64>,
-    ) -> Result<Wanted, AllocError> {
-        let query = match call {
-            DeskCall::Close(_) => return Ok(Wanted::Closed(session.number)),
-            DeskCall::Number(_) => return Ok(Wanted::Number(session.number)),
-            DeskCall::Len(_) => return Ok(Wanted::Len(self.list(session.number).len())),
-            DeskCall::Get(_, key) => Query::Get(*key),
-            DeskCall::Contains(_, key) => Query::Contains(*key),
-            DeskCall::Range(_, lower, upper) => Query::Range(lower.clone()?, upper.clone()?),
-            DeskCall::Locate(_, key) => Query::Locate(*key),
+    ) -> Result<DeskReply<u64, u64>, AllocError> {
+        Ok(match call {
+            DeskCall::Close(_) => DeskReply::Closed(Receipt {
+                number: session.number as u64,
+                reads: Seq::from_vec(session.reads.clone()?),
+            }),
+            DeskCall::Number(_) => DeskReply::Number(session.number as u64),
+            DeskCall::Len(_) => DeskReply::Len(self.list(session.number).len()),
             // what a session read itself holds of its list
-            _ => return Ok(Wanted::Audit(Audit::Yes)),
+            _ => DeskReply::Audit(Audit::Yes),
+        })
+    }
+
+    fn wanted_of_read(
+        &self,
+        alloc: Global,
+        call: &DeskCall<u64, u64>,
+    ) -> Result<Option<DeskReply<u64, u64>>, AllocError> {
+        let Some((label, query)) = read_by(call)? else {
+            return Ok(None);
+        };
+        let Some(session) = self.session(label) else {
+            return Ok(None);
         };
         let answer = plain::answer(alloc, self.list(session.number), &query)?;
-        Ok(Wanted::Answer(query, answer))
+        Ok(Some(DeskReply::Answer(answer)))
     }
 
     fn wanted_of_audit(
         &self,
         alloc: Global,
         receipt: &Receipt<u64, u64>,
-    ) -> Result<Wanted, AllocError> {
+    ) -> Result<Audit, AllocError> {
         let number = receipt.number as usize;
         if number > self.number() {
-            return Ok(Wanted::Audit(Audit::Unknown));
+            return Ok(Audit::Unknown);
         }
-        Ok(Wanted::Audit(
+        Ok(
             match conflict(alloc, self.list(number), receipt.reads.as_slice())? {
                 Some(place) => Audit::No(place),
                 None => Audit::Yes,
             },
-        ))
+        )
     }
 
-    fn wanted_of_open(&self, label: u64) -> Wanted {
-        if self.session(label).is_some() {
-            return Wanted::Busy;
-        }
-        if self.sessions.len() == PLACES {
-            return Wanted::NoPlace;
-        }
-        Wanted::Opened
-    }
-
-    fn wanted_of_commit(
+    // Why a commit on these reads is refused, before its writes are made.
+    fn cause_on(
         &self,
         alloc: Global,
         reads: &[Recorded<u64, u64>],
-        writes: &[Write<u64, u64>],
-    ) -> Result<Wanted, AllocError> {
-        let present = self.list(self.number());
-        if let Some(place) = conflict(alloc, present, reads)? {
-            return Ok(Wanted::Conflict(place));
+    ) -> Result<Option<Cause>, AllocError> {
+        if let Some(place) = conflict(alloc, self.list(self.number()), reads)? {
+            return Ok(Some(Cause::Conflict(place)));
         }
         if self.number() as u64 == LAST {
-            return Ok(Wanted::Exhausted);
+            return Ok(Some(Cause::Exhausted));
         }
-        let (after, replies) = applied(alloc, present, writes)?;
-        Ok(Wanted::Made(after, replies))
+        Ok(None)
+    }
+
+    // The same of any set of reads. Where it is none, no session has the label.
+    fn cause(
+        &self,
+        alloc: Global,
+        on: &ReadSet<u64, u64>,
+    ) -> Result<Option<Option<Cause>>, AllocError> {
+        Ok(match on {
+            ReadSet::Session(label) => match self.session(*label) {
+                Some(session) => Some(self.cause_on(alloc, &session.reads)?),
+                None => None,
+            },
+            ReadSet::Receipt(receipt) => Some(self.cause_on(alloc, receipt.reads.as_slice())?),
+            ReadSet::Empty => Some(self.cause_on(alloc, &[])?),
+        })
+    }
+
+    // A commit, where slots are free.
+    fn turn_of_commit(
+        &self,
+        alloc: Global,
+        on: ReadSet<u64, u64>,
+        writes: Vec<Write<u64, u64>>,
+    ) -> Result<Turn, AllocError> {
+        let (after, replies) = applied(alloc, self.list(self.number()), writes.as_slice())?;
+        let number = (self.number() as u64).saturating_add(1);
+        let wanted = match self.cause(alloc, &on)? {
+            Some(Some(cause)) => DeskReply::Refused(Refused {
+                cause,
+                writes: writes.clone()?,
+            }),
+            Some(None) => DeskReply::Accepted(Accepted { number, replies }),
+            None => DeskReply::NoSession(writes.clone()?),
+        };
+        Ok(Turn {
+            call: DeskCall::Commit(on, writes),
+            wanted,
+            after,
+        })
+    }
+
+    fn turn(
+        &self,
+        alloc: Global,
+        call: DeskCall<u64, u64>,
+        used: usize,
+    ) -> Result<Turn, AllocError> {
+        match call {
+            DeskCall::Commit(on, writes) => self.turn_of_commit(alloc, on, writes),
+            call => {
+                let wanted = self.wanted(alloc, &call, used)?;
+                Ok(Turn {
+                    call,
+                    wanted: wanted.unwrap_or(DeskReply::NoSession(Vec::new(alloc))),
+                    after: Vec::new(alloc),
+                })
+            }
+        }
     }
 
     // Whether no more slots are in use than before, and without sessions no more than the present list may take.
@@ -236,79 +299,29 @@ impl Lists {
         room.after <= room.before && (is_small || !self.sessions.is_empty())
     }
 
-    // Whether a reply is what is wanted. Does what it says.
+    // Does what a reply says.
     fn follow(
         &mut self,
         alloc: Global,
-        asked: &Asked,
-        wanted: Wanted,
-        reply: DeskReply<u64, u64>,
-        room: &Room,
-    ) -> Result<bool, AllocError> {
-        match reply {
-            DeskReply::Accepted(accepted) => {
-                self.follow_accepted(wanted, &accepted, &asked.writes, room)
-            }
-            DeskReply::Refused(refused) => {
-                let kept = room.is_kept() && refused.writes.as_slice() == asked.writes.as_slice();
-                Ok(self.follow_refused(&wanted, refused.cause, &asked.writes, room) && kept)
-            }
-            DeskReply::NoSession(back) => {
-                self.met.no_session = self.met.no_session.saturating_add(1);
-                let kept = room.is_kept() && back.as_slice() == asked.writes.as_slice();
-                Ok(kept && is_no_session(&wanted))
-            }
-            reply => {
-                let right = self.follow_session(alloc, asked.label, wanted, &reply, room)?;
-                Ok(right && room.is_kept())
-            }
-        }
-    }
-
-    fn follow_session(
-        &mut self,
-        alloc: Global,
-        label: u64,
-        wanted: Wanted,
+        turn: &Turn,
         reply: &DeskReply<u64, u64>,
         room: &Room,
-    ) -> Result<bool, AllocError> {
-        match (wanted, reply) {
-            (Wanted::Opened, DeskReply::Opened(told)) => {
-                self.sit(alloc, label)?;
-                Ok(*told == self.number() as u64)
+    ) -> Result<(), AllocError> {
+        self.count(reply);
+        match (&turn.call, reply) {
+            (DeskCall::Open(label), DeskReply::Opened(_)) => self.sit(alloc, *label),
+            (DeskCall::Close(label), DeskReply::Closed(_)) => {
+                let left = *label;
+                self.sessions.retain(|session| session.label != left);
+                Ok(())
             }
-            (Wanted::Closed(number), DeskReply::Closed(receipt)) => {
-                Ok(self.leave(label, receipt) && receipt.number == number as u64)
+            (call, DeskReply::Answer(answer)) => self.note(call, answer),
+            (_, DeskReply::Accepted(_)) => {
+                self.count_accepted(turn.after.len(), room);
+                self.lists.push(Seq::from_vec(turn.after.clone()?))?;
+                Ok(())
             }
-            (Wanted::Answer(query, answer), DeskReply::Answer(told)) => {
-                let right = *told == answer;
-                self.note(label, query, answer)?;
-                Ok(right)
-            }
-            (Wanted::Audit(audit), DeskReply::Audit(told)) => {
-                self.count(audit);
-                Ok(*told == audit)
-            }
-            (wanted, reply) => Ok(self.follow_count(&wanted, reply, room)),
-        }
-    }
-
-    // The same of a reply that changes nothing.
-    fn follow_count(&mut self, wanted: &Wanted, reply: &DeskReply<u64, u64>, room: &Room) -> bool {
-        match (wanted, reply) {
-            (Wanted::NoPlace, DeskReply::NoPlace) => {
-                self.met.no_place = self.met.no_place.saturating_add(1);
-                true
-            }
-            (Wanted::Busy, DeskReply::Busy) => {
-                self.met.busy = self.met.busy.saturating_add(1);
-                true
-            }
-            (Wanted::Number(number), DeskReply::Number(told)) => *told == *number as u64,
-            (Wanted::Len(len), DeskReply::Len(told)) => *told == *len,
-            (Wanted::Slots, DeskReply::Slots(used)) => *used == room.after,
-            _ => false,
+            _ => Ok(()),
         }
     }
 
@@ -323,92 +336,57 @@ impl Lists {
         Ok(())
     }
 
-    // A session closes: whether its receipt has what it recorded.
-    fn leave(&mut self, label: u64, receipt: &Receipt<u64, u64>) -> bool {
-        let right = match self.session(label) {
-            Some(session) => receipt.reads.as_slice() == session.reads.as_slice(),
-            None => false,
-        };
-        self.sessions.retain(|session| session.label != label);
-        right
-    }
-
     // A session records a read.
     fn note(
         &mut self,
-        label: u64,
-        query: Query<u64>,
-        answer: Answer<u64, u64>,
+        call: &DeskCall<u64, u64>,
+        answer: &Answer<u64, u64>,
     ) -> Result<(), AllocError> {
+        let Some((label, query)) = read_by(call)? else {
+            return Ok(());
+        };
+        let read = (query, answer.clone()?);
         for session in &mut self.sessions {
             if session.label == label {
-                session.reads.push((query, answer))?;
+                session.reads.push(read)?;
                 return Ok(());
             }
         }
         Ok(())
     }
 
-    // Counts an accepted commit that leaves so many pairs.
+    // Notes an accepted commit that leaves so many pairs.
     fn count_accepted(&mut self, pairs: usize, room: &Room) {
-        self.met.accepted = self.met.accepted.saturating_add(1);
         if pairs > room.segment {
-            self.met.several = self.met.several.saturating_add(1);
+            self.meets(SEVERAL);
             if room.after < room.before.saturating_add(room.least_of(pairs)) {
-                self.met.shared = self.met.shared.saturating_add(1);
+                self.meets(SHARED);
             }
         }
     }
 
-    fn count(&mut self, audit: Audit) {
-        match audit {
-            Audit::Unknown => self.met.unknown = self.met.unknown.saturating_add(1),
-            Audit::No(_) => self.met.broken = self.met.broken.saturating_add(1),
-            Audit::Yes => {}
-        }
+    // Notes a reply.
+    fn count(&mut self, reply: &DeskReply<u64, u64>) {
+        self.meets(match reply {
+            DeskReply::Accepted(_) => ACCEPTED,
+            DeskReply::Refused(refused) => met_by(refused.cause),
+            DeskReply::NoPlace => NO_PLACE,
+            DeskReply::Busy => BUSY,
+            DeskReply::NoSession(_) => NO_SESSION,
+            DeskReply::Audit(Audit::Unknown) => UNKNOWN,
+            DeskReply::Audit(Audit::No(_)) => BROKEN,
+            _ => 0,
+        });
     }
+}
 
-    fn follow_refused(
-        &mut self,
-        wanted: &Wanted,
-        cause: Cause,
-        writes: &[Write<u64, u64>],
-        room: &Room,
-    ) -> bool {
-        match wanted {
-            Wanted::Conflict(place) => {
-                self.met.conflicts = self.met.conflicts.saturating_add(1);
-                cause == Cause::Conflict(*place)
-            }
-            Wanted::Exhausted => {
-                self.met.exhausted = self.met.exhausted.saturating_add(1);
-                cause == Cause::Exhausted
-            }
-            Wanted::Made(after, _) => {
-                self.met.no_slot = self.met.no_slot.saturating_add(1);
-                cause == Cause::NoSlot && room.is_short_for(after.len(), writes)
-            }
-            _ => false,
-        }
-    }
-
-    fn follow_accepted(
-        &mut self,
-        wanted: Wanted,
-        accepted: &Accepted,
-        writes: &[Write<u64, u64>],
-        room: &Room,
-    ) -> Result<bool, AllocError> {
-        let Wanted::Made(after, replies) = wanted else {
-            return Ok(false);
-        };
-        let number = (self.number() as u64).saturating_add(1);
-        let right = accepted.number == number
-            && room.suffices(after.len(), writes)
-            && accepted.replies.as_slice() == replies.as_slice();
-        self.count_accepted(after.len(), room);
-        self.lists.push(Seq::from_vec(after))?;
-        Ok(right)
+// What a refusal is.
+fn met_by(cause: Cause) -> u32 {
+    match cause {
+        Cause::Conflict(_) => CONFLICT,
+        Cause::Exhausted => EXHAUSTED,
+        Cause::NoSlot => NO_SLOT,
+        Cause::Memory => 0,
     }
 }
 
@@ -425,20 +403,6 @@ fn conflict(
         }
     }
     Ok(None)
-}
-
-fn is_no_session(wanted: &Wanted) -> bool {
-    match wanted {
-        Wanted::NoSession => true,
-        _ => false,
-    }
-}
-
-// The label of a call, and its writes.
-#[derive(Drop)]
-struct Asked {
-    label: u64,
-    writes: Vec<Write<u64, u64>>,
 }
 
 // How many slots there are, and how many were in use before and after a call.
@@ -492,43 +456,37 @@ fn room_of_writes(writes: &[Write<u64, u64>]) -> usize {
     writes.len().saturating_mul(2).saturating_add(1)
 }
 
-fn asked_by(alloc: Global, call: &DeskCall<u64, u64>) -> Result<Asked, AllocError> {
-    let (label, writes) = match call {
-        DeskCall::Open(label)
-        | DeskCall::Close(label)
-        | DeskCall::Number(label)
-        | DeskCall::Len(label)
-        | DeskCall::Contains(label, _)
-        | DeskCall::Range(label, _, _)
-        | DeskCall::Locate(label, _)
-        | DeskCall::Get(label, _) => (*label, Vec::new(alloc)),
-        DeskCall::Reclaim | DeskCall::Slots | DeskCall::Audit(_) => (LABELS, Vec::new(alloc)),
-        DeskCall::Commit(_, writes) => (LABELS, writes.clone()?),
-    };
-    Ok(Asked { label, writes })
+// Whether a reply is what is wanted, and as many slots are in use as may be. A commit that isn't refused for another cause may
+// be for want of slots.
+fn is_right(turn: &Turn, reply: &DeskReply<u64, u64>, room: &Room) -> bool {
+    let writes = writes_of(&turn.call);
+    let pairs = turn.after.len();
+    match (reply, &turn.wanted) {
+        (DeskReply::Refused(refused), DeskReply::Accepted(_)) => {
+            let kept = room.is_kept() && refused.writes.as_slice() == writes;
+            kept && refused.cause == Cause::NoSlot && room.is_short_for(pairs, writes)
+        }
+        (DeskReply::Accepted(_), wanted) => *reply == *wanted && room.suffices(pairs, writes),
+        (reply, wanted) => *reply == *wanted && room.is_kept(),
+    }
 }
 
-// Makes one call on an index: its only reply, and the slots in use.
+// Makes one call on an index, as a list of one: its only reply, and the slots in use.
 fn replied<const S: usize>(
-    alloc: Global,
-    index: &mut LocalIndex<u64, u64, S>,
-    desk: &mut Desk<u64, u64>,
+    scene: &mut Scene<S>,
     slots: usize,
     call: DeskCall<u64, u64>,
-) -> Result<(DeskReply<u64, u64>, Room), AllocError>
-    requires { Serves (record { index = index.old; desk = desk.old }) }
-    ensures { Serves (record { index = index.new; desk = desk.new }) }
-{
-    let calls = vec![in alloc; call]?;
-    let before = index.slots_in_use();
-    let Ok(mut replies) = play_all(alloc, index, desk, calls) else {
+) -> Result<(DeskReply<u64, u64>, Room), AllocError> {
+    let calls = vec![in scene.alloc; call]?;
+    let before = scene.index.slots_in_use();
+    let Ok(mut replies) = scene.replies(calls) else {
         return Err(AllocError);
     };
     let room = Room {
         slots,
         segment: S,
         before,
-        after: index.slots_in_use(),
+        after: scene.index.slots_in_use(),
     };
     match replies.pop() {
         Some(reply) if replies.is_empty() => Ok((reply, room)),
@@ -538,80 +496,58 @@ fn replied<const S: usize>(
 
 // Makes one call on both, and tells whether they answer the same.
 fn play<const S: usize>(
-    alloc: Global,
-    index: &mut LocalIndex<u64, u64, S>,
-    desk: &mut Desk<u64, u64>,
+    scene: &mut Scene<S>,
     lists: &mut Lists,
     slots: usize,
     call: DeskCall<u64, u64>,
-) -> Result<bool, AllocError>
-    requires { Serves (record { index = index.old; desk = desk.old }) }
-    ensures { Serves (record { index = index.new; desk = desk.new }) }
-{
-    let wanted = lists.wanted(alloc, &call)?;
-    let asked = asked_by(alloc, &call)?;
-    let (reply, room) = replied(alloc, index, desk, slots, call)?;
-    lists.follow(alloc, &asked, wanted, reply, &room)
+) -> Result<bool, AllocError> {
+    let alloc = scene.alloc;
+    let turn = lists.turn(alloc, call, scene.index.slots_in_use())?;
+    let (reply, room) = replied(scene, slots, turn.call.clone()?)?;
+    let right = is_right(&turn, &reply, &room);
+    lists.follow(alloc, &turn, &reply, &room)?;
+    Ok(right)
 }
 
 // Reclaims, and tells whether that leaves as few slots in use as it has to.
-fn reclaim<const S: usize>(
-    index: &mut LocalIndex<u64, u64, S>,
-    desk: &Desk<u64, u64>,
-    lists: &Lists,
-) -> bool
-    requires { Serves (record { index = index.old; desk = desk.now }) }
-    ensures { Serves (record { index = index.new; desk = desk.now }) }
-{
-    let before = index.slots_in_use();
-    index.reclaim();
+fn reclaim<const S: usize>(scene: &mut Scene<S>, lists: &Lists) -> bool {
+    let before = scene.index.slots_in_use();
+    scene.reclaim();
     lists.is_reclaimed(&Room {
         slots: 0,
         segment: S,
         before,
-        after: index.slots_in_use(),
+        after: scene.index.slots_in_use(),
     })
 }
 
 // Whether the session with the label has this list with this number, all keys of it.
 fn has_list<const S: usize>(
-    index: &LocalIndex<u64, u64, S>,
-    desk: &Desk<u64, u64>,
+    scene: &Scene<S>,
     label: u64,
     number: usize,
     list: &[(u64, u64)],
     keys: u64,
-) -> bool
-    requires { Serves (record { index = index.now; desk = desk.now }) }
-{
+) -> bool {
+    let mut alike = true;
     for key in 0..keys {
         let value = find_value(list, &key).copied();
         let wanted = (number as u64, list.len(), value, value.is_some());
-        if looked_up(index, desk, label, key) != Some(wanted) {
-            return false;
-        }
+        alike = scene.looked_up(label, key) == Some(wanted) && alike;
     }
-    true
+    alike
 }
 
 // Whether the session with the label has the list of its number, or there is none.
-fn look<const S: usize>(
-    index: &LocalIndex<u64, u64, S>,
-    desk: &Desk<u64, u64>,
-    lists: &mut Lists,
-    label: u64,
-    keys: u64,
-) -> bool
-    requires { Serves (record { index = index.now; desk = desk.now }) }
-{
+fn look<const S: usize>(scene: &Scene<S>, lists: &mut Lists, label: u64, keys: u64) -> bool {
     let number = match lists.session(label) {
         Some(session) => session.number,
-        None => return desk.session(label).is_none(),
+        None => return scene.session(label).is_none(),
     };
     if number < lists.number() {
-        lists.met.older = lists.met.older.saturating_add(1);
+        lists.meets(OLDER);
     }
-    has_list(index, desk, label, number, lists.list(number), keys)
+    has_list(scene, label, number, lists.list(number), keys)
 }
 
 // What is done at random.
@@ -670,74 +606,61 @@ fn thrown_by(
 
 // Makes a call at random, and tells whether the index answers as the lists do.
 fn step<const S: usize>(
-    alloc: Global,
-    index: &mut LocalIndex<u64, u64, S>,
-    desk: &mut Desk<u64, u64>,
+    scene: &mut Scene<S>,
     lists: &mut Lists,
     dice: &mut Dice,
     slots: usize,
-) -> Result<bool, AllocError>
-    requires { Serves (record { index = index.old; desk = desk.old }) }
-    ensures { Serves (record { index = index.new; desk = desk.new }) }
-{
+) -> Result<bool, AllocError> {
     let label = dice.throw(LABELS);
-    match thrown_by(alloc, dice, lists, label)? {
-        Thrown::Look => Ok(look(index, desk, lists, label, dice.keys)),
-        Thrown::Reclaim => Ok(reclaim(index, desk, lists)),
-        Thrown::Play(call) => play(alloc, index, desk, lists, slots, call),
+    match thrown_by(scene.alloc, dice, lists, label)? {
+        Thrown::Look => Ok(look(scene, lists, label, dice.keys)),
+        Thrown::Reclaim => Ok(reclaim(scene, lists)),
+        Thrown::Play(call) => play(scene, lists, slots, call),
     }
 }
 
-// Makes many calls, and tells how many are answered as the lists do before the first that isn't.
+// Makes many calls, and tells how many are answered as the lists do before the first that isn't, and what was met.
 fn steps<const S: usize>(
-    alloc: Global,
-    index: &mut LocalIndex<u64, u64, S>,
-    desk: &mut Desk<u64, u64>,
-    lists: &mut Lists,
-    dice: &mut Dice,
+    scene: &mut Scene<S>,
+    start: Dice,
     slots: usize,
-) -> Result<usize, AllocError>
-    requires { Serves (record { index = index.old; desk = desk.old }) }
-    ensures { Serves (record { index = index.new; desk = desk.new }) }
-{
+) -> Result<(usize, u32), AllocError> {
+    let mut dice = start;
+    let mut lists = Lists::new(scene.alloc)?;
     for round in 0..ROUNDS {
-        if !step(alloc, index, desk, lists, dice, slots)? {
-            return Ok(round);
+        if !step(scene, &mut lists, &mut dice, slots)? {
+            return Ok((round, lists.met));
         }
     }
-    Ok(ROUNDS)
+    Ok((ROUNDS, lists.met))
 }
 
-// Makes many calls on an index with so many slots, and looks that each kind of reply was met.
-fn plays<R: Abort, const S: usize>(rt: &R, alloc: Global, slots: usize, start: Dice)
-    requires { IsStoreSized 2 slots S }
-{
-    let mut dice = start;
-    let mut lists = Lists::new(alloc).expect(rt, "room for lists");
-    let mut index = LocalIndex::<u64, u64, S>::with_last(alloc, PLACES, slots, LAST).expect(
-        rt,
-        "room for an index",
-    );
-    let mut desk = Desk::new(alloc, PLACES).expect(rt, "room for a desk");
-    let right = steps(alloc, &mut index, &mut desk, &mut lists, &mut dice, slots);
-    desk.end(&mut index);
-    match index.close() {
-        Ok(()) => {}
-        Err(_open) => panic!(rt; "a session is open"),
-    }
-    assert_eq!(rt;
-        right,
-        Ok(ROUNDS),
-        "the first call that isn't answered as on lists"
-    );
-    assert!(rt; lists.met.accepted == lists.number() && lists.met.has_all());
+// Makes many calls on an index with so many slots.
+fn plays<R: Abort, const S: usize>(
+    rt: &R,
+    alloc: Global,
+    slots: usize,
+    start: Dice,
+) -> Result<(usize, u32), AllocError> {
+    let mut scene = Scene::<S>::new(rt, alloc, PLACES, slots, LAST);
+    let found = steps(&mut scene, start, slots);
+    scene.end(rt);
+    found
 }
 
 #[test]
 fn segments_of_each_size_answer_as_plain_lists(rt: HostRuntime) {
-    plays::<_, 1>(&rt, rt.alloc(), 40, thrown(24, 50, 20));
-    plays::<_, 2>(&rt, rt.alloc(), 36, thrown(40, 50, 20));
-    plays::<_, 3>(&rt, rt.alloc(), 40, thrown(41, 50, 80));
-    plays::<_, 8>(&rt, rt.alloc(), 24, thrown(60, 80, 40));
-    plays::<_, 225>(&rt, rt.alloc(), 12, thrown(600, 300, 400));
+    let alloc = rt.alloc();
+    let found = [
+        plays::<_, 1>(&rt, alloc, 40, thrown(24, 50, 20)),
+        plays::<_, 2>(&rt, alloc, 36, thrown(40, 50, 20)),
+        plays::<_, 3>(&rt, alloc, 40, thrown(41, 50, 80)),
+        plays::<_, 8>(&rt, alloc, 24, thrown(60, 80, 40)),
+        plays::<_, 225>(&rt, alloc, 12, thrown(600, 300, 400)),
+    ];
+    assert_eq!(rt;
+        found,
+        [Ok((ROUNDS, ALL)); 5],
+        "the first call that isn't answered as on lists, and what was met"
+    );
 }

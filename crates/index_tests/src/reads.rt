@@ -2,22 +2,17 @@
 
 ghost use Rattle.ordered_index.specs.State.{IsSessionOf};
 
-use crate::slots::{commit, end, inserts};
-use crate::table::Call::{Audit, Close, Commit, CommitOn, Open, Read};
+use crate::scene::Scene;
+use crate::table::Call::{Audit, Close, Commit, CommitOn, InsertTo, Open, Read};
 use crate::table::Claim::{Between, Exact, Got, Has, Larger, Listed, Mixed, Smaller};
-use crate::table::Told::{Accepted, Audited, Closed, Holds, Opened, Refused};
-use crate::table::{Claim, Row, on_an_index};
+use crate::table::Told::{Accepted, All, Audited, Closed, Holds, Opened, Refused};
+use crate::table::{Claim, Row, Table, first_wrong};
 use ordered_index::Audit::{No, Unknown, Yes};
 use ordered_index::{Cause, LocalIndex, Reply, Session, Write};
-use std::alloc::{AllocError, Global};
 use std::ops::Bound;
 use versions::Nearby;
 
 type Twos = LocalIndex<u64, u64, 2>;
-
-const ROOM: &str = "room for an index";
-
-const FREE: &str = "a free place";
 
 const TWO: [Write<u64, u64>; 2] = [Write::Insert(2, 2), Write::Insert(4, 4)];
 
@@ -30,35 +25,37 @@ const UPSERTED: [Reply; 1] = [Reply::Upserted];
 // The pairs from 3 to 5.
 const FROM_3: Claim = Listed(Bound::Included(3), Bound::Included(5), &[(4, 4)]);
 
-const ENTERED: [Row; 7] = [
-    (Commit(&TWO), Accepted(1, &TWO_INSERTED)),
-    (Open(1), Opened(1)),
-    (Read(1, FROM_3), Holds),
-    (Close(1), Closed(1, &[FROM_3])),
-    (Commit(&[Write::Insert(5, 1)]), Accepted(2, &ONE_INSERTED)),
-    (CommitOn(1, &[FROM_3], &[]), Refused(Cause::Conflict(0))),
-    (Audit(1, &[FROM_3]), Audited(Yes)),
-];
+const ENTERED: Table = Table {
+    about: "a pair that entered a recorded range conflicts",
+    places: 1,
+    slots: 32,
+    last: u64::MAX,
+    parts: &[&[
+        (Commit(&TWO), Accepted(1, &TWO_INSERTED)),
+        (Open(1), Opened(1)),
+        (Read(1, FROM_3), Holds),
+        (Close(1), Closed(1, &[FROM_3])),
+        (Commit(&[Write::Insert(5, 1)]), Accepted(2, &ONE_INSERTED)),
+        (CommitOn(1, &[FROM_3], &[]), Refused(Cause::Conflict(0))),
+        (Audit(1, &[FROM_3]), Audited(Yes)),
+    ]],
+};
 
-#[test]
-fn a_pair_that_entered_a_recorded_range_conflicts(rt: HostRuntime) {
-    on_an_index::<_, 2>(&rt, rt.alloc(), 1, 32, u64::MAX, &ENTERED);
-}
-
-const LEFT: [Row; 7] = [
-    (Commit(&TWO), Accepted(1, &TWO_INSERTED)),
-    (Open(1), Opened(1)),
-    (Read(1, FROM_3), Holds),
-    (Close(1), Closed(1, &[FROM_3])),
-    (Commit(&[Write::Remove(4)]), Accepted(2, &[Reply::Removed])),
-    (CommitOn(1, &[FROM_3], &[]), Refused(Cause::Conflict(0))),
-    (Audit(1, &[FROM_3]), Audited(Yes)),
-];
-
-#[test]
-fn a_pair_that_left_a_recorded_range_conflicts(rt: HostRuntime) {
-    on_an_index::<_, 2>(&rt, rt.alloc(), 1, 32, u64::MAX, &LEFT);
-}
+const LEFT: Table = Table {
+    about: "a pair that left a recorded range conflicts",
+    places: 1,
+    slots: 32,
+    last: u64::MAX,
+    parts: &[&[
+        (Commit(&TWO), Accepted(1, &TWO_INSERTED)),
+        (Open(1), Opened(1)),
+        (Read(1, FROM_3), Holds),
+        (Close(1), Closed(1, &[FROM_3])),
+        (Commit(&[Write::Remove(4)]), Accepted(2, &[Reply::Removed])),
+        (CommitOn(1, &[FROM_3], &[]), Refused(Cause::Conflict(0))),
+        (Audit(1, &[FROM_3]), Audited(Yes)),
+    ]],
+};
 
 const ODD: [Write<u64, u64>; 5] = [
     Write::Insert(1, 1),
@@ -78,23 +75,24 @@ const READ: [Claim; 6] = [
     Larger(0, (1, 1)),
 ];
 
-const EACH_KIND: [Row; 10] = [
-    (Commit(&ODD), Accepted(1, &[Reply::Inserted; 5])),
-    (Open(1), Opened(1)),
-    (Read(1, Got(3, Some(3))), Holds),
-    (Read(1, Has(4, false)), Holds),
-    (Read(1, Between(4, (3, 3), (5, 5))), Holds),
-    (Read(1, Exact(7, (7, 7))), Holds),
-    (Read(1, Smaller(10, (9, 9))), Holds),
-    (Read(1, Larger(0, (1, 1))), Holds),
-    (Close(1), Closed(1, &READ)),
-    (Audit(1, &READ), Audited(Yes)),
-];
-
-#[test]
-fn each_kind_of_read_is_recorded(rt: HostRuntime) {
-    on_an_index::<_, 2>(&rt, rt.alloc(), 1, 32, u64::MAX, &EACH_KIND);
-}
+const EACH_KIND: Table = Table {
+    about: "each kind of read is recorded",
+    places: 1,
+    slots: 32,
+    last: u64::MAX,
+    parts: &[&[
+        (Commit(&ODD), Accepted(1, &[Reply::Inserted; 5])),
+        (Open(1), Opened(1)),
+        (Read(1, Got(3, Some(3))), Holds),
+        (Read(1, Has(4, false)), Holds),
+        (Read(1, Between(4, (3, 3), (5, 5))), Holds),
+        (Read(1, Exact(7, (7, 7))), Holds),
+        (Read(1, Smaller(10, (9, 9))), Holds),
+        (Read(1, Larger(0, (1, 1))), Holds),
+        (Close(1), Closed(1, &READ)),
+        (Audit(1, &READ), Audited(Yes)),
+    ]],
+};
 
 // An answer of another kind, pairs in another order, and a pair within reversed bounds.
 const KIND: Claim = Mixed(1, true);
@@ -103,35 +101,37 @@ const TURNED: Claim = Listed(Bound::Included(1), Bound::Included(2), &[(2, 2), (
 
 const REVERSED: Claim = Listed(Bound::Included(8), Bound::Excluded(1), &[(2, 2)]);
 
-const FORGED: [Row; 5] = [
-    (
-        Commit(&[Write::Insert(1, 1), Write::Insert(2, 2)]),
-        Accepted(1, &TWO_INSERTED),
-    ),
-    (CommitOn(0, &[KIND], &[]), Refused(Cause::Conflict(0))),
-    (Audit(0, &[KIND]), Audited(No(0))),
-    (CommitOn(1, &[TURNED], &[]), Refused(Cause::Conflict(0))),
-    (CommitOn(1, &[REVERSED], &[]), Refused(Cause::Conflict(0))),
-];
+const FORGED: Table = Table {
+    about: "forged receipts conflict and audit no",
+    places: 0,
+    slots: 32,
+    last: u64::MAX,
+    parts: &[&[
+        (
+            Commit(&[Write::Insert(1, 1), Write::Insert(2, 2)]),
+            Accepted(1, &TWO_INSERTED),
+        ),
+        (CommitOn(0, &[KIND], &[]), Refused(Cause::Conflict(0))),
+        (Audit(0, &[KIND]), Audited(No(0))),
+        (CommitOn(1, &[TURNED], &[]), Refused(Cause::Conflict(0))),
+        (CommitOn(1, &[REVERSED], &[]), Refused(Cause::Conflict(0))),
+    ]],
+};
 
-#[test]
-fn forged_receipts_conflict_and_audit_no(rt: HostRuntime) {
-    on_an_index::<_, 2>(&rt, rt.alloc(), 0, 32, u64::MAX, &FORGED);
-}
-
-const OF_THE_NUMBER: [Row; 6] = [
-    (Commit(&[Write::Upsert(1, 10)]), Accepted(1, &UPSERTED)),
-    (Commit(&[Write::Upsert(1, 11)]), Accepted(2, &UPSERTED)),
-    (Audit(1, &[Got(1, Some(10))]), Audited(Yes)),
-    (Audit(1, &[Got(1, Some(11))]), Audited(No(0))),
-    (Audit(2, &[Got(1, Some(11))]), Audited(Yes)),
-    (Audit(9, &[]), Audited(Unknown)),
-];
-
-#[test]
-fn an_audit_looks_at_the_list_of_the_number(rt: HostRuntime) {
-    on_an_index::<_, 2>(&rt, rt.alloc(), 0, 32, u64::MAX, &OF_THE_NUMBER);
-}
+const OF_THE_NUMBER: Table = Table {
+    about: "an audit looks at the list of the number",
+    places: 0,
+    slots: 32,
+    last: u64::MAX,
+    parts: &[&[
+        (Commit(&[Write::Upsert(1, 10)]), Accepted(1, &UPSERTED)),
+        (Commit(&[Write::Upsert(1, 11)]), Accepted(2, &UPSERTED)),
+        (Audit(1, &[Got(1, Some(10))]), Audited(Yes)),
+        (Audit(1, &[Got(1, Some(11))]), Audited(No(0))),
+        (Audit(2, &[Got(1, Some(11))]), Audited(Yes)),
+        (Audit(9, &[]), Audited(Unknown)),
+    ]],
+};
 
 // Reads of all pairs, as the lists with the numbers 0 to 6 have them after the commits below.
 const LIST_0: Claim = Listed(Bound::Unbounded, Bound::Unbounded, &[]);
@@ -189,54 +189,60 @@ const AUDITS: [Row; 14] = [
     (Audit(6, &[LIST_0]), Audited(No(0))),
 ];
 
-// One table of the rows of several.
-fn joined(alloc: Global, parts: &[&[Row]]) -> Result<Vec<Row>, AllocError> {
-    let mut rows = Vec::new(alloc);
-    for part in parts {
-        rows.extend_from_slice(part)?;
-    }
-    Ok(rows)
-}
-
 // Lists are made again from that of the session, from a clearing behind it, and from the empty one.
-const OF_ANY_NUMBER: [&[Row]; 4] = [
-    &[
-        COMMIT_1,
-        (Open(1), Opened(1)),
-        COMMIT_2,
-        COMMIT_3,
-        COMMIT_4,
-        COMMIT_5,
-        COMMIT_6,
+const OF_ANY_NUMBER: Table = Table {
+    about: "an audit of any number finds its list",
+    places: 1,
+    slots: 64,
+    last: u64::MAX,
+    parts: &[
+        &[
+            COMMIT_1,
+            (Open(1), Opened(1)),
+            COMMIT_2,
+            COMMIT_3,
+            COMMIT_4,
+            COMMIT_5,
+            COMMIT_6,
+        ],
+        &AUDITS,
+        &[(Close(1), Closed(1, &[]))],
+        &AUDITS,
     ],
-    &AUDITS,
-    &[(Close(1), Closed(1, &[]))],
-    &AUDITS,
+};
+
+const OF_LATER_LISTS: Table = Table {
+    about: "an audit takes no later list for an earlier one",
+    places: 1,
+    slots: 64,
+    last: u64::MAX,
+    parts: &[
+        &[
+            COMMIT_1,
+            COMMIT_2,
+            COMMIT_3,
+            COMMIT_4,
+            COMMIT_5,
+            (Open(1), Opened(5)),
+            COMMIT_6,
+        ],
+        &AUDITS,
+    ],
+};
+
+const TABLES: [Table; 7] = [
+    ENTERED,
+    LEFT,
+    EACH_KIND,
+    FORGED,
+    OF_THE_NUMBER,
+    OF_ANY_NUMBER,
+    OF_LATER_LISTS,
 ];
 
 #[test]
-fn an_audit_of_any_number_finds_its_list(rt: HostRuntime) {
-    let rows = joined(rt.alloc(), &OF_ANY_NUMBER).expect(&rt, ROOM);
-    on_an_index::<_, 2>(&rt, rt.alloc(), 1, 64, u64::MAX, &rows);
-}
-
-const OF_LATER_LISTS: [&[Row]; 2] = [
-    &[
-        COMMIT_1,
-        COMMIT_2,
-        COMMIT_3,
-        COMMIT_4,
-        COMMIT_5,
-        (Open(1), Opened(5)),
-        COMMIT_6,
-    ],
-    &AUDITS,
-];
-
-#[test]
-fn an_audit_takes_no_later_list_for_an_earlier_one(rt: HostRuntime) {
-    let rows = joined(rt.alloc(), &OF_LATER_LISTS).expect(&rt, ROOM);
-    on_an_index::<_, 2>(&rt, rt.alloc(), 1, 64, u64::MAX, &rows);
+fn reads_are_recorded_tested_and_audited(rt: HostRuntime) {
+    assert_eq!(rt; first_wrong::<_, 2>(&rt, rt.alloc(), &TABLES), None);
 }
 
 fn read(pair: Option<(&u64, &u64)>) -> Option<(u64, u64)> {
@@ -279,28 +285,27 @@ fn located(index: &Twos, session: &Session<u64, u64>, key: u64) -> Option<(u64, 
 
 // What a session reads by cursors of its list: steps along it, the first pair above 1, and the pair with the key 2.
 fn gone_along(
-    index: &Twos,
-    session: &Session<u64, u64>,
-) -> ([Option<(u64, u64)>; 4], [Option<(u64, u64)>; 2])
-    requires { IsSessionOf index.now session.now }
-{
-    let steps = walked(index, session);
+    scene: &Scene<2>,
+    label: u64,
+) -> Option<([Option<(u64, u64)>; 4], [Option<(u64, u64)>; 2])> {
+    let Some(session) = scene.session(label) else {
+        return None;
+    };
     let one = 1u64;
-    (
-        steps,
-        [above(index, session, &one), located(index, session, 2)],
-    )
+    let found = [
+        above(&scene.index, session, &one),
+        located(&scene.index, session, 2),
+    ];
+    Some((walked(&scene.index, session), found))
 }
 
 #[test]
 fn a_session_walks_along_its_list(rt: HostRuntime) {
-    let alloc = rt.alloc();
-    let mut index = Twos::new(alloc, 1, 32).expect(&rt, ROOM);
-    let _three = commit(&rt, alloc, &mut index, &inserts(&rt, alloc, &[1, 2, 3]));
-    let session = index.open().expect(&rt, FREE);
-    let seen = gone_along(&index, &session);
-    let _receipt = index.close_session(session);
-    end(&rt, index);
+    let mut scene = Scene::<2>::new(&rt, rt.alloc(), 1, 32, u64::MAX);
+    let made = scene.answers(InsertTo(3), All(1, 3, Reply::Inserted));
+    let opened = scene.answers(Open(1), Opened(1));
+    let seen = gone_along(&scene, 1);
+    scene.end(&rt);
     let steps = [Some((1, 1)), Some((3, 3)), Some((2, 2)), None];
-    assert!(rt; seen == (steps, [Some((2, 2)); 2]));
+    assert!(rt; made && opened && seen == Some((steps, [Some((2, 2)); 2])));
 }

@@ -2,11 +2,10 @@
 
 ghost use Rattle.ordered_index.specs.State.{IsSessionOf};
 
-use crate::slots::end;
 use crate::table::Call::{Close, Commit, CommitOn, Look, Open};
 use crate::table::Claim::Got;
 use crate::table::Told::{Accepted, Closed, NoPlace, Opened, Refused, Seen};
-use crate::table::{Row, on_an_index};
+use crate::table::{Table, first_wrong};
 use ordered_index::{
     Cause, LocalIndex, Receipt, Reply, Seq, Session, Write, clones_of_lists, equals_of_lists,
 };
@@ -38,80 +37,92 @@ fn an_index_isnt_closed_while_a_session_is_open(rt: HostRuntime) {
     let mut index = Numbers::new(rt.alloc(), 1, 16).expect(&rt, ROOM);
     let session = index.open().expect(&rt, FREE);
     let (index, number) = refuse_to_close(&rt, index, session);
-    assert!(rt; number == 0);
-    end(&rt, index);
+    match index.close() {
+        Ok(()) => assert!(rt; number == 0),
+        Err(_open) => panic!(rt; "no session is open"),
+    }
 }
 
 const TWICE: [Write<u64, u64>; 2] = [Write::Insert(1, 10), Write::Insert(1, 11)];
 
-const AT_ITS_OPENING: [Row; 11] = [
-    (
-        Commit(&TWICE),
-        Accepted(1, &[Reply::Inserted, Reply::Duplicate]),
-    ),
-    (Open(1), Opened(1)),
-    (
-        Commit(&[Write::Insert(2, 20)]),
-        Accepted(2, &[Reply::Inserted]),
-    ),
-    (Look(1, 1), Seen(1, 1, Some(10))),
-    (Look(1, 2), Seen(1, 1, None)),
-    (Open(2), NoPlace),
-    (Close(1), Closed(1, &[])),
-    (Open(2), Opened(2)),
-    (Look(2, 1), Seen(2, 2, Some(10))),
-    (Look(2, 2), Seen(2, 2, Some(20))),
-    (Close(2), Closed(2, &[])),
-];
-
-#[test]
-fn a_session_reads_the_list_at_its_opening(rt: HostRuntime) {
-    on_an_index::<_, 2>(&rt, rt.alloc(), 1, 16, u64::MAX, &AT_ITS_OPENING);
-}
+const AT_ITS_OPENING: Table = Table {
+    about: "a session reads the list at its opening",
+    places: 1,
+    slots: 16,
+    last: u64::MAX,
+    parts: &[&[
+        (
+            Commit(&TWICE),
+            Accepted(1, &[Reply::Inserted, Reply::Duplicate]),
+        ),
+        (Open(1), Opened(1)),
+        (
+            Commit(&[Write::Insert(2, 20)]),
+            Accepted(2, &[Reply::Inserted]),
+        ),
+        (Look(1, 1), Seen(1, 1, Some(10))),
+        (Look(1, 2), Seen(1, 1, None)),
+        (Open(2), NoPlace),
+        (Close(1), Closed(1, &[])),
+        (Open(2), Opened(2)),
+        (Look(2, 1), Seen(2, 2, Some(10))),
+        (Look(2, 2), Seen(2, 2, Some(20))),
+        (Close(2), Closed(2, &[])),
+    ]],
+};
 
 const FIFTY: [Write<u64, u64>; 1] = [Write::Insert(5, 50)];
 
-const LAST_NUMBER: [Row; 3] = [
-    (
-        CommitOn(0, &[], &[Write::Insert(1, 10)]),
-        Accepted(1, &[Reply::Inserted]),
-    ),
-    (CommitOn(0, &[], &FIFTY), Refused(Cause::Exhausted)),
-    (
-        CommitOn(0, &[Got(5, Some(1))], &FIFTY),
-        Refused(Cause::Conflict(0)),
-    ),
-];
-
-#[test]
-fn the_last_number_is_exhausted_after_conflicts(rt: HostRuntime) {
-    on_an_index::<_, 2>(&rt, rt.alloc(), 1, 16, 1, &LAST_NUMBER);
-}
-
-const BY_ANSWERS: [Row; 5] = [
-    (
-        CommitOn(
-            0,
-            &[Got(5, None)],
-            &[Write::Insert(2, 1), Write::Insert(4, 1)],
+const LAST_NUMBER: Table = Table {
+    about: "the last number is exhausted after conflicts",
+    places: 1,
+    slots: 16,
+    last: 1,
+    parts: &[&[
+        (
+            CommitOn(0, &[], &[Write::Insert(1, 10)]),
+            Accepted(1, &[Reply::Inserted]),
         ),
-        Accepted(1, &[Reply::Inserted, Reply::Inserted]),
-    ),
-    (
-        CommitOn(0, &[Got(2, Some(1))], &[Write::Insert(5, 1)]),
-        Accepted(2, &[Reply::Inserted]),
-    ),
-    (CommitOn(0, &[Got(2, Some(1))], &[]), Accepted(3, &[])),
-    (
-        CommitOn(0, &[Got(5, None)], &[]),
-        Refused(Cause::Conflict(0)),
-    ),
-    (CommitOn(0, &[], &[]), Accepted(4, &[])),
-];
+        (CommitOn(0, &[], &FIFTY), Refused(Cause::Exhausted)),
+        (
+            CommitOn(0, &[Got(5, Some(1))], &FIFTY),
+            Refused(Cause::Conflict(0)),
+        ),
+    ]],
+};
+
+const BY_ANSWERS: Table = Table {
+    about: "a commit is tested by answers",
+    places: 1,
+    slots: 16,
+    last: u64::MAX,
+    parts: &[&[
+        (
+            CommitOn(
+                0,
+                &[Got(5, None)],
+                &[Write::Insert(2, 1), Write::Insert(4, 1)],
+            ),
+            Accepted(1, &[Reply::Inserted, Reply::Inserted]),
+        ),
+        (
+            CommitOn(0, &[Got(2, Some(1))], &[Write::Insert(5, 1)]),
+            Accepted(2, &[Reply::Inserted]),
+        ),
+        (CommitOn(0, &[Got(2, Some(1))], &[]), Accepted(3, &[])),
+        (
+            CommitOn(0, &[Got(5, None)], &[]),
+            Refused(Cause::Conflict(0)),
+        ),
+        (CommitOn(0, &[], &[]), Accepted(4, &[])),
+    ]],
+};
+
+const TABLES: [Table; 3] = [AT_ITS_OPENING, LAST_NUMBER, BY_ANSWERS];
 
 #[test]
-fn a_commit_is_tested_by_answers(rt: HostRuntime) {
-    on_an_index::<_, 2>(&rt, rt.alloc(), 1, 16, u64::MAX, &BY_ANSWERS);
+fn sessions_read_and_commits_are_tested_by_answers(rt: HostRuntime) {
+    assert_eq!(rt; first_wrong::<_, 2>(&rt, rt.alloc(), &TABLES), None);
 }
 
 // An index whose keys and values are byte strings.

@@ -1,11 +1,9 @@
 //! Calls of an index as data, by a desk that keeps its sessions, so that a test of many calls is a table.
 
-ghost use Rattle.ordered_index.specs.Desk.{Serves};
-ghost use Rattle.version_views.specs.Sizes.{IsStoreSized};
-
+use crate::scene::Scene;
 use ordered_index::{
-    Accepted, Answer, Audit, Cause, Desk, DeskCall, DeskReply, LocalIndex, Near, Query, ReadSet,
-    Receipt, Recorded, Refused, Reply, Seq, Write, play_one,
+    Accepted, Answer, Audit, Cause, DeskCall, DeskReply, Near, Query, ReadSet, Receipt, Recorded,
+    Refused, Reply, Seq, Write,
 };
 use std::alloc::{AllocError, Global};
 use std::ops::Bound;
@@ -44,8 +42,11 @@ pub(crate) enum Call {
     Commit(&'static [Write<u64, u64>]),
     CommitOn(u64, &'static [Claim], &'static [Write<u64, u64>]),
     CommitOf(u64, &'static [Write<u64, u64>]),
-    /// A commit of inserts of the keys from 1 to this one, each its own value.
+    /// A commit of inserts of the keys from 1 to this one, each its own value; of so many even keys, from 2 on; and of
+    /// upserts of so many odd keys, from 1 on, with the value 7.
     InsertTo(u64),
+    InsertEven(u64),
+    UpsertOdd(u64),
     /// An audit of a receipt, and one of what a session read.
     Audit(u64, &'static [Claim]),
     AuditOf(u64),
@@ -70,8 +71,8 @@ pub(crate) enum Told {
     Number(u64),
     Len(usize),
     Accepted(u64, &'static [Reply]),
-    /// So many inserts that were accepted.
-    Inserted(u64, usize),
+    /// So many writes that were accepted, each with this reply.
+    All(u64, usize, Reply),
     /// The writes come back.
     Refused(Cause),
     Audited(Audit),
@@ -81,6 +82,18 @@ pub(crate) enum Told {
 
 /// A row of a table: a call, and what it answers.
 pub(crate) type Row = (Call, Told);
+
+/// What is done with a new index.
+#[derive(Clone, Copy)]
+pub(crate) struct Table {
+    pub(crate) about: &'static str,
+    /// How many sessions there may be at once, and slots.
+    pub(crate) places: usize,
+    pub(crate) slots: usize,
+    /// The last number.
+    pub(crate) last: u64,
+    pub(crate) parts: &'static [&'static [Row]],
+}
 
 // What is asked by a read.
 fn query(claim: Claim) -> Query<u64> {
@@ -108,12 +121,8 @@ fn answer(alloc: Global, claim: Claim) -> Result<Answer<u64, u64>, AllocError> {
     })
 }
 
-/// The receipt of this number with these reads.
-pub(crate) fn receipt(
-    alloc: Global,
-    number: u64,
-    claims: &[Claim],
-) -> Result<Receipt<u64, u64>, AllocError> {
+// The receipt of this number with these reads.
+fn receipt(alloc: Global, number: u64, claims: &[Claim]) -> Result<Receipt<u64, u64>, AllocError> {
     let mut reads: Vec<Recorded<u64, u64>> = Vec::new(alloc);
     for claim in claims {
         reads.push((query(*claim), answer(alloc, *claim)?))?;
@@ -124,41 +133,30 @@ pub(crate) fn receipt(
     })
 }
 
-/// The number and the length of a session's list, the value of a key there, and whether a pair has it.
-pub(crate) fn looked_up<const S: usize>(
-    index: &LocalIndex<u64, u64, S>,
-    desk: &Desk<u64, u64>,
-    label: u64,
-    key: u64,
-) -> Option<(u64, usize, Option<u64>, bool)>
-    requires { Serves (record { index = index.now; desk = desk.now }) }
-{
-    let Some(session) = desk.session(label) else {
-        return None;
-    };
-    let value = index.get(session, &key).copied();
-    Some((
-        index.number(session),
-        index.len(session),
-        value,
-        index.contains(session, &key),
-    ))
+// One of the writes that are named by how many there are.
+fn write_at(call: Call, place: u64) -> Write<u64, u64> {
+    let even = place.saturating_mul(2);
+    match call {
+        Call::InsertEven(_) => Write::Insert(even, even),
+        Call::UpsertOdd(_) => Write::Upsert(even.saturating_sub(1), 7),
+        _ => Write::Insert(place, place),
+    }
 }
 
-fn inserts_to(alloc: Global, last: u64) -> Result<Vec<Write<u64, u64>>, AllocError> {
+/// The writes of a call, where it is a commit.
+pub(crate) fn writes_of(alloc: Global, call: Call) -> Result<Vec<Write<u64, u64>>, AllocError> {
+    let count = match call {
+        Call::Commit(writes) | Call::CommitOn(_, _, writes) | Call::CommitOf(_, writes) => {
+            return Vec::from_clones(alloc, writes);
+        }
+        Call::InsertTo(count) | Call::InsertEven(count) | Call::UpsertOdd(count) => count,
+        _ => 0,
+    };
     let mut writes = Vec::new(alloc);
-    for key in 1..=last {
-        writes.push(Write::Insert(key, key))?;
+    for place in 1..=count {
+        writes.push(write_at(call, place))?;
     }
     Ok(writes)
-}
-
-// The writes of a call, where it is a commit of some that are named.
-fn writes_of(call: Call) -> &'static [Write<u64, u64>] {
-    match call {
-        Call::Commit(writes) | Call::CommitOn(_, _, writes) | Call::CommitOf(_, writes) => writes,
-        _ => &[],
-    }
 }
 
 // The reads that a call rests on.
@@ -181,14 +179,10 @@ pub(crate) fn desk_call(alloc: Global, call: Call) -> Result<DeskCall<u64, u64>,
         Call::Read(label, claim) => read_of(label, query(claim)),
         Call::Number(label) => DeskCall::Number(label),
         Call::Len(label) => DeskCall::Len(label),
-        Call::InsertTo(last) => DeskCall::Commit(ReadSet::Empty, inserts_to(alloc, last)?),
-        Call::Commit(_) | Call::CommitOn(_, _, _) | Call::CommitOf(_, _) => DeskCall::Commit(
-            reads_of(alloc, call)?,
-            Vec::from_clones(alloc, writes_of(call))?,
-        ),
         Call::Audit(_, _) | Call::AuditOf(_) => DeskCall::Audit(reads_of(alloc, call)?),
         Call::Reclaim => DeskCall::Reclaim,
         Call::Slots => DeskCall::Slots,
+        _ => DeskCall::Commit(reads_of(alloc, call)?, writes_of(alloc, call)?),
     })
 }
 
@@ -202,44 +196,56 @@ pub(crate) fn read_of(label: u64, query: Query<u64>) -> DeskCall<u64, u64> {
     }
 }
 
-fn is_accepted(accepted: &Accepted, wanted: Told) -> bool {
-    let replies = accepted.replies.as_slice();
-    match wanted {
-        Told::Accepted(number, wanted) => accepted.number == number && replies == wanted,
-        Told::Inserted(number, count) => accepted.number == number
-            && replies.len() == count
-            && are_inserted(replies),
-        _ => false,
+// So many times this reply.
+fn repeated(alloc: Global, reply: Reply, count: usize) -> Result<Vec<Reply>, AllocError> {
+    let mut replies = Vec::new(alloc);
+    for _ in 0..count {
+        replies.push(reply)?;
     }
+    Ok(replies)
 }
 
-fn are_inserted(replies: &[Reply]) -> bool {
-    let mut all = true;
-    for reply in replies {
-        all = *reply == Reply::Inserted && all;
-    }
-    all
-}
-
-fn is_refused(refused: &Refused<u64, u64>, cause: Cause, call: Call) -> bool {
-    refused.cause == cause && refused.writes.as_slice() == writes_of(call)
-}
-
-// Whether a session tells what is wanted: its receipt, or the answer to a read.
-fn is_read(
+// The reply of a commit, or of a call that has memory handed back.
+fn wanted_of_memory(
     alloc: Global,
-    reply: &DeskReply<u64, u64>,
     call: Call,
-    wanted: Told,
-) -> Result<bool, AllocError> {
-    Ok(match (reply, call, wanted) {
-        (DeskReply::Closed(told), _, Told::Closed(number, claims)) => {
-            *told == receipt(alloc, number, claims)?
-        }
-        (DeskReply::Answer(told), Call::Read(_, claim), Told::Holds) => {
-            *told == answer(alloc, claim)?
-        }
-        _ => false,
+    told: Told,
+) -> Result<DeskReply<u64, u64>, AllocError> {
+    Ok(match told {
+        Told::Closed(number, claims) => DeskReply::Closed(receipt(alloc, number, claims)?),
+        Told::Accepted(number, replies) => DeskReply::Accepted(Accepted {
+            number,
+            replies: Vec::from_clones(alloc, replies)?,
+        }),
+        Told::All(number, count, reply) => DeskReply::Accepted(Accepted {
+            number,
+            replies: repeated(alloc, reply, count)?,
+        }),
+        Told::Refused(cause) => DeskReply::Refused(Refused {
+            cause,
+            writes: writes_of(alloc, call)?,
+        }),
+        _ => DeskReply::NoSession(writes_of(alloc, call)?),
+    })
+}
+
+/// The reply that is wanted.
+pub(crate) fn wanted(
+    alloc: Global,
+    call: Call,
+    told: Told,
+) -> Result<DeskReply<u64, u64>, AllocError> {
+    Ok(match (told, call) {
+        (Told::Holds, Call::Read(_, claim)) => DeskReply::Answer(answer(alloc, claim)?),
+        (Told::Done, _) => DeskReply::Reclaimed,
+        (Told::NoPlace, _) => DeskReply::NoPlace,
+        (Told::Busy, _) => DeskReply::Busy,
+        (Told::Opened(number), _) => DeskReply::Opened(number),
+        (Told::Number(number), _) => DeskReply::Number(number),
+        (Told::Len(count), _) => DeskReply::Len(count),
+        (Told::Slots(count), _) => DeskReply::Slots(count),
+        (Told::Audited(audit), _) => DeskReply::Audit(audit),
+        _ => wanted_of_memory(alloc, call, told)?,
     })
 }
 
@@ -248,103 +254,44 @@ pub(crate) fn is_told(
     alloc: Global,
     reply: &DeskReply<u64, u64>,
     call: Call,
-    wanted: Told,
+    told: Told,
 ) -> Result<bool, AllocError> {
-    Ok(match (reply, wanted) {
-        (DeskReply::Reclaimed, Told::Done)
-        | (DeskReply::NoPlace, Told::NoPlace)
-        | (DeskReply::Busy, Told::Busy) => true,
-        (DeskReply::Opened(told), Told::Opened(number))
-        | (DeskReply::Number(told), Told::Number(number)) => *told == number,
-        (DeskReply::NoSession(back), Told::NoSession) => back.as_slice() == writes_of(call),
-        (DeskReply::Accepted(told), _) => is_accepted(told, wanted),
-        (DeskReply::Refused(told), Told::Refused(cause)) => is_refused(told, cause, call),
-        (DeskReply::Audit(told), Told::Audited(audit)) => *told == audit,
-        (DeskReply::Slots(told), Told::Slots(count)) | (DeskReply::Len(told), Told::Len(count)) =>
-            *told == count,
-        (DeskReply::Slots(told), Told::AtMost(count)) => *told <= count,
-        _ => is_read(alloc, reply, call, wanted)?,
-    })
-}
-
-// Makes a call by the desk, and tells whether the reply is the one that is wanted.
-fn is_played<const S: usize>(
-    alloc: Global,
-    index: &mut LocalIndex<u64, u64, S>,
-    desk: &mut Desk<u64, u64>,
-    call: Call,
-    wanted: Told,
-) -> Result<bool, AllocError>
-    requires { Serves (record { index = index.old; desk = desk.old }) }
-    ensures { Serves (record { index = index.new; desk = desk.new }) }
-{
-    let made = desk_call(alloc, call)?;
-    let reply = play_one(alloc, index, desk, made)?;
-    is_told(alloc, &reply, call, wanted)
-}
-
-// Makes a call, and tells whether it answers what is wanted. Where memory is refused, it doesn't.
-fn answers<const S: usize>(
-    alloc: Global,
-    index: &mut LocalIndex<u64, u64, S>,
-    desk: &mut Desk<u64, u64>,
-    call: Call,
-    wanted: Told,
-) -> bool
-    requires { Serves (record { index = index.old; desk = desk.old }) }
-    ensures { Serves (record { index = index.new; desk = desk.new }) }
-{
-    match (call, wanted) {
-        (Call::Look(label, key), Told::Seen(number, len, value)) => {
-            let seen = Some((number, len, value, value.is_some()));
-            looked_up(index, desk, label, key) == seen
-        }
-        _ => is_played(alloc, index, desk, call, wanted).unwrap_or(false),
+    match (reply, told) {
+        (DeskReply::Slots(used), Told::AtMost(count)) => Ok(*used <= count),
+        _ => Ok(*reply == wanted(alloc, call, told)?),
     }
 }
 
-// Makes the calls of a table, in order, and tells how many answer what is wanted before the first that doesn't.
-fn play<const S: usize>(
-    alloc: Global,
-    index: &mut LocalIndex<u64, u64, S>,
-    desk: &mut Desk<u64, u64>,
-    rows: &[Row],
-) -> usize
-    requires { Serves (record { index = index.old; desk = desk.old }) }
-    ensures { Serves (record { index = index.new; desk = desk.new }) }
-{
+// Makes the calls of a table, in order, and tells how many answer what is wanted before the first that doesn't, and how many
+// there are.
+fn play<const S: usize>(scene: &mut Scene<S>, parts: &[&[Row]]) -> (usize, usize) {
     let mut right = 0usize;
-    for at in 0..rows.len() {
-        let (call, wanted) = rows[at];
-        if right == at && answers(alloc, index, desk, call, wanted) {
-            right = right.saturating_add(1);
+    let mut played = 0usize;
+    for part in parts {
+        for row in *part {
+            if scene.answers(row.0, row.1) && right == played {
+                right = right.saturating_add(1);
+            }
+            played = played.saturating_add(1);
         }
     }
-    right
+    (right, played)
 }
 
-/// Plays a table on a new index with so many places and slots, up to a last number.
-pub(crate) fn on_an_index<R: Abort, const S: usize>(
+/// Plays tables, each on a new index with so many pairs in a segment: what the first is about that has a row that isn't
+/// right, and the number of that row.
+pub(crate) fn first_wrong<R: Abort, const S: usize>(
     rt: &R,
     alloc: Global,
-    places: usize,
-    slots: usize,
-    last: u64,
-    rows: &[Row],
-)
-    requires { IsStoreSized places slots S }
-{
-    let Ok(mut index) = LocalIndex::<u64, u64, S>::with_last(alloc, places, slots, last) else {
-        panic!(rt; "memory is ample");
-    };
-    let Ok(mut desk) = Desk::new(alloc, places) else {
-        panic!(rt; "memory is ample");
-    };
-    let right = play(alloc, &mut index, &mut desk, rows);
-    desk.end(&mut index);
-    match index.close() {
-        Ok(()) => {}
-        Err(_open) => panic!(rt; "a session is open"),
+    tables: &[Table],
+) -> Option<(&'static str, usize)> {
+    for table in tables {
+        let mut scene = Scene::<S>::new(rt, alloc, table.places, table.slots, table.last);
+        let (right, played) = play(&mut scene, table.parts);
+        scene.end(rt);
+        if right < played {
+            return Some((table.about, right));
+        }
     }
-    assert_eq!(rt; right, rows.len(), "the first row that isn't right");
+    None
 }

@@ -4,7 +4,6 @@ use ordered_index::{Audit, Cause, LocalIndex, Query, Receipt, Reply, Text, Write
 use std::alloc::{AllocError, Global};
 use std::ops::Bound;
 use std::process::Abort;
-use std::test::Fail;
 
 // A directory of telephone numbers, by names.
 type Book = LocalIndex<Text, Text, 2>;
@@ -99,20 +98,18 @@ fn an_index_of_texts_is_read_and_written(rt: HostRuntime) {
     );
 }
 
-// How a text is printed, for a reader and as a value.
-fn prints(alloc: Global, text: &Text) -> Result<(String, String), AllocError> {
-    Ok((format!(in alloc; "{text}")?, format!(in alloc; "{text:?}")?))
-}
-
-#[test]
-fn texts_are_made_compared_and_printed(rt: HostRuntime) -> Result<(), Fail> {
-    let alloc = rt.alloc();
+// Whether a text is compared, cloned, printed for a reader and as a value, and given back as it was.
+fn are_texts(alloc: Global) -> Result<bool, AllocError> {
     let one = Text::new(alloc, "a \"b\"")?;
     let other = Text::from(String::from_str(alloc, "a")?);
     let compared = other < one && one.clone()? == one;
-    let (plain, quoted) = prints(alloc, &one)?;
-    let back = other.into_string();
-    let texts = (plain.as_str(), quoted.as_str(), back.as_str());
-    assert!(rt; compared && texts == ("a \"b\"", "\"a \\\"b\\\"\"", "a"));
-    Ok(())
+    let plain = format!(in alloc; "{one}")?;
+    let quoted = format!(in alloc; "{one:?}")?;
+    let printed = plain.as_str() == "a \"b\"" && quoted.as_str() == "\"a \\\"b\\\"\"";
+    Ok(compared && printed && other.into_string().as_str() == "a")
+}
+
+#[test]
+fn texts_are_made_compared_and_printed(rt: HostRuntime) {
+    assert!(rt; are_texts(rt.alloc()) == Ok(true));
 }

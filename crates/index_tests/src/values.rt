@@ -6,8 +6,6 @@ use ordered_index::{
 };
 use std::alloc::{AllocError, Global};
 use std::fmt;
-use std::process::Abort;
-use std::test::Fail;
 
 // Whether a value is printed like this.
 fn prints<T: fmt::Debug>(alloc: Global, value: &T, wanted: &str) -> Result<bool, AllocError> {
@@ -34,64 +32,61 @@ fn is_value<T: Clone + PartialEq + fmt::Debug + Drop>(
     Ok(copy == *value && prints(alloc, value, wanted)?)
 }
 
-#[test]
-fn receipts_are_values(rt: HostRuntime) -> Result<(), Fail> {
-    let one = receipt(rt.alloc())?;
+fn receipts(alloc: Global) -> Result<bool, AllocError> {
+    let one = receipt(alloc)?;
     let wanted = "Receipt { number: 3, reads: [(Get(1), Get(Some(10)))] }";
-    let differs = one != Receipt::blank(rt.alloc());
-    assert!(rt; differs && is_value(rt.alloc(), &one, wanted)?);
-    Ok(())
+    let differs = one != Receipt::blank(alloc);
+    Ok(differs && is_value(alloc, &one, wanted)?)
 }
 
-#[test]
-fn replies_to_commits_are_values(rt: HostRuntime) -> Result<(), Fail> {
-    let replies: Vec<Reply> = vec![in rt.alloc(); Reply::Inserted, Reply::Absent]?;
-    let accepted = Accepted { number: 4, replies };
+fn accepted(alloc: Global) -> Result<bool, AllocError> {
+    let replies: Vec<Reply> = vec![in alloc; Reply::Inserted, Reply::Absent]?;
     let wanted = "Accepted { number: 4, replies: [Inserted, Absent] }";
-    assert!(rt; is_value(rt.alloc(), &accepted, wanted)?);
-    let writes: Vec<Write<u64, u64>> = vec![in rt.alloc(); Write::Remove(7)]?;
-    let cause = Cause::Conflict(2);
-    let refused = Refused { cause, writes };
-    let wanted = "Refused { cause: Conflict(2), writes: [Remove(7)] }";
-    assert!(rt; is_value(rt.alloc(), &refused, wanted)?);
-    Ok(())
+    is_value(alloc, &Accepted { number: 4, replies }, wanted)
 }
 
-#[test]
-fn answers_and_audits_are_values(rt: HostRuntime) -> Result<(), Fail> {
-    let alloc = rt.alloc();
+fn refused(alloc: Global) -> Result<bool, AllocError> {
+    let writes: Vec<Write<u64, u64>> = vec![in alloc; Write::Remove(7)]?;
+    let cause = Cause::Conflict(2);
+    let wanted = "Refused { cause: Conflict(2), writes: [Remove(7)] }";
+    is_value(alloc, &Refused { cause, writes }, wanted)
+}
+
+fn answers(alloc: Global) -> Result<bool, AllocError> {
     let near: Near<u64, u64> = Near::Between(1, 10, 3, 30);
-    assert!(rt; prints(alloc, &near, "Between(1, 10, 3, 30)")?);
+    let printed = prints(alloc, &near, "Between(1, 10, 3, 30)")?;
     let answer = Answer::Locate(near);
     let differs = answer != Answer::Contains(true);
-    assert!(rt; differs && is_value(alloc, &answer, "Locate(Between(1, 10, 3, 30))")?);
-    assert!(rt; prints(alloc, &Audit::No(5), "No(5)")?);
-    Ok(())
+    let audit = prints(alloc, &Audit::No(5), "No(5)")?;
+    let value = is_value(alloc, &answer, "Locate(Between(1, 10, 3, 30))")?;
+    Ok(printed && differs && audit && value)
 }
 
 // A call that audits a receipt.
-fn audit(alloc: Global) -> Result<DeskCall<u64, u64>, AllocError> {
-    Ok(DeskCall::Audit(ReadSet::Receipt(receipt(alloc)?)))
+fn calls(alloc: Global) -> Result<bool, AllocError> {
+    let call: DeskCall<u64, u64> = DeskCall::Audit(ReadSet::Receipt(receipt(alloc)?));
+    let wanted = "Audit(Receipt(Receipt { number: 3, reads: [(Get(1), Get(Some(10)))] }))";
+    is_value(alloc, &call, wanted)
 }
 
 // A reply that gives a receipt.
-fn closed(alloc: Global) -> Result<DeskReply<u64, u64>, AllocError> {
-    Ok(DeskReply::Closed(receipt(alloc)?))
-}
-
-#[test]
-fn calls_are_values(rt: HostRuntime) -> Result<(), Fail> {
-    let call = audit(rt.alloc())?;
-    let wanted = "Audit(Receipt(Receipt { number: 3, reads: [(Get(1), Get(Some(10)))] }))";
-    assert!(rt; is_value(rt.alloc(), &call, wanted)?);
-    Ok(())
-}
-
-#[test]
-fn replies_to_calls_are_values(rt: HostRuntime) -> Result<(), Fail> {
-    let reply = closed(rt.alloc())?;
+fn replies(alloc: Global) -> Result<bool, AllocError> {
+    let reply: DeskReply<u64, u64> = DeskReply::Closed(receipt(alloc)?);
     let wanted = "Closed(Receipt { number: 3, reads: [(Get(1), Get(Some(10)))] })";
     let differs = reply != DeskReply::Reclaimed;
-    assert!(rt; differs && is_value(rt.alloc(), &reply, wanted)?);
-    Ok(())
+    Ok(differs && is_value(alloc, &reply, wanted)?)
+}
+
+#[test]
+fn what_is_asked_and_told_are_values(rt: HostRuntime) {
+    let alloc = rt.alloc();
+    let found = [
+        receipts(alloc),
+        accepted(alloc),
+        refused(alloc),
+        answers(alloc),
+        calls(alloc),
+        replies(alloc),
+    ];
+    assert!(rt; found == [Ok(true); 6]);
 }

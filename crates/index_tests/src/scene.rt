@@ -1,0 +1,162 @@
+//! An index of numbers and a desk that keeps its sessions.
+
+ghost use Rattle.std.specs.Prelude.{◌≡◌, None, replicate, IfSome};
+ghost use Rattle.version_views.specs.Sizes.{IsStoreSized};
+ghost use Rattle.ordered_index.specs.Desk.{Serves};
+ghost use Rattle.ordered_index.specs.State.{IsSessionOf};
+
+use crate::table::{Call, Told, desk_call, is_told};
+use ordered_index::{Desk, DeskCall, DeskReply, LocalIndex, Session, play_all, play_one};
+use std::alloc::{AllocError, Global};
+use std::process::Abort;
+
+/// What a look-up finds: the number and the length of a session's list, the value of a key there, and whether a pair has it.
+pub(crate) type Seen = (u64, usize, Option<u64>, bool);
+
+pub(crate) struct Scene<const S: usize> {
+    pub(crate) alloc: Global,
+    /// Whether memory was refused.
+    pub(crate) met: bool,
+    pub(crate) index: LocalIndex<u64, u64, S>,
+    pub(crate) desk: Desk<u64, u64>,
+    ghost serves: { Serves (record { index = index; desk = desk }) },
+}
+
+// A new index, whose making is tried again where memory was refused.
+fn index_of<R: Abort, const S: usize>(
+    rt: &R,
+    alloc: Global,
+    sizes: (usize, usize, u64),
+    met: &mut bool,
+) -> LocalIndex<u64, u64, S>
+    requires { IsStoreSized sizes.0 sizes.1 S }
+    ensures { result.places ≡ replicate sizes.0 None }
+{
+    let (places, slots, last) = sizes;
+    match LocalIndex::with_last(alloc, places, slots, last) {
+        Ok(index) => index,
+        Err(AllocError) => {
+            *met = true;
+            match LocalIndex::with_last(alloc, places, slots, last) {
+                Ok(index) => index,
+                Err(AllocError) => panic!(rt; "memory was refused twice"),
+            }
+        }
+    }
+}
+
+// A desk for so many sessions, tried again likewise.
+fn desk_of<R: Abort>(rt: &R, alloc: Global, places: usize, met: &mut bool) -> Desk<u64, u64>
+    ensures { result ≡ replicate places None }
+{
+    match Desk::new(alloc, places) {
+        Ok(desk) => desk,
+        Err(AllocError) => {
+            *met = true;
+            match Desk::new(alloc, places) {
+                Ok(desk) => desk,
+                Err(AllocError) => panic!(rt; "memory was refused twice"),
+            }
+        }
+    }
+}
+
+impl<const S: usize> Scene<S> {
+    /// A new index with so many places and slots, up to a last number.
+    pub(crate) fn new<R: Abort>(
+        rt: &R,
+        alloc: Global,
+        places: usize,
+        slots: usize,
+        last: u64,
+    ) -> Self {
+        if places > 8 || slots == 0 || slots > 10_000 || S == 0 || S > 225 {
+            panic!(rt; "a small index");
+        }
+        let mut met = false;
+        let index = index_of(rt, alloc, (places, slots, last), &mut met);
+        let desk = desk_of(rt, alloc, places, &mut met);
+        Scene {
+            alloc,
+            met,
+            index,
+            desk,
+        }
+    }
+
+    /// Makes a call.
+    pub(crate) fn reply(
+        &mut self,
+        call: DeskCall<u64, u64>,
+    ) -> Result<DeskReply<u64, u64>, AllocError> {
+        play_one(self.alloc, &mut self.index, &mut self.desk, call)
+    }
+
+    /// Makes calls, as one list of them.
+    pub(crate) fn replies(
+        &mut self,
+        calls: Vec<DeskCall<u64, u64>>,
+    ) -> Result<Vec<DeskReply<u64, u64>>, (Vec<DeskReply<u64, u64>>, AllocError)> {
+        play_all(self.alloc, &mut self.index, &mut self.desk, calls)
+    }
+
+    /// Reclaims versions that no session has.
+    pub(crate) fn reclaim(&mut self) {
+        self.index.reclaim();
+    }
+
+    /// The session with the label.
+    pub(crate) fn session(&self, label: u64) -> Option<&Session<u64, u64>>
+        ensures { IfSome result (λ session. IsSessionOf self.now.index session.now) }
+    {
+        match self.desk.session(label) {
+            Some(session) => Some(session),
+            None => None,
+        }
+    }
+
+    /// What the session with the label finds of a key, by calls that aren't recorded.
+    pub(crate) fn looked_up(&self, label: u64, key: u64) -> Option<Seen> {
+        let Some(session) = self.session(label) else {
+            return None;
+        };
+        let value = self.index.get(session, &key).copied();
+        Some((
+            self.index.number(session),
+            self.index.len(session),
+            value,
+            self.index.contains(session, &key),
+        ))
+    }
+
+    fn is_played(&mut self, call: Call, told: Told) -> Result<bool, AllocError> {
+        let made = desk_call(self.alloc, call)?;
+        let reply = self.reply(made)?;
+        is_told(self.alloc, &reply, call, told)
+    }
+
+    /// Makes a call, and tells whether it answers what is wanted. Where memory is refused, it doesn't.
+    pub(crate) fn answers(&mut self, call: Call, told: Told) -> bool {
+        match (call, told) {
+            (Call::Look(label, key), Told::Seen(number, len, value)) => {
+                self.looked_up(label, key) == Some((number, len, value, value.is_some()))
+            }
+            _ => self.is_played(call, told).unwrap_or(false),
+        }
+    }
+
+    /// Ends the index, with the sessions that the desk keeps; there are no others.
+    pub(crate) fn end<R: Abort>(self, rt: &R) {
+        let Scene {
+            alloc: _,
+            met: _,
+            mut index,
+            desk,
+        } = self;
+        desk.end(&mut index);
+        match index.close() {
+            Ok(()) => {}
+            Err(_open) => panic!(rt; "a session is open"),
+        }
+    }
+}
