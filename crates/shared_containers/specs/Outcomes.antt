@@ -1,8 +1,16 @@
--- what pushes and pops come to
-use Rattle.std.specs.Prelude.{◌≡◌, Bool, true, false}
+-- what pushes, pops, and the making of containers come to
+use Rattle.std.specs.Prelude.{◌≡◌, Bool, true, false, Option, Some, List}
+use Rattle.std.specs.Iterator.{YieldsThen}
 use Rattle.atomic_table.specs.Seated.{TableId}
 use Rattle.sdd_domain.specs.Sharing.{kept_in, IsOwnerOf}
 use Rattle.sdd_domain.specs.declared.shared.Shared.{Shared}
+use Rattle.shared_containers.specs.declared.outcome.CloneRefused.{CloneRefused}
+use Rattle.shared_containers.specs.declared.outcome.CloneRefused.TheVariants as cloned
+use Rattle.shared_containers.specs.declared.outcome.FromIterRefused.{FromIterRefused}
+use Rattle.shared_containers.specs.declared.outcome.FromIterRefused.TheVariants as filled
+use Rattle.shared_containers.specs.declared.outcome.NotCloned.{NotCloned}
+use Rattle.shared_containers.specs.declared.outcome.NotCloned.TheVariants.{Memory, Refused}
+use Rattle.shared_containers.specs.declared.outcome.NotMade.{NotMade}
 use Rattle.shared_containers.specs.declared.outcome.Popped.{Popped}
 use Rattle.shared_containers.specs.declared.outcome.Popped.TheVariants.{Empty, Item, Kept, Again}
 use Rattle.shared_containers.specs.declared.outcome.Pushed.{Pushed}
@@ -55,3 +63,30 @@ IsValueOf (NoSlot v) value = v ≡ value
 IsValueOf (Full v) value = v ≡ value
 IsValueOf (Condition s) value = ⊥
 IsValueOf (Busy s) value = ⊥
+
+-- a collection gives this value, behind some others
+abbrev pub Gives : {T C It : Type 0} → (C → It → Type 0) → (It → Option T → It → Type 0) → C → T → Type 0
+Gives {T} {It = It} begins next values v = (it : It) × (vs : List T) × (rest : It) × begins values it × YieldsThen next it vs (Some v) rest
+
+-- what holds where nothing was made of a collection, and where the making ended at a value
+abbrev pub IfUnmade : {C T I : Type 0} → FromIterRefused C T I → (NotMade → I → Type 0) → Type 0
+IfUnmade (filled.Unmade why values) P = P why values
+IfUnmade (filled.Partly built r) P = Unit {0}
+
+abbrev pub IfPartly : {C T I : Type 0} → FromIterRefused C T I → (C → PushRefused T → Type 0) → Type 0
+IfPartly (filled.Unmade why values) P = Unit {0}
+IfPartly (filled.Partly built r) P = P built r
+
+-- the same of a clone
+abbrev pub IfUncopied : {C T : Type 0} → CloneRefused C T → (NotMade → Type 0) → Type 0
+IfUncopied (cloned.Unmade why) P = P why
+IfUncopied (cloned.Partly built why) P = Unit {0}
+
+abbrev pub IfPartlyCopied : {C T : Type 0} → CloneRefused C T → (C → NotCloned T → Type 0) → Type 0
+IfPartlyCopied (cloned.Unmade why) P = Unit {0}
+IfPartlyCopied (cloned.Partly built why) P = P built why
+
+-- some value can't always be cloned, or a clone of some value was refused
+abbrev pub IsNotCloned : {T : Type 0} → NotCloned T → (T → T → Type 0) → (T → Type 0) → TableId → Type 0
+IsNotCloned {T} Memory is_clone is_infallible place = (x : T) × ¬ is_infallible x
+IsNotCloned {T} (Refused r) is_clone is_infallible place = (x : T) × (y : T) × is_clone x y × IsRefused r y place ⊥ ⊥

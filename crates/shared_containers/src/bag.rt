@@ -4,11 +4,12 @@ ghost use Rattle.std.specs.Prelude.{◌≡◌, [], IfOk, IfErr, IfSome};
 ghost use Rattle.sdd_domain.specs.Sharing.{kept_in, IsOwnerOf};
 ghost use Rattle.sdd_domain.specs.Tokens.{place_of, home_of};
 ghost use Rattle.shared_containers.specs.Containers.{AreLinksOf, IsBagOf, IsAsBefore, IsReady, IsOpenIn, IsStill};
-ghost use Rattle.shared_containers.specs.Outcomes.{IsRefused};
+ghost use Rattle.shared_containers.specs.Outcomes.{Gives, IfPartly, IfUnmade, IsRefused};
+ghost use Rattle.std.specs.Iterator.{IsFiniteIterable};
 
 use crate::links::{Links, Row};
 use crate::moves::{TRIES, exchange, place};
-use crate::outcome::{NotMade, PushRefused};
+use crate::outcome::{FromIterRefused, NotMade, PushRefused};
 use crate::stack::Stack;
 use sdd_base::tag::Tag;
 use sdd_domain::domain::Domain;
@@ -46,6 +47,39 @@ impl<const ARRAY_LEN: usize> Bag<ARRAY_LEN> {
                 Err(NotMade::NoCell)
             }
         }
+    }
+
+    /// A bag of the values, the first `ARRAY_LEN` of them in the primary. Where no empty bag can be made they are back. The first
+    /// value that is refused, as `push` refuses it, is back with the bag of those before it, and what is left of the values is
+    /// let go. Conditions: the values end, they hold no owners, and none is in the participant's hand.
+    pub fn from_iter<T: Holds, I: IntoIterator<Item = T>>(
+        alloc: Global,
+        values: I,
+        domain: &Domain<T>,
+        links: &Links,
+        local: &mut Local<T>,
+    ) -> Result<Bag<ARRAY_LEN>, FromIterRefused<Bag<ARRAY_LEN>, T, I>>
+        requires ready { IsReady local.old domain.now }
+        requires links { AreLinksOf links.now domain.now }
+        requires ends { IsFiniteIterable I.into_iter_gives I.IntoIter.can_next I.IntoIter.remaining values }
+        requires holds { (v : T) → Gives I.into_iter_gives I.IntoIter.next_gives values v → T.holds v ≡ [] }
+        ensures bag { IfOk result (λ b. IsBagOf b domain.now) }
+        ensures unmade { IfErr result (λ e. IfUnmade e (λ _ back. back ≡ values)) }
+        ensures built { IfErr result (λ e. IfPartly e (λ b _. IsBagOf b domain.now)) }
+        ensures partly { IfErr result (λ e. IfPartly e (λ _ r. (v : T) × Gives I.into_iter_gives I.IntoIter.next_gives values v × IsRefused r v (place_of domain.now).0 ⊥ ⊥)) }
+        ensures same { IsAsBefore local.old local.new }
+    {
+        let bag = match Bag::new(alloc, domain, local) {
+            Ok(bag) => bag,
+            Err(why) => return Err(FromIterRefused::Unmade(why, values)),
+        };
+        for value in values {
+            match bag.push(value, domain, links, local) {
+                Ok(()) => {}
+                Err(refused) => return Err(FromIterRefused::Partly(bag, refused)),
+            }
+        }
+        Ok(bag)
     }
 
     /// How many items it has, as each place of the primary, and then the overflow, is found.

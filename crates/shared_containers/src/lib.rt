@@ -6,6 +6,7 @@
 #![tactic(auto)]
 
 pub mod bag;
+mod copies;
 mod front;
 pub mod links;
 mod moves;

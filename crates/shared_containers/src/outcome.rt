@@ -1,4 +1,4 @@
-//! What pushes and pops come to.
+//! What pushes, pops, and the making of containers come to.
 
 ghost use Rattle.std.specs.Prelude.{◌≡◌, IfSome};
 ghost use Rattle.sdd_domain.specs.Tokens.{place_of, home_of};
@@ -47,6 +47,30 @@ impl<T: Holds> PushRefused<T> {
             }
         }
     }
+}
+
+/// Why a container of the values of an iterator wasn't made, with what was built of it.
+pub enum FromIterRefused<C, T, I> {
+    /// Not even an empty container could be made. What was to give the values is back.
+    Unmade(NotMade, I),
+    /// A value was refused, as a push of it is: the container of those before it, and the refusal.
+    Partly(C, PushRefused<T>),
+}
+
+/// Why a container wasn't cloned, with what was built of the clone.
+pub enum CloneRefused<C, T> {
+    /// Not even an empty container could be made.
+    Unmade(NotMade),
+    /// The container of the clones before the one that there isn't, and why there isn't.
+    Partly(C, NotCloned<T>),
+}
+
+/// Why there is no clone of a value in a container.
+pub enum NotCloned<T> {
+    /// The value's own `clone` was refused memory.
+    Memory,
+    /// There was no room for the clone, which is back.
+    Refused(PushRefused<T>),
 }
 
 /// What pushing an owner came to: it is in, the condition answered false, or others were faster.

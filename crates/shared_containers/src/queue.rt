@@ -5,11 +5,12 @@ ghost use Rattle.sdd_domain.specs.Cells.{cell_number};
 ghost use Rattle.sdd_domain.specs.Sharing.{kept_in, IsOwnerOf};
 ghost use Rattle.sdd_domain.specs.Tokens.{place_of, home_of, cell_count};
 ghost use Rattle.shared_containers.specs.Containers.{AreLinksOf, IsQueueOf, IsAsBefore, IsReady, IsOpenIn, IsStill};
-ghost use Rattle.shared_containers.specs.Outcomes.{IsPushed, IsRefused, Said};
+ghost use Rattle.shared_containers.specs.Outcomes.{Gives, IfPartly, IfPartlyCopied, IfUncopied, IfUnmade, IsNotCloned, IsPushed, IsRefused, Said};
+ghost use Rattle.std.specs.Iterator.{IsFiniteIterable};
 
 use crate::links::Links;
 use crate::moves::{TRIES, exchange, follow, place};
-use crate::outcome::{PushRefused, Pushed};
+use crate::outcome::{CloneRefused, FromIterRefused, NotMade, PushRefused, Pushed};
 use crate::stack::Stack;
 use sdd_base::tag::Tag;
 use sdd_domain::atomic_shared::AtomicShared;
@@ -46,6 +47,65 @@ impl Queue {
             is_front: true,
         };
         Some(Queue { front, last })
+    }
+
+    /// A queue of the values, the first one in front. Where fewer than two cells are free for it they are back, a miss. The first
+    /// value that is refused, as `push` refuses it, is back with the queue of those before it, and what is left of the values
+    /// is let go. Conditions: the values end, they hold no owners, and none is in the participant's hand.
+    pub fn from_iter<T: Holds, I: IntoIterator<Item = T>>(
+        values: I,
+        domain: &Domain<T>,
+        links: &Links,
+        local: &mut Local<T>,
+    ) -> Result<Queue, FromIterRefused<Queue, T, I>>
+        requires ready { IsReady local.old domain.now }
+        requires links { AreLinksOf links.now domain.now }
+        requires ends { IsFiniteIterable I.into_iter_gives I.IntoIter.can_next I.IntoIter.remaining values }
+        requires holds { (v : T) → Gives I.into_iter_gives I.IntoIter.next_gives values v → T.holds v ≡ [] }
+        ensures queue { IfOk result (λ q. IsQueueOf q domain.now) }
+        ensures unmade { IfErr result (λ e. IfUnmade e (λ why back. (why ≡ NotMade.NoCell) × (back ≡ values))) }
+        ensures built { IfErr result (λ e. IfPartly e (λ q _. IsQueueOf q domain.now)) }
+        ensures partly { IfErr result (λ e. IfPartly e (λ _ r. (v : T) × Gives I.into_iter_gives I.IntoIter.next_gives values v × IsRefused r v (place_of domain.now).0 ⊥ ⊥)) }
+        ensures same { IsAsBefore local.old local.new }
+    {
+        let Some(queue) = Queue::new(domain, local) else {
+            return Err(FromIterRefused::Unmade(NotMade::NoCell, values));
+        };
+        for value in values {
+            match queue.push(value, domain, links, local) {
+                Ok(()) => {}
+                Err(refused) => return Err(FromIterRefused::Partly(queue, refused)),
+            }
+        }
+        Ok(queue)
+    }
+
+    /// A queue of clones of the items that `for_each` finds, in their order, each in a slot of its own. Where fewer than two
+    /// cells are free for it there is none, a miss. Where a clone is refused memory, or has no room, the queue of those before
+    /// it is back. The next push on it goes along all of its items. Conditions: clones hold no owners, and none is in the
+    /// participant's hand.
+    pub fn clone<T: Holds + Clone>(
+        &self,
+        domain: &Domain<T>,
+        links: &Links,
+        local: &mut Local<T>,
+    ) -> Result<Queue, CloneRefused<Queue, T>>
+        requires ready { IsReady local.old domain.now }
+        requires queue { IsQueueOf self.now domain.now × AreLinksOf links.now domain.now }
+        requires holds { (x y : T) → T.is_clone x y → T.holds y ≡ [] }
+        ensures queue { IfOk result (λ q. IsQueueOf q domain.now) }
+        ensures unmade { IfErr result (λ e. IfUncopied e (λ why. why ≡ NotMade.NoCell)) }
+        ensures built { IfErr result (λ e. IfPartlyCopied e (λ q _. IsQueueOf q domain.now)) }
+        ensures partly { IfErr result (λ e. IfPartlyCopied e (λ _ why. IsNotCloned why T.is_clone T.is_infallible (place_of domain.now).0)) }
+        ensures same { IsAsBefore local.old local.new }
+    {
+        let Some(copy) = Queue::new(domain, local) else {
+            return Err(CloneRefused::Unmade(NotMade::NoCell));
+        };
+        match self.front.copy_into(&copy.front, domain, links, local) {
+            Ok(()) => Ok(copy),
+            Err(why) => Err(CloneRefused::Partly(copy, why)),
+        }
     }
 
     /// Whether it has no item, as it is found in one step. One that was popped may still be found.

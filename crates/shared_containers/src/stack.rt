@@ -5,11 +5,12 @@ ghost use Rattle.sdd_domain.specs.Cells.{cell_number};
 ghost use Rattle.sdd_domain.specs.Sharing.{kept_in, IsOwnerOf};
 ghost use Rattle.sdd_domain.specs.Tokens.{place_of, home_of, own_of, cell_count, IsInNest};
 ghost use Rattle.shared_containers.specs.Containers.{AreLinksOf, IsStackOf, IsAsBefore, IsReady, IsOpenIn, IsStill};
-ghost use Rattle.shared_containers.specs.Outcomes.{IsPushed, IsRefused, Said};
+ghost use Rattle.shared_containers.specs.Outcomes.{Gives, IfPartly, IfPartlyCopied, IfUncopied, IfUnmade, IsNotCloned, IsPushed, IsRefused, Said};
+ghost use Rattle.std.specs.Iterator.{IsFiniteIterable};
 
 use crate::links::Links;
 use crate::moves::{TRIES, exchange, follow, place};
-use crate::outcome::{Popped, PushRefused, Pushed};
+use crate::outcome::{CloneRefused, FromIterRefused, NotMade, Popped, PushRefused, Pushed};
 use sdd_base::tag::Tag;
 use sdd_domain::atomic_shared::AtomicShared;
 use sdd_domain::domain::Domain;
@@ -38,6 +39,64 @@ impl Stack {
             first,
             is_front: false,
         })
+    }
+
+    /// A stack of the values, the last one in front. Where no cell is free for it they are back, a miss. The first value that is
+    /// refused, as `push` refuses it, is back with the stack of those before it, and what is left of the values is let go.
+    /// Conditions: the values end, they hold no owners, and none is in the participant's hand.
+    pub fn from_iter<T: Holds, I: IntoIterator<Item = T>>(
+        values: I,
+        domain: &Domain<T>,
+        links: &Links,
+        local: &mut Local<T>,
+    ) -> Result<Stack, FromIterRefused<Stack, T, I>>
+        requires ready { IsReady local.old domain.now }
+        requires links { AreLinksOf links.now domain.now }
+        requires ends { IsFiniteIterable I.into_iter_gives I.IntoIter.can_next I.IntoIter.remaining values }
+        requires holds { (v : T) → Gives I.into_iter_gives I.IntoIter.next_gives values v → T.holds v ≡ [] }
+        ensures stack { IfOk result (λ s. IsStackOf s domain.now) }
+        ensures unmade { IfErr result (λ e. IfUnmade e (λ why back. (why ≡ NotMade.NoCell) × (back ≡ values))) }
+        ensures built { IfErr result (λ e. IfPartly e (λ s _. IsStackOf s domain.now)) }
+        ensures partly { IfErr result (λ e. IfPartly e (λ _ r. (v : T) × Gives I.into_iter_gives I.IntoIter.next_gives values v × IsRefused r v (place_of domain.now).0 ⊥ ⊥)) }
+        ensures same { IsAsBefore local.old local.new }
+    {
+        let Some(stack) = Stack::new(domain, local) else {
+            return Err(FromIterRefused::Unmade(NotMade::NoCell, values));
+        };
+        for value in values {
+            match stack.push(value, domain, links, local) {
+                Ok(()) => {}
+                Err(refused) => return Err(FromIterRefused::Partly(stack, refused)),
+            }
+        }
+        Ok(stack)
+    }
+
+    /// A stack of clones of the items that `for_each` finds, in their order, each in a slot of its own. Where no cell is free for
+    /// it there is none, a miss. Where a clone is refused memory, or has no room, the stack of those before it is back.
+    /// Conditions: clones hold no owners, and none is in the participant's hand.
+    pub fn clone<T: Holds + Clone>(
+        &self,
+        domain: &Domain<T>,
+        links: &Links,
+        local: &mut Local<T>,
+    ) -> Result<Stack, CloneRefused<Stack, T>>
+        requires ready { IsReady local.old domain.now }
+        requires stack { IsStackOf self.now domain.now × AreLinksOf links.now domain.now }
+        requires holds { (x y : T) → T.is_clone x y → T.holds y ≡ [] }
+        ensures stack { IfOk result (λ s. IsStackOf s domain.now) }
+        ensures unmade { IfErr result (λ e. IfUncopied e (λ why. why ≡ NotMade.NoCell)) }
+        ensures built { IfErr result (λ e. IfPartlyCopied e (λ s _. IsStackOf s domain.now)) }
+        ensures partly { IfErr result (λ e. IfPartlyCopied e (λ _ why. IsNotCloned why T.is_clone T.is_infallible (place_of domain.now).0)) }
+        ensures same { IsAsBefore local.old local.new }
+    {
+        let Some(copy) = Stack::new(domain, local) else {
+            return Err(CloneRefused::Unmade(NotMade::NoCell));
+        };
+        match self.copy_into(&copy, domain, links, local) {
+            Ok(()) => Ok(copy),
+            Err(why) => Err(CloneRefused::Partly(copy, why)),
+        }
     }
 
     /// Whether it has no item, as it is found in one step.
