@@ -5,8 +5,11 @@
 mod bags;
 #[cfg(test)]
 mod conditions;
+pub mod kinds;
 #[cfg(test)]
 mod lists;
+#[cfg(test)]
+mod making;
 #[cfg(test)]
 mod scene;
 #[cfg(test)]

@@ -9,6 +9,7 @@ ghost use Rattle.shared_containers.specs.Containers.{AreLinksOf, IsBagOf, IsQueu
 use sdd_base::sizes::Sizes;
 use sdd_domain::domain::Domain;
 use sdd_domain::guard::Guard;
+use sdd_domain::holds::Holds;
 use sdd_domain::local::Local;
 use sdd_domain::shared::Shared;
 use shared_containers::bag::Bag;
@@ -31,7 +32,7 @@ pub(crate) fn sized(participants: u8, slots: u16, cells: u16) -> Sizes
     }
 }
 
-pub(crate) fn member<R: Abort>(rt: &R, domain: &Domain<u64>) -> Local<u64>
+pub(crate) fn member<T: Holds, R: Abort>(rt: &R, domain: &Domain<T>) -> Local<T>
     ensures home { (home_of result ≡ place_of domain.now) × (hand_of result ≡ []) }
     ensures closed { (own_of result).nesting ≡ 0 }
 {
@@ -42,7 +43,7 @@ pub(crate) fn member<R: Abort>(rt: &R, domain: &Domain<u64>) -> Local<u64>
 }
 
 /// Ends a place in which nobody is registered.
-pub(crate) fn end<R: Abort>(rt: &R, domain: Domain<u64>) {
+pub(crate) fn end<T: Holds, R: Abort>(rt: &R, domain: Domain<T>) {
     match domain.close() {
         Ok(()) => {}
         Err(_) => panic!(rt; "nobody is registered, and nothing has an owner"),
