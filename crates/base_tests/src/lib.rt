@@ -2,19 +2,25 @@
 #![tactic(auto)]
 
 #[cfg(test)]
-mod common;
+mod cells;
+#[cfg(test)]
+mod guards;
 #[cfg(test)]
 mod in_place;
 #[cfg(test)]
 mod items;
 #[cfg(test)]
+mod kept;
+#[cfg(test)]
 mod large;
 #[cfg(test)]
 mod nested;
 #[cfg(test)]
-mod owned_cells;
+mod owners;
 #[cfg(test)]
 mod plain;
+#[cfg(test)]
+mod play;
 #[cfg(test)]
 mod random_calls;
 #[cfg(test)]
@@ -24,7 +30,9 @@ mod reclaiming;
 #[cfg(test)]
 mod refusals;
 #[cfg(test)]
-mod shared_cells;
+mod stage;
+#[cfg(test)]
+mod steps;
 #[cfg(test)]
 mod texts;
 #[cfg(test)]

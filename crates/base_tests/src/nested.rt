@@ -1,9 +1,16 @@
 //! Items that hold items.
 
-use crate::common::{cloned, close_fast, end, guarded, pass, passes, place, shared_item};
-use crate::in_place::dropped;
-use sdd_base::{Held, Holds, PrivateCollector, Shared, World, world};
+ghost use Rattle.std.specs.Prelude.{◌<◌, length};
+ghost use Rattle.sdd_table.specs.Place.{IsShared};
+ghost use Rattle.sdd_base.specs.Tokens.{shared_slot};
+
+use crate::nested::Step::{Clone, Collect, Directory, Drop, Pass, Read, Release, Segment, Slots};
+use crate::stage::{count, told};
+use crate::steps::Found::{Done, Is, Yes};
+use crate::steps::{A, B, Found};
+use sdd_base::{Held, Holds, PrivateCollector, Shared, Sizes, World, world};
 use std::alloc::Global;
+use std::mem;
 use std::process::Abort;
 
 /// A directory of segments, or a segment.
@@ -39,134 +46,283 @@ impl Holds for Item {
     }
 }
 
-/// A new segment.
-fn segment<R: Abort>(rt: &R, w: &mut World<Item>, value: u64) -> Shared<Item> {
-    shared_item(rt, w, Item::Segment(value))
+/// What is done with items that may hold others. What a step makes or takes is at the first place that it names.
+#[derive(Clone, Copy)]
+enum Step {
+    /// A new segment.
+    Segment(usize, u64),
+    /// A new directory of the item that is at its place.
+    Directory(usize),
+    /// One more owner of the item at the first place, which is at the second.
+    Clone(usize, usize),
+    /// The value of a segment.
+    Read(usize),
+    /// Gives an owner back, drops it in place, or collects it under an accelerated guard: whether it was the last one.
+    Release(usize),
+    Drop(usize),
+    Collect(usize),
+    /// Opens and closes so many accelerated guards, one by one: how many slots are in use then.
+    Pass(usize),
+    Slots,
 }
 
-/// A new directory of one item.
-fn directory<R: Abort>(
-    rt: &R,
+type Row = (Step, Found);
+
+/// A place of items with one participant, a collector, and two places for owners.
+struct Nest<'r, R> {
+    rt: &'r R,
     alloc: Global,
-    w: &mut World<Item>,
-    item: Shared<Item>,
-) -> Shared<Item> {
-    let mut items = Vec::new(alloc);
-    match items.push(item) {
-        Ok(()) => {}
-        Err(_) => panic!(rt; "there is room"),
-    }
-    shared_item(rt, w, Item::Directory(items))
+    w: World<Item>,
+    collector: PrivateCollector<Item>,
+    first: Option<Shared<Item>>,
+    second: Option<Shared<Item>>,
 }
 
-/// Gives an owner back, by participant 0.
-fn release<R: Abort>(rt: &R, w: &mut World<Item>, shared: Shared<Item>) {
-    if !world::shared::is_here(w, &shared) || w.participants() == 0 {
-        panic!(rt; "its item is there");
+impl<'r, R: Abort> Nest<'r, R> {
+    /// A new place with four slots.
+    fn new(rt: &'r R, alloc: Global) -> Self {
+        let sizes = Sizes {
+            participants: 1,
+            slots: 4,
+            cells: 0,
+            jobs: 0,
+        };
+        let Ok(w) = World::new(alloc, sizes) else {
+            panic!(rt; "memory is ample");
+        };
+        let Ok(collector) = world::private_collector::new(alloc, &w) else {
+            panic!(rt; "memory is ample");
+        };
+        Nest {
+            rt,
+            alloc,
+            w,
+            collector,
+            first: None,
+            second: None,
+        }
     }
-    world::shared::release(w, shared, 0);
+
+    /// Takes the owner at a place, whose item is there.
+    fn owner(&mut self, at: usize) -> Shared<Item>
+        ensures live { IsShared self.new.w (shared_slot result) }
+        ensures participant { 0 < length self.new.w.participants }
+    {
+        let rt = self.rt;
+        let place = if at == A {
+            &mut self.first
+        } else {
+            &mut self.second
+        };
+        match place.take() {
+            Some(owner) if world::shared::is_here(&self.w, &owner) && self.w.participants() > 0 => {
+                owner
+            }
+            _ => panic!(rt; "an owner is there"),
+        }
+    }
+
+    /// Has an owner at a place.
+    fn put(&mut self, at: usize, owner: Shared<Item>) -> Found {
+        let rt = self.rt;
+        let place = if at == A {
+            &mut self.first
+        } else {
+            &mut self.second
+        };
+        match mem::replace(place, Some(owner)) {
+            None => Done,
+            Some(_) => panic!(rt; "the place is taken"),
+        }
+    }
+
+    /// Places an item, where a slot is free.
+    fn place(&mut self, at: usize, item: Item) -> Found {
+        let rt = self.rt;
+        match world::shared::new(&mut self.w, item) {
+            Ok(owner) => self.put(at, owner),
+            Err(_) => panic!(rt; "a slot is free"),
+        }
+    }
+
+    /// Opens and closes so many accelerated guards, one by one.
+    fn pass(&mut self, times: usize) -> Found {
+        let rt = self.rt;
+        for _ in 0..times {
+            if self.w.participants() == 0 {
+                panic!(rt; "there is a participant");
+            }
+            match world::guard::new(&mut self.w, 0) {
+                Ok(guard) => {
+                    world::guard::accelerate(&mut self.w, &guard);
+                    world::guard::close(&mut self.w, guard);
+                }
+                Err(_) => panic!(rt; "few guards are open"),
+            }
+        }
+        count(self.w.slots_in_use())
+    }
+
+    fn step(&mut self, step: Step) -> Found {
+        let rt = self.rt;
+        match step {
+            Segment(at, value) => self.place(at, Item::Segment(value)),
+            Directory(at) => {
+                let mut items = Vec::new(self.alloc);
+                match items.push(self.owner(at)) {
+                    Ok(()) => self.place(at, Item::Directory(items)),
+                    Err(_) => panic!(rt; "memory is ample"),
+                }
+            }
+            Pass(times) => self.pass(times),
+            Slots => count(self.w.slots_in_use()),
+            Collect(at) => self.collect(at),
+            Clone(at, _) | Read(at) | Release(at) | Drop(at) => self.with_owner(at, step),
+        }
+    }
+
+    /// A step with an owner.
+    fn with_owner(&mut self, at: usize, step: Step) -> Found {
+        let owner = self.owner(at);
+        let (left, found) = match step {
+            Clone(_, to) => match world::shared::clone(&mut self.w, &owner) {
+                Some(more) => (Some(owner), self.put(to, more)),
+                None => (Some(owner), Found::No),
+            },
+            Read(_) => {
+                let found = match world::shared::as_ref(&self.w, &owner) {
+                    Item::Segment(value) => Is(*value),
+                    Item::Directory(_) => Found::Nothing,
+                };
+                (Some(owner), found)
+            }
+            Drop(_) => match world::shared::drop_in_place(&mut self.w, owner) {
+                Ok(last) => (None, told(last)),
+                Err(owner) => (Some(owner), Found::Guarded),
+            },
+            _ => (None, told(world::shared::release(&mut self.w, owner, 0))),
+        };
+        if let Some(owner) = left {
+            self.put(at, owner);
+        }
+        found
+    }
+
+    fn collect(&mut self, at: usize) -> Found {
+        let rt = self.rt;
+        if self.w.participants() == 0 {
+            panic!(rt; "there is a participant");
+        }
+        let Ok(guard) = world::guard::new(&mut self.w, 0) else {
+            panic!(rt; "few guards are open");
+        };
+        let owner = self.owner(at);
+        if !world::guard::is_open(&self.w, &guard) {
+            panic!(rt; "the guard is open");
+        }
+        let last = world::private_collector::collect_shared(
+            &mut self.w,
+            &mut self.collector,
+            owner,
+            &guard,
+        );
+        world::guard::accelerate(&mut self.w, &guard);
+        world::guard::close(&mut self.w, guard);
+        told(last)
+    }
+
+    /// Ends the place, in which nothing is out, and of which nothing is left.
+    fn end(self) {
+        let Nest {
+            rt,
+            alloc: _,
+            mut w,
+            collector,
+            first,
+            second,
+        } = self;
+        match (first, second) {
+            (None, None) if w.participants() > 0 => {
+                world::private_collector::hand_over(&mut w, collector, 0);
+            }
+            _ => panic!(rt; "nothing is left"),
+        }
+        match w.close() {
+            Ok(()) => {}
+            Err(_) => panic!(rt; "nothing is out"),
+        }
+    }
 }
+
+/// Plays rows in a new place: how many are right before the first that isn't.
+fn right<R: Abort>(rt: &R, alloc: Global, rows: &[Row]) -> usize {
+    let mut nest = Nest::new(rt, alloc);
+    let mut right = 0usize;
+    for at in 0..rows.len() {
+        let (step, wanted) = rows[at];
+        if nest.step(step) == wanted && right == at {
+            right = right.saturating_add(1);
+        }
+    }
+    nest.end();
+    right
+}
+
+/// An item is reclaimed before what it held.
+const BEFORE_WHAT_IT_HELD: [Row; 10] = [
+    (Segment(A, 7), Done),
+    (Directory(A), Done),
+    (Release(A), Yes),
+    (Pass(1), Is(2)),
+    (Pass(1), Is(2)),
+    (Pass(1), Is(2)),
+    (Pass(1), Is(1)),
+    (Pass(1), Is(1)),
+    (Pass(1), Is(1)),
+    (Pass(1), Is(0)),
+];
+
+/// What only a dropped item held goes with it.
+const GOES_WITH_IT: [Row; 6] = [
+    (Segment(A, 7), Done),
+    (Directory(A), Done),
+    (Directory(A), Done),
+    (Slots, Is(3)),
+    (Drop(A), Yes),
+    (Slots, Is(0)),
+];
+
+/// What has another owner stays.
+const STAYS: [Row; 7] = [
+    (Segment(A, 7), Done),
+    (Clone(A, B), Done),
+    (Directory(A), Done),
+    (Drop(A), Yes),
+    (Read(B), Is(7)),
+    (Slots, Is(1)),
+    (Drop(B), Yes),
+];
+
+/// A collect reclaims what is overdue first. The directory has the other owner of its segment. It is overdue when the segment
+/// is collected, and reclaimed first, so the owner that is collected then is the last one.
+const OVERDUE_FIRST: [Row; 7] = [
+    (Segment(A, 7), Done),
+    (Clone(A, B), Done),
+    (Directory(A), Done),
+    (Collect(A), Yes),
+    (Pass(2), Is(2)),
+    (Collect(B), Yes),
+    (Slots, Is(1)),
+];
 
 #[test]
-fn an_item_is_reclaimed_before_what_it_held(rt: HostRuntime) {
-    let mut w: World<Item> = place(&rt, rt.alloc(), 1, 2, 0);
-    let held = segment(&rt, &mut w, 7);
-    let top = directory(&rt, rt.alloc(), &mut w, held);
-    release(&rt, &mut w, top);
-    let mut seen = [0usize; 7];
-    for n in 0..7 {
-        pass(&mut w, 0);
-        seen[n] = w.slots_in_use();
-    }
-    end(&rt, w);
-    assert!(rt; seen == [2, 2, 2, 1, 1, 1, 0]);
-}
-
-#[test]
-fn what_only_a_dropped_item_held_goes_with_it(rt: HostRuntime) {
-    let mut w: World<Item> = place(&rt, rt.alloc(), 1, 4, 0);
-    let lowest = segment(&rt, &mut w, 7);
-    let middle = directory(&rt, rt.alloc(), &mut w, lowest);
-    let top = directory(&rt, rt.alloc(), &mut w, middle);
-    let before = w.slots_in_use();
-    let last = dropped(&rt, &mut w, top);
-    let after = w.slots_in_use();
-    end(&rt, w);
-    assert!(rt; (before, last, after) == (3, true, 0));
-}
-
-/// The value of a segment.
-fn value_of<R: Abort>(rt: &R, w: &World<Item>, shared: &Shared<Item>) -> Option<u64> {
-    if !world::shared::is_here(w, shared) {
-        panic!(rt; "its item is there");
-    }
-    match world::shared::as_ref(w, shared) {
-        Item::Segment(value) => Some(*value),
-        Item::Directory(_) => None,
-    }
-}
-
-#[test]
-fn what_has_another_owner_stays(rt: HostRuntime) {
-    let mut w: World<Item> = place(&rt, rt.alloc(), 1, 2, 0);
-    let held = segment(&rt, &mut w, 7);
-    let other = cloned(&rt, &mut w, &held);
-    let top = directory(&rt, rt.alloc(), &mut w, held);
-    let last = dropped(&rt, &mut w, top);
-    let value = value_of(&rt, &w, &other);
-    let used = w.slots_in_use();
-    let other_last = dropped(&rt, &mut w, other);
-    end(&rt, w);
-    assert!(rt; (last, value, used, other_last) == (true, Some(7), 1, true));
-}
-
-/// Collects an owner under an accelerated guard of participant 0, and answers whether it was the last.
-fn collected<R: Abort>(
-    rt: &R,
-    w: &mut World<Item>,
-    collector: &mut PrivateCollector<Item>,
-    shared: Shared<Item>,
-) -> bool {
-    let guard = guarded(rt, w, 0);
-    if !world::shared::is_here(w, &shared) || !world::guard::is_open(w, &guard) {
-        panic!(rt; "its item is there, and the guard is open");
-    }
-    let last = world::private_collector::collect_shared(w, collector, shared, &guard);
-    close_fast(rt, w, guard);
-    last
-}
-
-fn new_collector<R: Abort>(rt: &R, alloc: Global, w: &World<Item>) -> PrivateCollector<Item> {
-    match world::private_collector::new(alloc, w) {
-        Ok(collector) => collector,
-        Err(_) => panic!(rt; "memory is ample"),
-    }
-}
-
-/// Ends a collector, by participant 0.
-fn hand_over<R: Abort>(rt: &R, w: &mut World<Item>, collector: PrivateCollector<Item>) {
-    if w.participants() == 0 {
-        panic!(rt; "there is a participant");
-    }
-    world::private_collector::hand_over(w, collector, 0);
-}
-
-/// The directory has the other owner of its segment. It is overdue when the segment is collected, and reclaimed first, so
-/// the owner that is collected then is the last one.
-#[test]
-fn a_collect_reclaims_what_is_overdue_first(rt: HostRuntime) {
-    let mut w: World<Item> = place(&rt, rt.alloc(), 1, 2, 0);
-    let mut collector = new_collector(&rt, rt.alloc(), &w);
-    let held = segment(&rt, &mut w, 7);
-    let other = cloned(&rt, &mut w, &held);
-    let top = directory(&rt, rt.alloc(), &mut w, held);
-    let first = collected(&rt, &mut w, &mut collector, top);
-    let passed = passes(&mut w, 0, 2);
-    let before = w.slots_in_use();
-    let second = collected(&rt, &mut w, &mut collector, other);
-    let after = w.slots_in_use();
-    hand_over(&rt, &mut w, collector);
-    end(&rt, w);
-    assert!(rt; (first, passed, second) == (true, true, true));
-    assert!(rt; (before, after) == (2, 1));
+fn what_an_item_holds_is_reclaimed_behind_it(rt: HostRuntime) {
+    let alloc = rt.alloc();
+    let found = [
+        right(&rt, alloc, &BEFORE_WHAT_IT_HELD),
+        right(&rt, alloc, &GOES_WITH_IT),
+        right(&rt, alloc, &STAYS),
+        right(&rt, alloc, &OVERDUE_FIRST),
+    ];
+    assert_eq!(rt; found, [10, 6, 7, 7], "rows before one that isn't right");
 }

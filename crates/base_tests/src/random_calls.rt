@@ -1,15 +1,20 @@
 //! Random lists of calls, beside a plain model of what a place should do: an item that nobody owns any more has an age,
-//! which rises where its retirer's outermost opening finds another count, and its slot is free at age three.
+//! which rises where its retirer's outermost opening finds another count, and its slot is free at age three. The model
+//! throws the calls as rows, with what they have to find.
 
-use crate::common::{close_all, end, give_all_owned, give_all_shared};
-use sdd_base::{
-    AtomicShared, Owned, PrivateCollector, Ptr, Shared, Sizes, Tag, World, WorldGuard, world,
-};
+use crate::play::are_right;
+use crate::stage::{Stage, told};
+use crate::steps::Found::{Back, Done, Guarded, Is, Tagged};
+use crate::steps::{A, B, Found, G, Row, Step, Table};
+use sdd_base::{Job, Tag};
 use std::alloc::{AllocError, Global};
+use std::mem;
 use std::process::Abort;
-use std::test::Fail;
 
 const SLOTS: usize = 6;
+
+/// An age at which an item is gone.
+const GONE: u32 = 3;
 
 /// Pseudorandom numbers, by a linear congruence.
 #[derive(Drop)]
@@ -31,7 +36,8 @@ impl Dice {
     }
 }
 
-/// What the model knows of an item: its value, how many owners it has, and then who retired it and its age.
+/// What the model knows of an item: its value, how many owners it has, and then who retired it and its age. An item that a
+/// collector has was retired by no participant.
 #[derive(Clone, Copy, Drop)]
 struct Known {
     value: u64,
@@ -40,7 +46,9 @@ struct Known {
     age: u32,
 }
 
-/// What the model knows of a participant.
+const NOBODY: usize = usize::MAX;
+
+/// What the model knows of a participant. A nest is over with its outermost closing.
 #[derive(Clone, Copy, Drop)]
 struct ParticipantState {
     open: u32,
@@ -49,22 +57,50 @@ struct ParticipantState {
     fast: bool,
     garbage: bool,
     closings: u32,
+    nest: u64,
 }
 
-/// What waits in a collector: the value of an item, and the count when it was collected.
+/// What is at a place of the caller's.
+#[derive(Clone, Copy, PartialEq, Eq)]
+enum Kind {
+    Owned,
+    Shared,
+    Guard,
+}
+
+/// Where it is, its item, and the participant of the guard.
 #[derive(Clone, Copy, Drop)]
-struct Apart {
-    value: u64,
-    note: u64,
+struct Had {
+    at: usize,
+    kind: Kind,
+    item: usize,
+    participant: usize,
 }
 
-/// The items that have a slot, those that wait in the collector, the participants, and the count of raises.
+/// Where something is seen, its value, and the nest under which it is.
+#[derive(Clone, Copy, Drop)]
+struct Sight {
+    at: usize,
+    value: u64,
+    participant: usize,
+    nest: u64,
+}
+
+/// The items that were made, how many slots they use, the counts at which the collector took those that wait in it, the
+/// participants, and the count of raises; what the caller has and sees, and the place behind all of it; and the item and the
+/// tag of the cell.
 #[derive(Drop)]
 struct Plain {
     items: Vec<Known>,
-    apart: Vec<Apart>,
+    used: usize,
+    apart: Vec<u64>,
     participants: Vec<ParticipantState>,
     count: u64,
+    hand: Vec<Had>,
+    sights: Vec<Sight>,
+    place: usize,
+    cell: Option<usize>,
+    tag: Tag,
 }
 
 impl Plain {
@@ -78,118 +114,66 @@ impl Plain {
                 fast: false,
                 garbage: false,
                 closings: 0,
+                nest: 0,
             })?;
         }
         Ok(Plain {
             items: Vec::new(alloc),
+            used: 0,
             apart: Vec::new(alloc),
             participants,
             count: 0,
+            hand: Vec::new(alloc),
+            sights: Vec::new(alloc),
+            place: G + 1,
+            cell: None,
+            tag: Tag::None,
         })
     }
 
-    fn is_full(&self) -> bool {
-        self.items.len() == SLOTS
-    }
-
-    fn any_open(&self) -> bool {
-        self.participants
-            .iter()
-            .any(|m: &ParticipantState| m.open != 0)
-    }
-
-    fn add(&mut self, value: u64) -> bool {
-        let item = Known {
-            value,
-            owners: 1,
-            retirer: 0,
-            age: 0,
-        };
-        self.items.push(item).is_ok()
-    }
-
-    fn owners(&self, value: u64) -> u32 {
-        for item in &self.items {
-            if item.value == value {
-                return item.owners;
-            }
+    /// How many guards are open; and whether each of them has the present count.
+    fn guards(&self) -> (u32, bool) {
+        let mut open = 0u32;
+        let mut current = true;
+        for participant in &self.participants {
+            open = open.saturating_add(participant.open);
+            current = current && (participant.open == 0 || participant.seen == self.count);
         }
-        0
+        (open, current)
     }
 
-    /// One more owner.
-    fn own(&mut self, value: u64) {
-        for i in 0..self.items.len() {
-            if self.items[i].value == value {
-                self.items[i].owners = self.items[i].owners.saturating_add(1);
-            }
+    /// One owner is given back, by a participant who retires the item with the last one, or by nobody: whether it was.
+    fn give(&mut self, item: usize, p: usize) -> bool {
+        let mut last = false;
+        if let Some(known) = self.items.get_mut(item) {
+            known.owners = known.owners.saturating_sub(1);
+            known.retirer = p;
+            last = known.owners == 0;
         }
-    }
-
-    /// One owner is given back by `p`, who retires the item with the last one.
-    fn give(&mut self, value: u64, p: usize) {
-        for i in 0..self.items.len() {
-            if self.items[i].value == value {
-                self.items[i].owners = self.items[i].owners.saturating_sub(1);
-                self.items[i].retirer = p;
-                if self.items[i].owners == 0
-                    && let Some(participant) = self.participants.get_mut(p)
-                {
-                    participant.garbage = true;
-                }
-            }
-        }
-    }
-
-    /// The item's slot is free.
-    fn forget(&mut self, value: u64) {
-        self.items.retain(|item: &Known| item.value != value);
-    }
-
-    /// One owner is given back, and with the last one the item goes.
-    fn end(&mut self, value: u64) -> bool {
-        for i in 0..self.items.len() {
-            if self.items[i].value == value {
-                self.items[i].owners = self.items[i].owners.saturating_sub(1);
-            }
-        }
-        let last = self.owners(value) == 0;
-        if last {
-            self.forget(value);
+        if last && let Some(participant) = self.participants.get_mut(p) {
+            participant.garbage = true;
         }
         last
     }
 
-    fn rename(&mut self, old: u64, new: u64) {
-        for i in 0..self.items.len() {
-            if self.items[i].value == old {
-                self.items[i].value = new;
-            }
-        }
-    }
-
-    fn is_quiet(&self, p: usize) -> bool {
-        match self.participants.get(p) {
-            Some(participant) => participant.open == 0,
-            None => true,
-        }
+    /// A slot is free again.
+    fn free(&mut self) {
+        self.used = self.used.saturating_sub(1);
     }
 
     /// One owner is given back, and with the last one the item waits in the collector; what was collected three raises
     /// ago goes.
-    fn collect(&mut self, value: u64) -> bool {
-        let note = self.count;
-        self.give(value, usize::MAX);
-        let last = self.owners(value) == 0;
+    fn collect(&mut self, item: usize) -> bool {
+        let last = self.give(item, NOBODY);
         if last {
-            let _kept = self.apart.push(Apart { value, note });
+            let _kept = self.apart.push(self.count);
         }
         for _ in 0..self.apart.len() {
-            if let Some(first) = self.apart.first().copied()
-                && first.note.saturating_add(3) <= note
+            if let Some(note) = self.apart.first().copied()
+                && note.saturating_add(3) <= self.count
             {
                 self.apart.remove(0);
-                self.forget(first.value);
+                self.free();
             }
         }
         last
@@ -198,13 +182,19 @@ impl Plain {
     /// What `p` retired is older by one.
     fn grow_old(&mut self, p: usize) {
         let mut waits = false;
+        let mut gone = 0usize;
         for i in 0..self.items.len() {
-            if self.items[i].owners == 0 && self.items[i].retirer == p {
-                self.items[i].age = self.items[i].age.saturating_add(1);
-                waits = waits || self.items[i].age < 3;
+            let known = self.items[i];
+            if known.owners == 0 && known.retirer == p && known.age < GONE {
+                let age = known.age.saturating_add(1);
+                self.items[i].age = age;
+                if age == GONE {
+                    gone = gone.saturating_add(1);
+                }
+                waits = waits || age < GONE;
             }
         }
-        self.items.retain(|item: &Known| item.age < 3);
+        self.used = self.used.saturating_sub(gone);
         if let Some(participant) = self.participants.get_mut(p) {
             participant.garbage = participant.garbage && waits;
         }
@@ -227,22 +217,14 @@ impl Plain {
         }
     }
 
-    fn hurry(&mut self, p: usize) {
-        if let Some(participant) = self.participants.get_mut(p) {
-            participant.fast = true;
-        }
-    }
-
-    fn close(&mut self, p: usize) {
+    fn close(&mut self, p: usize, hastens: bool) {
         let mut scans = false;
-        let count = self.count;
-        let current = !self
-            .participants
-            .iter()
-            .any(|m: &ParticipantState| m.open != 0 && m.seen != count);
+        let (_, current) = self.guards();
         if let Some(participant) = self.participants.get_mut(p) {
+            participant.fast = participant.fast || hastens;
             participant.open = participant.open.saturating_sub(1);
             if participant.open == 0 {
+                participant.nest = participant.nest.saturating_add(1);
                 participant.closings = participant.closings.saturating_add(1).min(64);
                 scans = participant.fast || participant.garbage && participant.closings == 64;
                 if scans {
@@ -254,426 +236,291 @@ impl Plain {
             self.count = self.count.saturating_add(1);
         }
     }
-}
 
-/// What was seen under a guard of a participant.
-#[derive(Clone, Copy, Drop)]
-struct Sight {
-    participant: usize,
-    at: Ptr<'static, u64>,
-    value: u64,
-}
-
-/// What the caller has in hand.
-struct Hand {
-    owned: Vec<Owned<u64>>,
-    shared: Vec<Shared<u64>>,
-    guards: Vec<WorldGuard>,
-    collector: PrivateCollector<u64>,
-    sights: Vec<Sight>,
-    next: u64,
-}
-
-/// The value of a shared item.
-fn value_of<R: Abort>(rt: &R, w: &World<u64>, shared: &Shared<u64>) -> u64 {
-    if !world::shared::is_here(w, shared) {
-        panic!(rt; "an owner's item is there");
-    }
-    *world::shared::as_ref(w, shared)
-}
-
-/// A new item, refused exactly where no slot is free.
-fn make<R: Abort>(rt: &R, w: &mut World<u64>, hand: &mut Hand, plain: &mut Plain, one: bool) {
-    let value = hand.next;
-    hand.next = hand.next.saturating_add(1);
-    let full = plain.is_full();
-    if !full {
-        assert!(rt; plain.add(value));
-    }
-    if one {
-        match world::owned::new(w, value) {
-            Ok(owned) => {
-                assert!(rt; !full);
-                match hand.owned.push(owned) {
-                    Ok(()) => {}
-                    Err(_) => panic!(rt; "memory"),
-                }
+    /// Any thing of a kind that the caller has, and where the model has it.
+    fn any(&self, kind: Kind, dice: &mut Dice) -> Option<(usize, Had)> {
+        let len = self.hand.len();
+        let start = dice.roll(len);
+        for i in 0..len {
+            let next = start.saturating_add(i).checked_rem(len).unwrap_or(0);
+            if let Some(had) = self.hand.get(next)
+                && had.kind == kind
+            {
+                return Some((next, *had));
             }
-            Err(back) => assert!(rt; full && back == value),
         }
-        return;
-    }
-    match world::shared::new(w, value) {
-        Ok(shared) => {
-            assert!(rt; !full);
-            keep(rt, hand, shared);
-        }
-        Err(back) => assert!(rt; full && back == value),
-    }
-}
-
-fn keep<R: Abort>(rt: &R, hand: &mut Hand, shared: Shared<u64>) {
-    match hand.shared.push(shared) {
-        Ok(()) => {}
-        Err(_) => panic!(rt; "memory"),
-    }
-}
-
-/// Any owner in hand, taken out of it.
-fn any_shared(hand: &mut Hand, dice: &mut Dice) -> Option<Shared<u64>> {
-    let at = dice.roll(hand.shared.len());
-    if at < hand.shared.len() {
-        return Some(hand.shared.remove(at));
-    }
-    None
-}
-
-fn any_owned(hand: &mut Hand, dice: &mut Dice) -> Option<Owned<u64>> {
-    let at = dice.roll(hand.owned.len());
-    if at < hand.owned.len() {
-        return Some(hand.owned.remove(at));
-    }
-    None
-}
-
-fn any_guard(hand: &mut Hand, dice: &mut Dice) -> Option<WorldGuard> {
-    let at = dice.roll(hand.guards.len());
-    if at < hand.guards.len() {
-        return Some(hand.guards.remove(at));
-    }
-    None
-}
-
-fn clone_one<R: Abort>(
-    rt: &R,
-    w: &mut World<u64>,
-    hand: &mut Hand,
-    plain: &mut Plain,
-    dice: &mut Dice,
-) {
-    let Some(shared) = any_shared(hand, dice) else {
-        return;
-    };
-    plain.own(value_of(rt, w, &shared));
-    if !world::shared::is_here(w, &shared) {
-        panic!(rt; "an owner's item is there");
-    }
-    match world::shared::clone(w, &shared) {
-        Some(more) => keep(rt, hand, more),
-        None => panic!(rt; "few owners are out"),
-    }
-    keep(rt, hand, shared);
-}
-
-fn release_one<R: Abort>(
-    rt: &R,
-    w: &mut World<u64>,
-    hand: &mut Hand,
-    plain: &mut Plain,
-    dice: &mut Dice,
-    p: usize,
-) {
-    let Some(shared) = any_shared(hand, dice) else {
-        return;
-    };
-    let value = value_of(rt, w, &shared);
-    plain.give(value, p);
-    if !world::shared::is_here(w, &shared) || p >= w.participants() {
-        panic!(rt; "an owner's item is there");
-    }
-    let last = world::shared::release(w, shared, p);
-    assert!(rt; last == (plain.owners(value) == 0));
-}
-
-fn drop_one<R: Abort>(
-    rt: &R,
-    w: &mut World<u64>,
-    hand: &mut Hand,
-    plain: &mut Plain,
-    dice: &mut Dice,
-) {
-    let Some(shared) = any_shared(hand, dice) else {
-        return;
-    };
-    let value = value_of(rt, w, &shared);
-    if !world::shared::is_here(w, &shared) {
-        panic!(rt; "an owner's item is there");
-    }
-    match world::shared::drop_in_place(w, shared) {
-        Ok(last) => {
-            assert!(rt; !plain.any_open());
-            assert!(rt; last == plain.end(value));
-        }
-        Err(shared) => {
-            assert!(rt; plain.any_open());
-            keep(rt, hand, shared);
-        }
-    }
-}
-
-fn collect_one<R: Abort>(
-    rt: &R,
-    w: &mut World<u64>,
-    hand: &mut Hand,
-    plain: &mut Plain,
-    dice: &mut Dice,
-) {
-    let Some(guard) = any_guard(hand, dice) else {
-        return;
-    };
-    if let Some(shared) = any_shared(hand, dice) {
-        let value = value_of(rt, w, &shared);
-        if !world::shared::is_here(w, &shared) || !world::guard::is_open(w, &guard) {
-            panic!(rt; "an owner's item is there, and a guard in hand is open");
-        }
-        let last = world::private_collector::collect_shared(w, &mut hand.collector, shared, &guard);
-        assert!(rt; last == plain.collect(value));
-    }
-    match hand.guards.push(guard) {
-        Ok(()) => {}
-        Err(_) => panic!(rt; "memory"),
-    }
-}
-
-fn retire_one<R: Abort>(
-    rt: &R,
-    w: &mut World<u64>,
-    hand: &mut Hand,
-    plain: &mut Plain,
-    dice: &mut Dice,
-    p: usize,
-) {
-    let Some(owned) = any_owned(hand, dice) else {
-        return;
-    };
-    if !world::owned::is_here(w, &owned) || p >= w.participants() {
-        panic!(rt; "an owner's item is there");
-    }
-    plain.give(*world::owned::as_ref(w, &owned), p);
-    world::owned::retire(w, owned, p);
-}
-
-/// The value of an owned item is another one, or nothing is changed while a guard is open.
-fn write_one<R: Abort>(
-    rt: &R,
-    w: &mut World<u64>,
-    hand: &mut Hand,
-    plain: &mut Plain,
-    dice: &mut Dice,
-) {
-    let Some(owned) = any_owned(hand, dice) else {
-        return;
-    };
-    if !world::owned::is_here(w, &owned) {
-        panic!(rt; "an owner's item is there");
-    }
-    let old = *world::owned::as_ref(w, &owned);
-    let new = hand.next;
-    hand.next = hand.next.saturating_add(1);
-    match world::owned::get_mut(w, &owned) {
-        Ok(value) => {
-            assert!(rt; !plain.any_open());
-            plain.rename(old, new);
-            *value = new;
-        }
-        Err(_) => assert!(rt; plain.any_open()),
-    }
-    match hand.owned.push(owned) {
-        Ok(()) => {}
-        Err(_) => panic!(rt; "memory"),
-    }
-}
-
-fn open_one<R: Abort>(rt: &R, w: &mut World<u64>, hand: &mut Hand, plain: &mut Plain, p: usize) {
-    if hand.guards.len() > 4 || p >= w.participants() {
-        return;
-    }
-    plain.open(p);
-    match world::guard::new(w, p) {
-        Ok(guard) => match hand.guards.push(guard) {
-            Ok(()) => {}
-            Err(_) => panic!(rt; "memory"),
-        },
-        Err(_) => panic!(rt; "few guards are open"),
-    }
-}
-
-/// A guard is accelerated, perhaps, and closed.
-fn close_one<R: Abort>(
-    rt: &R,
-    w: &mut World<u64>,
-    hand: &mut Hand,
-    plain: &mut Plain,
-    dice: &mut Dice,
-) {
-    let Some(guard) = any_guard(hand, dice) else {
-        return;
-    };
-    if !world::guard::is_open(w, &guard) {
-        panic!(rt; "a guard in hand is open");
-    }
-    let p = guard.participant();
-    let haste = dice.haste;
-    if dice.roll(haste) == 0 {
-        plain.hurry(p);
-        world::guard::accelerate(w, &guard);
-    }
-    if !world::guard::is_open(w, &guard) {
-        panic!(rt; "a guard in hand is open");
-    }
-    plain.close(p);
-    world::guard::close(w, guard);
-    if plain.is_quiet(p) {
-        hand.sights.retain(|s: &Sight| s.participant != p);
-    }
-}
-
-/// What an owner names is seen under a guard.
-fn see_one<R: Abort>(rt: &R, w: &mut World<u64>, hand: &mut Hand, dice: &mut Dice) {
-    let Some(shared) = any_shared(hand, dice) else {
-        return;
-    };
-    let value = value_of(rt, w, &shared);
-    if let Some(guard) = hand.guards.get(dice.roll(hand.guards.len())) {
-        let sight = Sight {
-            participant: guard.participant(),
-            at: world::shared::get_guarded_ptr(&shared, guard),
-            value,
-        };
-        assert!(rt; hand.sights.push(sight).is_ok());
-    }
-    keep(rt, hand, shared);
-}
-
-/// An owner goes into the cell, or none, and what was there comes into hand.
-fn swap_one<R: Abort>(
-    rt: &R,
-    w: &mut World<u64>,
-    hand: &mut Hand,
-    cell: &AtomicShared<u64>,
-    dice: &mut Dice,
-) {
-    let new = if dice.roll(3) == 0 {
         None
-    } else {
-        any_shared(hand, dice)
-    };
-    if !world::atomic_shared::is_here(w, cell) {
-        panic!(rt; "the cell is in use");
     }
-    let (old, _) = world::atomic_shared::swap(w, cell, (new, Tag::First));
-    if let Some(shared) = old {
-        keep(rt, hand, shared);
-    }
-}
 
-/// As many slots are in use as the model says, and what was seen under a guard that is open is still to be read.
-fn compare<R: Abort>(rt: &R, w: &World<u64>, hand: &Hand, plain: &Plain) {
-    assert!(rt; w.slots_in_use() == plain.items.len());
-    for sight in &hand.sights {
-        if !w.is_readable(&sight.at) {
-            panic!(rt; "a guard is open");
+    /// The place behind all others, where the caller has one more thing.
+    fn gain(&mut self, kind: Kind, item: usize, participant: usize) -> usize {
+        let at = self.place;
+        self.place = self.place.saturating_add(1);
+        let _kept = self.hand.push(Had {
+            at,
+            kind,
+            item,
+            participant,
+        });
+        at
+    }
+
+    /// The caller has it no longer.
+    fn lose(&mut self, i: usize) {
+        if i < self.hand.len() {
+            self.hand.remove(i);
         }
-        assert!(rt; w.read(&sight.at).copied() == Some(sight.value));
+    }
+
+    /// Where there is nothing to make a call with.
+    fn idle(&self) -> Row {
+        (Step::IsGuarded, told(self.guards().0 > 0))
+    }
+
+    /// A new item, refused exactly where no slot is free. Its value is the number of the call.
+    fn make(&mut self, kind: Kind, value: u64) -> Row {
+        let full = self.used == SLOTS;
+        let mut at = self.place;
+        if !full {
+            let item = self.items.len();
+            at = self.gain(kind, item, 0);
+            self.used = self.used.saturating_add(1);
+            let _kept = self.items.push(Known {
+                value,
+                owners: 1,
+                retirer: NOBODY,
+                age: 0,
+            });
+        }
+        let step = match kind {
+            Kind::Owned => Step::Own(at, value),
+            _ => Step::Share(at, value),
+        };
+        (step, if full { Back(value) } else { Done })
+    }
+
+    /// One more owner, or one less; in place only where no guard is open.
+    fn with_a_shared(&mut self, dice: &mut Dice, choice: usize, p: usize) -> Row {
+        let Some((i, had)) = self.any(Kind::Shared, dice) else {
+            return self.idle();
+        };
+        if choice == 3 {
+            if let Some(known) = self.items.get_mut(had.item) {
+                known.owners = known.owners.saturating_add(1);
+            }
+            let to = self.gain(Kind::Shared, had.item, 0);
+            return (Step::Clone(had.at, to), Done);
+        }
+        if choice < 6 {
+            self.lose(i);
+            return (Step::Release(had.at, p), told(self.give(had.item, p)));
+        }
+        if self.guards().0 > 0 {
+            return (Step::DropShared(had.at), Guarded);
+        }
+        self.lose(i);
+        let last = self.give(had.item, NOBODY);
+        if last {
+            self.free();
+        }
+        (Step::DropShared(had.at), told(last))
+    }
+
+    /// What an owner names is seen under a guard, or collected.
+    fn with_a_guard(&mut self, dice: &mut Dice, collects: bool) -> Row {
+        let (guard, had) = (self.any(Kind::Guard, dice), self.any(Kind::Shared, dice));
+        let (Some((_, guard)), Some((i, had))) = (guard, had) else {
+            return self.idle();
+        };
+        if collects {
+            self.lose(i);
+            return (
+                Step::Collect(B, had.at, guard.at),
+                told(self.collect(had.item)),
+            );
+        }
+        let at = self.place;
+        self.place = self.place.saturating_add(1);
+        let participant = guard.participant;
+        if let (Some(known), Some(state)) = (
+            self.items.get(had.item),
+            self.participants.get(participant),
+        ) {
+            let _kept = self.sights.push(Sight {
+                at,
+                value: known.value,
+                participant,
+                nest: state.nest,
+            });
+        }
+        (Step::See(had.at, guard.at, at), Done)
+    }
+
+    /// An item is retired; or its value is another one, or nothing is changed while a guard is open.
+    fn with_an_owned(&mut self, dice: &mut Dice, writes: bool, new: u64, p: usize) -> Row {
+        let Some((i, had)) = self.any(Kind::Owned, dice) else {
+            return self.idle();
+        };
+        if !writes {
+            self.give(had.item, p);
+            self.lose(i);
+            return (Step::Retire(had.at, p), Done);
+        }
+        let mut found = Guarded;
+        if self.guards().0 == 0
+            && let Some(known) = self.items.get_mut(had.item)
+        {
+            found = Is(mem::replace(&mut known.value, new));
+        }
+        (Step::WriteOwned(had.at, new), found)
+    }
+
+    fn open_one(&mut self, p: usize) -> Row {
+        if self.guards().0 > 4 {
+            return self.idle();
+        }
+        self.open(p);
+        (Step::Open(self.gain(Kind::Guard, 0, p), p), Done)
+    }
+
+    /// A guard is accelerated, perhaps, and closed.
+    fn close_one(&mut self, dice: &mut Dice) -> [Row; 2] {
+        let Some((i, guard)) = self.any(Kind::Guard, dice) else {
+            return [self.idle(), self.idle()];
+        };
+        let hastens = dice.roll(dice.haste) == 0;
+        let before = if hastens {
+            (Step::Accelerate(guard.at), Done)
+        } else {
+            self.idle()
+        };
+        self.close(guard.participant, hastens);
+        self.lose(i);
+        [before, (Step::Close(guard.at), Done)]
+    }
+
+    /// An owner goes into the cell, or none, and what was there comes into its place.
+    fn swap_one(&mut self, dice: &mut Dice) -> Row {
+        let tag = mem::replace(&mut self.tag, Tag::First);
+        let given = if dice.roll(3) == 0 {
+            None
+        } else {
+            self.any(Kind::Shared, dice)
+        };
+        let (at, new) = match given {
+            Some((i, had)) => {
+                self.lose(i);
+                (had.at, Some(had.item))
+            }
+            None => (self.place, None),
+        };
+        if let Some(item) = mem::replace(&mut self.cell, new) {
+            self.place = self.place.max(at.saturating_add(1));
+            let _kept = self.hand.push(Had {
+                at,
+                kind: Kind::Shared,
+                item,
+                participant: 0,
+            });
+        }
+        (Step::SwapShared(A, at, Tag::First), Tagged(tag))
+    }
+
+    /// A call at random, and another one that belongs to it.
+    fn thrown(&mut self, dice: &mut Dice, number: u64) -> [Row; 2] {
+        let p = dice.roll(3);
+        let choice = dice.roll(17);
+        let row = match choice {
+            0 => self.make(Kind::Owned, number),
+            1 | 2 => self.make(Kind::Shared, number),
+            3..=6 => self.with_a_shared(dice, choice, p),
+            7 | 8 => self.with_an_owned(dice, choice == 8, number, p),
+            9 | 10 => self.open_one(p),
+            11..=13 => return self.close_one(dice),
+            14 | 15 => self.with_a_guard(dice, choice == 15),
+            _ => self.swap_one(dice),
+        };
+        [row, self.idle()]
+    }
+
+    /// Whether a nest isn't over.
+    fn is_on(&self, sight: &Sight) -> bool {
+        match self.participants.get(sight.participant) {
+            Some(participant) => participant.open > 0 && participant.nest == sight.nest,
+            None => false,
+        }
     }
 }
 
-fn step<R: Abort>(
-    rt: &R,
-    w: &mut World<u64>,
-    hand: &mut Hand,
-    cell: &AtomicShared<u64>,
+/// Whether as many slots are in use as the model says, and what was seen under a guard that is open is still to be read.
+fn is_alike<R: Abort>(stage: &mut Stage<'_, R, Job>, plain: &Plain) -> bool {
+    let mut alike = stage.step(Step::Slots) == Is(plain.used as u64);
+    for sight in &plain.sights {
+        if plain.is_on(sight) {
+            alike = stage.step(Step::Look(sight.at)) == Is(sight.value) && alike;
+        }
+    }
+    alike
+}
+
+/// How many of so many random calls are answered as the model says, before the first that isn't.
+fn played<R: Abort>(
+    stage: &mut Stage<'_, R, Job>,
     plain: &mut Plain,
     dice: &mut Dice,
-) {
-    let p = dice.roll(3);
-    match dice.roll(17) {
-        0 => make(rt, w, hand, plain, true),
-        1 | 2 => make(rt, w, hand, plain, false),
-        3 => clone_one(rt, w, hand, plain, dice),
-        4 | 5 => release_one(rt, w, hand, plain, dice, p),
-        6 => drop_one(rt, w, hand, plain, dice),
-        7 => retire_one(rt, w, hand, plain, dice, p),
-        8 => write_one(rt, w, hand, plain, dice),
-        9 | 10 => open_one(rt, w, hand, plain, p),
-        11 | 12 | 13 => close_one(rt, w, hand, plain, dice),
-        14 => see_one(rt, w, hand, dice),
-        15 => collect_one(rt, w, hand, plain, dice),
-        _ => swap_one(rt, w, hand, cell, dice),
+    calls: u64,
+) -> u64 {
+    for call in 0..calls {
+        let rows = plain.thrown(dice, call);
+        if !are_right(stage, &rows) || !is_alike(stage, plain) {
+            return call;
+        }
     }
+    calls
 }
 
-/// Everything in hand is given back, by participant 0.
-fn spend<R: Abort>(rt: &R, w: &mut World<u64>, hand: Hand, cell: AtomicShared<u64>) {
-    let Hand {
-        owned,
-        shared,
-        guards,
-        collector,
-        sights: _,
-        next: _,
-    } = hand;
-    close_all(rt, w, guards);
-    give_all_owned(rt, w, owned);
-    give_all_shared(rt, w, shared);
-    if !world::atomic_shared::is_here(w, &cell) || w.participants() == 0 {
-        panic!(rt; "the cell is in use");
-    }
-    world::atomic_shared::retire(w, cell, 0);
-    world::private_collector::hand_over(w, collector, 0);
-}
+const PLACE: Table = Table {
+    about: "a place with three participants and one cell",
+    sizes: [3, SLOTS, 1, 0],
+    parts: &[],
+};
 
-/// So many random calls.
-fn play<R: Abort>(
-    rt: &R,
-    alloc: Global,
-    mut dice: Dice,
-    calls: usize,
-) -> Result<World<u64>, AllocError> {
-    let sizes = Sizes {
-        participants: 3,
-        slots: SLOTS,
-        cells: 1,
-        jobs: 0,
-    };
-    let mut plain = Plain::new(alloc)?;
-    let mut w = World::new(alloc, sizes)?;
-    let Ok(collector) = world::private_collector::new(alloc, &w) else {
+const START: [Row; 2] = [(Step::NullSharedCell(A), Done), (Step::Collector(B), Done)];
+
+/// Everything is given back.
+const END: [Row; 3] = [
+    (Step::GiveRest, Done),
+    (Step::EndCell(A, 0), Done),
+    (Step::HandOver(B, 0), Done),
+];
+
+/// How many random calls are right in a new place.
+fn right<R: Abort>(rt: &R, alloc: Global, start: Dice, calls: u64) -> u64 {
+    let Ok(mut plain) = Plain::new(alloc) else {
         panic!(rt; "memory is ample");
     };
-    let Ok(cell) = world::atomic_shared::null(&mut w) else {
-        panic!(rt; "a cell is free");
-    };
-    let mut hand = Hand {
-        owned: Vec::new(alloc),
-        shared: Vec::new(alloc),
-        guards: Vec::new(alloc),
-        collector,
-        sights: Vec::new(alloc),
-        next: 1,
-    };
-    for _ in 0..calls {
-        step(rt, &mut w, &mut hand, &cell, &mut plain, &mut dice);
-        compare(rt, &w, &hand, &plain);
-    }
-    spend(rt, &mut w, hand, cell);
-    Ok(w)
+    let mut dice = start;
+    let mut stage = Stage::new(rt, alloc, &PLACE);
+    let started = are_right(&mut stage, &START);
+    let right = played(&mut stage, &mut plain, &mut dice, calls);
+    let ended = are_right(&mut stage, &END);
+    stage.end();
+    if started && ended { right } else { 0 }
 }
 
-#[test]
-fn random_calls_agree_with_a_plain_model(rt: HostRuntime) -> Result<(), Fail> {
-    let w = play(&rt, rt.alloc(), Dice { seed: 1, haste: 2 }, 1500)?;
-    end(&rt, w);
-    Ok(())
-}
+const FAST: Dice = Dice { seed: 1, haste: 2 };
+
+/// Few closings are accelerated.
+const SLOW: Dice = Dice {
+    seed: 2,
+    haste: 400,
+};
 
 #[test]
-fn random_calls_agree_where_few_closings_are_accelerated(rt: HostRuntime) -> Result<(), Fail> {
-    let dice = Dice {
-        seed: 2,
-        haste: 400,
-    };
-    let w = play(&rt, rt.alloc(), dice, 2500)?;
-    end(&rt, w);
-    Ok(())
+fn random_calls_agree_with_a_plain_model(rt: HostRuntime) {
+    let right = [
+        right(&rt, rt.alloc(), FAST, 1600),
+        right(&rt, rt.alloc(), SLOW, 6000),
+    ];
+    assert_eq!(rt; right, [1600, 6000]);
 }

@@ -1,212 +1,125 @@
-//! Items that are out as raw pointers, and cells of those.
+//! Steps of items that are out as raw pointers, and of cells of those.
 
-use crate::common::{close, end, end_raw_cell, give_owned, guarded, numbers, owned_item, retire};
-use sdd_base::{AtomicRaw, NoSlot, Owned, RawPtr, Tag, World, WorldGuard, world};
+use crate::stage::{Stage, Thing, told};
+use crate::steps::{Found, G, Point, Step};
+use sdd_base::{Deferred, RawPtr, Tag, world};
 use std::process::Abort;
 
-/// A new item that is out as a raw pointer.
-fn raw_item<R: Abort>(rt: &R, w: &mut World<u64>, value: u64) -> RawPtr<u64> {
-    let owned = owned_item(rt, w, value);
-    if !world::owned::is_here(w, &owned) {
-        panic!(rt; "its item is there");
+/// What a raw pointer is, which is to nothing or to the item that is out.
+fn point(item: RawPtr<u64>, found: RawPtr<u64>) -> Found {
+    if found == RawPtr::null() {
+        return Found::Null;
     }
-    world::owned::into_raw(w, owned)
+    if found.without_tag() == item {
+        return Found::Item(found.tag());
+    }
+    Found::Nothing
 }
 
-/// The owner that a raw pointer becomes again, if its item is out.
-fn owner_of(w: &mut World<u64>, raw: RawPtr<u64>) -> Option<Owned<u64>> {
-    world::owned::from_raw(w, raw)
-}
-
-/// Retires the item of a raw pointer by participant 1, and tells whether it was out.
-fn comes_back<R: Abort>(rt: &R, w: &mut World<u64>, raw: RawPtr<u64>) -> bool {
-    match owner_of(w, raw) {
-        Some(owned) => {
-            retire(rt, w, owned, 1);
-            true
-        }
-        None => false,
+/// The same of a call that may be refused.
+fn outcome(item: RawPtr<u64>, outcome: Result<RawPtr<u64>, RawPtr<u64>>) -> Found {
+    match outcome {
+        Ok(found) => point(item, found),
+        Err(found) if found.without_tag() == item => Found::Kept(found.tag()),
+        Err(_) => Found::Nothing,
     }
 }
 
-fn is_out(w: &World<u64>, raw: RawPtr<u64>, guard: &WorldGuard) -> bool {
-    world::raw_ptr::into_ptr(w, raw, guard).is_some()
-}
-
-#[test]
-fn a_raw_item_comes_back_once(rt: HostRuntime) {
-    let mut w = numbers(&rt, rt.alloc(), 2, 1);
-    let guard = guarded(&rt, &mut w, 0);
-    let raw = raw_item(&rt, &mut w, 9);
-    let tagged = is_out(&w, raw.with_tag(Tag::Second), &guard);
-    let null = is_out(&w, RawPtr::default(), &guard);
-    let first = comes_back(&rt, &mut w, raw);
-    let there = is_out(&w, raw, &guard);
-    let second = comes_back(&rt, &mut w, raw);
-    let used = w.slots_in_use();
-    close(&rt, &mut w, guard);
-    end(&rt, w);
-    assert!(rt; tagged && null && first && !there && !second && used == 1);
-}
-
-/// A cell of nothing, or its refusal.
-fn null_cell(w: &mut World<u64>) -> Result<AtomicRaw<u64>, NoSlot> {
-    world::atomic_raw::null(w)
-}
-
-fn cell_of<R: Abort>(rt: &R, made: Result<AtomicRaw<u64>, NoSlot>) -> AtomicRaw<u64> {
-    match made {
-        Ok(cell) => cell,
-        Err(_) => panic!(rt; "a cell is free"),
+/// The raw pointer of a row.
+fn pointer(item: RawPtr<u64>, point: Point) -> RawPtr<u64> {
+    match point {
+        Point::Null => RawPtr::null(),
+        Point::Item(tag) => item.with_tag(tag),
     }
 }
 
-fn is_refused<R: Abort>(rt: &R, made: Result<AtomicRaw<u64>, NoSlot>) -> bool {
-    match made {
-        Ok(_) => panic!(rt; "the one cell is in use"),
-        Err(refusal) => refusal == NoSlot,
+impl<'r, R: Abort, J: Deferred> Stage<'r, R, J> {
+    /// A step by which an item comes back, or there is a new cell.
+    pub(crate) fn of_raw(&mut self, step: Step) -> Found {
+        let (at, thing, found) = match step {
+            Step::FromRaw(at) => match world::owned::from_raw(&mut self.w, self.raw) {
+                Some(owned) => (at, Thing::Owned(owned), Found::Yes),
+                None => (at, Thing::Nothing, Found::No),
+            },
+            Step::NullRawCell(at) => match world::atomic_raw::null(&mut self.w) {
+                Ok(cell) => (at, Thing::RawCell(cell), Found::Done),
+                Err(_) => (at, Thing::Nothing, Found::NoSlot),
+            },
+            Step::RawCell(at) => match world::atomic_raw::new(&mut self.w, RawPtr::null()) {
+                Ok(cell) => (at, Thing::RawCell(cell), Found::Done),
+                Err(_) => (at, Thing::Nothing, Found::NoSlot),
+            },
+            Step::IsOut(point) => {
+                let guard = self.guard(G);
+                let raw = pointer(self.raw, point);
+                let seen = world::raw_ptr::into_ptr(&self.w, raw, &guard).is_some();
+                (G, Thing::Guard(guard), told(seen))
+            }
+            _ => return self.of_raw_cells(step),
+        };
+        self.put(at, thing);
+        found
     }
-}
 
-/// A call of a cell of raw pointers.
-#[derive(Clone, Copy)]
-enum Call {
-    Load,
-    Store(RawPtr<u64>),
-    Swap(RawPtr<u64>),
-    /// From the first to the second.
-    Exchange(RawPtr<u64>, RawPtr<u64>),
-    /// An update by a closure that gives nothing, and by one that gives the tag Both.
-    UpdateToNone,
-    UpdateToBoth,
-    /// The tag None where the cell has it already.
-    Untag,
-    Tag,
-    IsNull,
-}
-
-/// What a call answers.
-#[derive(Clone, Copy, PartialEq, Eq)]
-enum Told {
-    Done,
-    At(RawPtr<u64>),
-    Refused(RawPtr<u64>),
-    Tag(Tag),
-    Is(bool),
-}
-
-fn outcome(told: Result<RawPtr<u64>, RawPtr<u64>>) -> Told {
-    match told {
-        Ok(at) => Told::At(at),
-        Err(at) => Told::Refused(at),
+    /// A step with a cell of raw pointers.
+    fn of_raw_cells(&mut self, step: Step) -> Found {
+        let rt = self.rt;
+        let raw = self.raw;
+        let at = match step {
+            Step::LoadRaw(at)
+            | Step::StoreRaw(at, _)
+            | Step::SwapRaw(at, _)
+            | Step::ExchangeRaw(at, _, _)
+            | Step::UpdateRaw(at, _)
+            | Step::Untag(at)
+            | Step::TagOfRaw(at)
+            | Step::IsNullRaw(at) => at,
+            _ => return Found::Nothing,
+        };
+        let guard = self.guard(G);
+        let cell = match self.take(at) {
+            Thing::RawCell(cell) if world::atomic_raw::is_here(&self.w, &cell) => cell,
+            _ => panic!(rt; "a cell is there"),
+        };
+        let w = &mut self.w;
+        let found = match step {
+            Step::LoadRaw(_) => point(raw, world::atomic_raw::load(w, &cell, &guard)),
+            Step::StoreRaw(_, new) => {
+                world::atomic_raw::store(w, &cell, pointer(raw, new));
+                Found::Done
+            }
+            Step::SwapRaw(_, new) => {
+                point(
+                    raw,
+                    world::atomic_raw::swap(w, &cell, pointer(raw, new), &guard),
+                )
+            }
+            Step::ExchangeRaw(_, from, to) => {
+                let (from, to) = (pointer(raw, from), pointer(raw, to));
+                outcome(
+                    raw,
+                    world::atomic_raw::compare_exchange(w, &cell, from, to, &guard),
+                )
+            }
+            Step::UpdateRaw(_, agrees) => {
+                let both = |found: RawPtr<u64>| {
+                    if agrees {
+                        Some(found.with_tag(Tag::Both))
+                    } else {
+                        None
+                    }
+                };
+                outcome(raw, world::atomic_raw::fetch_update(w, &cell, &guard, both))
+            }
+            Step::Untag(_) => {
+                let bare = |found: RawPtr<u64>| found.tag() == Tag::None;
+                told(world::atomic_raw::update_tag_if(w, &cell, Tag::None, bare))
+            }
+            Step::TagOfRaw(_) => Found::Tagged(world::atomic_raw::tag(w, &cell)),
+            _ => told(world::atomic_raw::is_null(w, &cell)),
+        };
+        self.put(G, Thing::Guard(guard));
+        self.put(at, Thing::RawCell(cell));
+        found
     }
-}
-
-fn update_to_none(w: &mut World<u64>, cell: &AtomicRaw<u64>, guard: &WorldGuard) -> Told {
-    if !world::atomic_raw::is_here(w, cell) {
-        return Told::Is(false);
-    }
-    let none = |_: RawPtr<u64>| None;
-    outcome(world::atomic_raw::fetch_update(w, cell, guard, none))
-}
-
-fn update_to_both(w: &mut World<u64>, cell: &AtomicRaw<u64>, guard: &WorldGuard) -> Told {
-    if !world::atomic_raw::is_here(w, cell) {
-        return Told::Is(false);
-    }
-    let both = |at: RawPtr<u64>| Some(at.with_tag(Tag::Both));
-    outcome(world::atomic_raw::fetch_update(w, cell, guard, both))
-}
-
-fn untag(w: &mut World<u64>, cell: &AtomicRaw<u64>) -> Told {
-    if !world::atomic_raw::is_here(w, cell) {
-        return Told::Done;
-    }
-    let tagged = |at: RawPtr<u64>| at.tag() == Tag::None;
-    Told::Is(world::atomic_raw::update_tag_if(w, cell, Tag::None, tagged))
-}
-
-fn store(w: &mut World<u64>, cell: &AtomicRaw<u64>, at: RawPtr<u64>) -> Told {
-    if !world::atomic_raw::is_here(w, cell) {
-        return Told::Is(false);
-    }
-    world::atomic_raw::store(w, cell, at);
-    Told::Done
-}
-
-/// Makes a call on a cell that is in use.
-fn make<R: Abort>(
-    rt: &R,
-    w: &mut World<u64>,
-    cell: &AtomicRaw<u64>,
-    guard: &WorldGuard,
-    call: Call,
-) -> Told {
-    if !world::atomic_raw::is_here(w, cell) {
-        panic!(rt; "the cell is in use");
-    }
-    match call {
-        Call::Load => Told::At(world::atomic_raw::load(w, cell, guard)),
-        Call::Store(at) => store(w, cell, at),
-        Call::Swap(at) => Told::At(world::atomic_raw::swap(w, cell, at, guard)),
-        Call::Exchange(from, to) => {
-            outcome(world::atomic_raw::compare_exchange(w, cell, from, to, guard))
-        }
-        Call::UpdateToNone => update_to_none(w, cell, guard),
-        Call::UpdateToBoth => update_to_both(w, cell, guard),
-        Call::Untag => untag(w, cell),
-        Call::Tag => Told::Tag(world::atomic_raw::tag(w, cell)),
-        Call::IsNull => Told::Is(world::atomic_raw::is_null(w, cell)),
-    }
-}
-
-/// Makes the calls of a table, in order, and tells the place of the first that is answered otherwise.
-fn first_other<R: Abort>(
-    rt: &R,
-    w: &mut World<u64>,
-    cell: &AtomicRaw<u64>,
-    guard: &WorldGuard,
-    rows: &[(Call, Told)],
-) -> Option<usize> {
-    let mut other = None;
-    for at in 0..rows.len() {
-        let (call, wanted) = rows[at];
-        if make(rt, w, cell, guard, call) != wanted && other.is_none() {
-            other = Some(at);
-        }
-    }
-    other
-}
-
-#[test]
-fn a_raw_cell_is_stored_compared_and_updated(rt: HostRuntime) {
-    let mut w = numbers(&rt, rt.alloc(), 1, 1);
-    let guard = guarded(&rt, &mut w, 0);
-    let raw = raw_item(&rt, &mut w, 9);
-    let cell = cell_of(&rt, null_cell(&mut w));
-    let refused = is_refused(&rt, null_cell(&mut w));
-    let (null, first) = (RawPtr::null(), raw.with_tag(Tag::First));
-    let rows = [
-        (Call::IsNull, Told::Is(true)),
-        (Call::Swap(raw), Told::At(null)),
-        (Call::Exchange(first, null), Told::Refused(raw)),
-        (Call::Exchange(raw, first), Told::At(raw)),
-        (Call::Load, Told::At(first)),
-        (Call::UpdateToNone, Told::Refused(first)),
-        (Call::UpdateToBoth, Told::At(first)),
-        (Call::Tag, Told::Tag(Tag::Both)),
-        (Call::Untag, Told::Is(false)),
-        (Call::Store(null), Told::Done),
-        (Call::Load, Told::At(null)),
-        (Call::IsNull, Told::Is(true)),
-    ];
-    let other = first_other(&rt, &mut w, &cell, &guard, &rows);
-    match owner_of(&mut w, raw) {
-        Some(owned) => give_owned(&rt, &mut w, owned),
-        None => panic!(rt; "the item is out"),
-    }
-    end_raw_cell(&rt, &mut w, cell);
-    close(&rt, &mut w, guard);
-    end(&rt, w);
-    assert!(rt; refused && other.is_none());
 }

@@ -2,42 +2,39 @@
 
 use sdd_base::status::{Cell, Status};
 use sdd_base::{GuardsOpen, Nested, NoSlot, NotLent, Plain, Sizes, Tag};
-use std::test::Fail;
+use std::alloc::{AllocError, Global};
 
-#[test]
-fn refusals_are_written_by_their_names(rt: HostRuntime) -> Result<(), Fail> {
-    let alloc = rt.alloc();
+/// Refusals by their names, sizes, and words with their parts.
+fn written(alloc: Global) -> Result<[String; 3], AllocError> {
     let (full, deep, open) = (NoSlot, Nested, GuardsOpen);
     let (guarded, beside) = (NotLent::GuardsOpen, NotLent::NotSole);
-    let text = format!(in alloc; "{full:?} {deep:?} {open:?} {guarded:?} {beside:?}")?;
-    assert_eq!(rt;
-        text.as_str(),
-        "NoSlot Nested GuardsOpen GuardsOpen NotSole"
-    );
-    Ok(())
-}
-
-#[test]
-fn words_are_written_with_their_parts(rt: HostRuntime) -> Result<(), Fail> {
-    let alloc = rt.alloc();
     let sizes = Sizes {
         participants: 1,
         slots: 2,
         cells: 3,
         jobs: 4,
     };
-    let text = format!(in alloc; "{sizes:?}")?;
-    assert_eq!(rt;
-        text.as_str(),
-        "Sizes { participants: 1, slots: 2, cells: 3, jobs: 4 }"
-    );
     let status = Status::Shared(2);
     let cell = Cell::OfOwned(Some(1), Tag::First);
     let plain = Plain { value: 5u8 };
-    let text = format!(in alloc; "{status:?} {cell:?} {plain:?}")?;
-    assert_eq!(rt;
-        text.as_str(),
-        "Shared(2) OfOwned(Some(1), First) Plain { value: 5 }"
-    );
-    Ok(())
+    Ok([
+        format!(in alloc; "{full:?} {deep:?} {open:?} {guarded:?} {beside:?}")?,
+        format!(in alloc; "{sizes:?}")?,
+        format!(in alloc; "{status:?} {cell:?} {plain:?}")?,
+    ])
+}
+
+#[test]
+fn refusals_and_words_are_written_with_their_parts(rt: HostRuntime) {
+    let Ok(texts) = written(rt.alloc()) else {
+        panic!(rt; "memory is ample");
+    };
+    let wanted = [
+        "NoSlot Nested GuardsOpen GuardsOpen NotSole",
+        "Sizes { participants: 1, slots: 2, cells: 3, jobs: 4 }",
+        "Shared(2) OfOwned(Some(1), First) Plain { value: 5 }",
+    ];
+    for at in 0..3 {
+        assert_eq!(rt; texts[at].as_str(), wanted[at]);
+    }
 }
