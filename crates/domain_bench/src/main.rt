@@ -6,15 +6,21 @@
 //! of the epochs that were read is printed, which is 0 while nothing raises the count. A round of `items` places a
 //! number, reads it, gives its owner back, and opens and closes an accelerated guard, which reclaims what is due; the
 //! sum of the numbers that were read is printed. A round of `loads` opens a guard, loads a cell, reads the number in it,
-//! and closes; one of `swaps` places a number, swaps it into a cell, releases what comes out, and reclaims as one of
-//! `items` does; each thread has a cell of its own. Without arguments nothing is done.
+//! and closes; one of `load` does so under a guard that stays open; one of `swaps` places a number, swaps it into a cell,
+//! releases what comes out, and reclaims as one of `items` does; one of `swap` swaps two owners; each thread has a cell of
+//! its own. A round of `clones` makes one more owner of an item, reads the item by it, and gives it back. A round of `stack`
+//! or `queue` pushes a number on one that all threads share, and pops one. With `memory` nothing is done in a place with so
+//! many slots. Without arguments there isn't even a place.
 #![tactic(auto)]
+
+mod containers;
 
 ghost use Rattle.std.specs.Prelude.{◌≡◌, ◌<◌, ◌≤◌, IfSome, []};
 ghost use Rattle.sdd_domain.specs.Layout.{IsSized};
 ghost use Rattle.sdd_domain.specs.Cells.{cell_number};
 ghost use Rattle.sdd_domain.specs.Tokens.{place_of, home_of, hand_of, own_of, cell_count, nest_in, IsSame, IsSameButMisses};
 
+use crate::containers::rounds_of_all;
 use sdd_base::epoch::Epoch;
 use sdd_base::sizes::Sizes;
 use sdd_base::tag::Tag;
@@ -33,7 +39,13 @@ enum Kind {
     Nested,
     Items,
     Loads,
+    Load,
     Swaps,
+    Swap,
+    Clones,
+    Stack,
+    Queue,
+    Memory,
 }
 
 /// The threads, the kind and the rounds that three arguments name, if they do.
@@ -46,7 +58,13 @@ fn task_of(threads: &str, kind: &str, rounds: &str) -> Option<(u8, Kind, u32)>
         "nested" => Kind::Nested,
         "items" => Kind::Items,
         "loads" => Kind::Loads,
+        "load" => Kind::Load,
         "swaps" => Kind::Swaps,
+        "swap" => Kind::Swap,
+        "clones" => Kind::Clones,
+        "stack" => Kind::Stack,
+        "queue" => Kind::Queue,
+        "memory" => Kind::Memory,
         _ => return None,
     };
     let threads = threads.parse::<u8>().ok()?;
@@ -58,7 +76,7 @@ fn task_of(threads: &str, kind: &str, rounds: &str) -> Option<(u8, Kind, u32)>
 
 /// A guard, opened and closed: the epoch that it saw. It is compiled into each of its callers.
 #[inline(always)]
-fn pass(domain: &Domain<u64>, local: &mut Local<u64>, accelerated: bool) -> Epoch
+pub(crate) fn pass(domain: &Domain<u64>, local: &mut Local<u64>, accelerated: bool) -> Epoch
     requires home { (home_of local.old ≡ place_of domain.now) × (hand_of local.old ≡ []) }
     requires shallow { (own_of local.old).nesting ≤ 1 }
     ensures same { IsSame local.old local.new }
@@ -157,6 +175,110 @@ fn swaps(domain: &Domain<u64>, local: &mut Local<u64>, cell: &AtomicShared, roun
     sum
 }
 
+/// So many loads of the cell under one guard, and reads of what it names: the sum of that.
+#[inline(never)]
+fn loads_under(
+    domain: &Domain<u64>,
+    local: &mut Local<u64>,
+    cell: &AtomicShared,
+    rounds: u32,
+) -> u64
+    requires home { (home_of local.old ≡ place_of domain.now) × (hand_of local.old ≡ []) }
+    requires closed { (own_of local.old).nesting ≡ 0 }
+    requires inside { cell_number cell.now < cell_count domain.now }
+    ensures same { IsSame local.old local.new }
+    ensures closed { (own_of local.new).nesting ≡ 0 }
+{
+    let Ok(guard) = Guard::new(domain, local) else {
+        unreachable!();
+    };
+    let mut sum: u64 = 0;
+    for _i in 0..rounds {
+        let item = cell.load(domain, &guard, local).as_ref().copied();
+        sum = sum.wrapping_add(item.unwrap_or(0));
+    }
+    guard.close(domain, local);
+    sum
+}
+
+/// So many owners one by one, swapped with the one that the cell has: the sum of what those read that came out.
+#[inline(never)]
+fn swaps_owners(
+    domain: &Domain<u64>,
+    local: &mut Local<u64>,
+    cell: &AtomicShared,
+    rounds: u32,
+) -> u64
+    requires home { (home_of local.old ≡ place_of domain.now) × (hand_of local.old ≡ []) }
+    requires closed { (own_of local.old).nesting ≡ 0 }
+    requires inside { cell_number cell.now < cell_count domain.now }
+    ensures same { IsSameButMisses local.old local.new }
+    ensures closed { (own_of local.new).nesting ≡ 0 }
+{
+    let Ok(mut owner) = Shared::new(2, domain, local) else {
+        return 0;
+    };
+    let mut sum: u64 = 0;
+    for _i in 0..rounds {
+        let (Some(old), _) = cell.swap((Some(owner), Tag::None), domain, local) else {
+            return sum;
+        };
+        sum = sum.wrapping_add(*old.as_ref());
+        owner = old;
+    }
+    owner.release(domain, local);
+    sum
+}
+
+/// So many owners one by one, beside one that stays, of the same item: the sum of what they read.
+#[inline(never)]
+fn clones(domain: &Domain<u64>, local: &mut Local<u64>, rounds: u32) -> u64
+    requires home { (home_of local.old ≡ place_of domain.now) × (hand_of local.old ≡ []) }
+    requires closed { (own_of local.old).nesting ≡ 0 }
+    ensures same { IsSameButMisses local.old local.new }
+    ensures closed { (own_of local.new).nesting ≡ 0 }
+{
+    let Ok(mut owner) = Shared::new(1, domain, local) else {
+        return 0;
+    };
+    let mut sum: u64 = 0;
+    for _i in 0..rounds {
+        match owner.clone(domain, local) {
+            Ok((one, other)) => {
+                sum = sum.wrapping_add(*other.as_ref());
+                other.release(domain, local);
+                owner = one;
+            }
+            Err(back) => owner = back,
+        }
+    }
+    owner.release(domain, local);
+    sum
+}
+
+/// Rounds with a cell.
+fn rounds_with(
+    domain: &Domain<u64>,
+    local: &mut Local<u64>,
+    cell: &AtomicShared,
+    kind: Kind,
+    rounds: u32,
+) -> u64
+    requires home { (home_of local.old ≡ place_of domain.now) × (hand_of local.old ≡ []) }
+    requires closed { (own_of local.old).nesting ≡ 0 }
+    requires inside { cell_number cell.now < cell_count domain.now }
+    ensures same { IsSameButMisses local.old local.new }
+    ensures closed { (own_of local.new).nesting ≡ 0 }
+{
+    match kind {
+        Kind::Load => loads_under(domain, local, cell, rounds),
+        Kind::Swaps => swaps(domain, local, cell, rounds),
+        Kind::Swap => swaps_owners(domain, local, cell, rounds),
+        Kind::Clones => clones(domain, local, rounds),
+        _ => loads(domain, local, cell, rounds),
+    }
+}
+
 /// Rounds with a cell that owns 1 at first. None if there is no cell or no slot.
 fn with_cell(domain: &Domain<u64>, local: &mut Local<u64>, kind: Kind, rounds: u32) -> Option<u64>
     requires home { (home_of local.old ≡ place_of domain.now) × (hand_of local.old ≡ []) }
@@ -170,10 +292,7 @@ fn with_cell(domain: &Domain<u64>, local: &mut Local<u64>, kind: Kind, rounds: u
             old.release(domain, local);
         }
     }
-    let sum = match kind {
-        Kind::Swaps => swaps(domain, local, &cell, rounds),
-        _ => loads(domain, local, &cell, rounds),
-    };
+    let sum = rounds_with(domain, local, &cell, kind, rounds);
     cell.retire(domain, local);
     Some(sum)
 }
@@ -193,7 +312,7 @@ fn work(domain: &Domain<u64>, kind: Kind, rounds: u32) -> Option<u64> {
             sum
         }
         Kind::Items => items(domain, &mut local, rounds),
-        Kind::Loads | Kind::Swaps => { with_cell(domain, &mut local, kind, rounds).unwrap_or(0) }
+        _ => with_cell(domain, &mut local, kind, rounds).unwrap_or(0),
     };
     local.end(domain);
     Some(sum)
@@ -219,19 +338,27 @@ fn total(sums: &[Option<u64>]) -> Option<u64> {
     Some(all)
 }
 
-/// The sizes of a place for so many participants, and for their items if these are measured.
-fn sizes_of(kind: Kind, participants: u8) -> Sizes
+/// The sizes of a place for so many participants, and for their items if these are measured. What is popped waits until
+/// others have closed their guards, so there are many slots for that.
+fn sizes_of(kind: Kind, participants: u8, rounds: u32) -> Sizes
     requires { 1 ≤ participants }
     ensures { IsSized result }
 {
     let participants = usize::from(participants);
+    let slots = match kind {
+        Kind::Plain | Kind::Accelerated | Kind::Nested => 0,
+        Kind::Stack | Kind::Queue => 1024 * participants,
+        Kind::Memory => (rounds as usize).min(1048576),
+        _ => 64 * participants,
+    };
+    let cells = match kind {
+        Kind::Stack | Kind::Queue => slots + 3,
+        _ => participants,
+    };
     Sizes {
         participants,
-        slots: match kind {
-            Kind::Items | Kind::Loads | Kind::Swaps => 64 * participants,
-            _ => 0,
-        },
-        cells: participants,
+        slots,
+        cells,
         jobs: 0,
     }
 }
@@ -256,13 +383,18 @@ fn main(rt: HostRuntime) -> io::Result<()> {
             .max(threads),
         None => threads,
     };
-    let domain = Domain::new(rt.alloc(), sizes_of(kind, participants))?;
-    let sums = thread::map_indices(
-        &rt,
-        rt.alloc(),
-        usize::from(threads),
-        &|_| work(&domain, kind, rounds),
-    );
+    let domain = Domain::new(rt.alloc(), sizes_of(kind, participants, rounds))?;
+    let sums = match kind {
+        Kind::Stack => rounds_of_all(&rt, rt.alloc(), &domain, threads, true, rounds),
+        Kind::Queue => rounds_of_all(&rt, rt.alloc(), &domain, threads, false, rounds),
+        Kind::Memory => Ok(Vec::new(rt.alloc())),
+        _ => thread::map_indices(
+            &rt,
+            rt.alloc(),
+            usize::from(threads),
+            &|_| work(&domain, kind, rounds),
+        ),
+    };
     end(&rt, domain);
     let Some(sum) = total(&sums?) else {
         return Err(io::ErrorKind::Other.into());

@@ -1,0 +1,5 @@
+use Rattle.shared_containers.specs.Containers.{IsAsBefore}
+use Rattle.domain_bench.proofs.containers.on_stack.Given as goal
+
+abbrev pub invariant-loop-i : goal.invariant-loop-i
+invariant-loop-i l = IsAsBefore l.fn.local l.local
