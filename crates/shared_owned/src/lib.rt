@@ -8,6 +8,7 @@
 
 pub mod atomic_owned;
 pub mod atomic_raw;
+pub mod collecting;
 pub mod owned;
 pub mod pointer;
 pub mod raw_items;

@@ -8,6 +8,7 @@ ghost use Rattle.shared_owned.specs.Raw.{AreRawItemsOf};
 
 use crate::atomic_owned::AtomicOwned;
 use crate::atomic_raw::AtomicRaw;
+use crate::collecting::collect_owned;
 use crate::owned::Owned;
 use crate::pointer::OwnedPtr;
 use crate::raw_items::{RawItems, RawRefused};
@@ -18,6 +19,7 @@ use sdd_base::tag::Tag;
 use sdd_domain::domain::Domain;
 use sdd_domain::guard::Guard;
 use sdd_domain::local::Local;
+use sdd_domain::private_collector::PrivateCollector;
 use std::alloc::Global;
 use std::process::Abort;
 use std::test::Fail;
@@ -127,6 +129,37 @@ fn a_retired_item_leaves_its_slot_after_four_guards(rt: HostRuntime) -> Result<(
     local.end(&domain);
     end(&rt, domain);
     assert!(rt; (back, retired, waits, value) == (Some(108), true, Some(109), Some(10)));
+    Ok(())
+}
+
+/// In a place of one slot: whether an item was collected, and whether a second one is refused behind its guard, which isn't
+/// accelerated, once the collector is handed over; what is placed behind four guards.
+#[test]
+fn a_collected_item_leaves_its_slot_four_guards_after_it_is_handed_over(
+    rt: HostRuntime,
+) -> Result<(), Fail> {
+    let domain = Domain::new(rt.alloc(), sized(1, 1, 0))?;
+    let mut local = member(&rt, &domain);
+    let Ok(collector) = PrivateCollector::new(&domain) else {
+        panic!(rt; "memory is there");
+    };
+    let first = owned(&rt, 7, &domain, &mut local);
+    let Ok(guard) = Guard::new(&domain, &mut local) else {
+        panic!(rt; "no guard is open");
+    };
+    let (collector, collected) = collect_owned(collector, first, &domain, &guard, &mut local);
+    guard.close(&domain, &mut local);
+    collector.hand_over(&domain, &mut local);
+    let back = match Owned::new(8, &domain, &mut local) {
+        Ok(owner) => last_value(Some(owner), &domain, &mut local),
+        Err(value) => Some(value + 100),
+    };
+    four(&domain, &mut local);
+    let second = owned(&rt, 9, &domain, &mut local);
+    let value = last_value(Some(second), &domain, &mut local);
+    local.end(&domain);
+    end(&rt, domain);
+    assert!(rt; (collected, back, value) == (true, Some(108), Some(9)));
     Ok(())
 }
 
