@@ -2,13 +2,16 @@
 //! kept, and the same call then succeeds.
 
 ghost use Rattle.std.specs.Prelude.{◌≡◌, []};
+ghost use Rattle.sdd_domain.specs.Collecting.{collects_in};
 ghost use Rattle.sdd_domain.specs.Tokens.{home_of, hand_of, own_of, place_of};
 
+use crate::collectors::collected;
 use crate::domain::{end, member};
 use crate::guard::pass;
 use crate::items::sized;
 use sdd_domain::domain::Domain;
 use sdd_domain::local::Local;
+use sdd_domain::private_collector::PrivateCollector;
 use sdd_domain::refusal::RegisterRefused;
 use sdd_domain::shared::Shared;
 use std::alloc::{AllocError, Global};
@@ -26,8 +29,21 @@ fn registered<R: Abort>(rt: &R, domain: &Domain<u64>) -> (Local<u64>, bool)
     }
 }
 
-/// Whether an allocation was refused while a place was made and a participant registered. Placing an item, reading and
-/// reclaiming it take no memory.
+/// A private collector, made at once or, where memory was refused, by a second try; and whether it was refused.
+fn collector<R: Abort>(rt: &R, domain: &Domain<u64>) -> (PrivateCollector, bool)
+    ensures { collects_in result.0 ≡ place_of domain.now }
+{
+    match PrivateCollector::new(domain) {
+        Ok(collector) => (collector, false),
+        Err(AllocError) => (
+            PrivateCollector::new(domain).expect(rt, "memory was refused twice"),
+            true,
+        ),
+    }
+}
+
+/// Whether an allocation was refused while a place was made, a participant registered, and a private collector made. Placing
+/// an item, reading, collecting and reclaiming it take no memory.
 fn makes_and_ends<R: Abort>(rt: &R, alloc: Global) -> bool {
     let (domain, met) = match Domain::new(alloc, sized(3, 2)) {
         Ok(domain) => (domain, false),
@@ -37,17 +53,19 @@ fn makes_and_ends<R: Abort>(rt: &R, alloc: Global) -> bool {
         ),
     };
     let (mut local, again) = registered(rt, &domain);
+    let (collector, third) = collector(rt, &domain);
     let Ok(owner) = Shared::new(7, &domain, &mut local) else {
         panic!(rt; "a slot is free");
     };
     let item = *owner.as_ref();
-    let last = owner.release(&domain, &mut local);
+    let (collector, last) = collected(&domain, &mut local, collector, owner, false);
+    collector.hand_over(&domain, &mut local);
     let first = pass(&domain, &mut local, true);
     let second = pass(&domain, &mut local, true);
     local.end(&domain);
     end(rt, domain);
     assert!(rt; last && (item, first, second) == (7, 0, 1));
-    met || again
+    met || again || third
 }
 
 #[test]
