@@ -14,3 +14,5 @@ mod making;
 mod scene;
 #[cfg(test)]
 mod threads;
+#[cfg(test)]
+mod walks;

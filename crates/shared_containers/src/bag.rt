@@ -7,6 +7,7 @@ ghost use Rattle.shared_containers.specs.Containers.{AreLinksOf, IsBagOf, IsAsBe
 ghost use Rattle.shared_containers.specs.Outcomes.{Gives, IfPartly, IfUnmade, IsRefused};
 ghost use Rattle.std.specs.Iterator.{IsFiniteIterable};
 
+use crate::iter::IntoIter;
 use crate::links::{Links, Row};
 use crate::moves::{TRIES, exchange, place};
 use crate::outcome::{FromIterRefused, NotMade, PushRefused};
@@ -244,6 +245,13 @@ impl<const ARRAY_LEN: usize> Bag<ARRAY_LEN> {
             }
         }
         None
+    }
+
+    /// The bag, to be taken apart item by item.
+    pub fn into_iter(self) -> IntoIter<ARRAY_LEN>
+        ensures { result.bag ≡ self.entry }
+    {
+        IntoIter { bag: self }
     }
 
     /// Pops all items, until nothing is found: each is shown to `f` once, in no order, and released.

@@ -8,6 +8,7 @@
 pub mod bag;
 mod copies;
 mod front;
+pub mod iter;
 pub mod links;
 mod moves;
 pub mod outcome;

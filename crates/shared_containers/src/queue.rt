@@ -8,6 +8,7 @@ ghost use Rattle.shared_containers.specs.Containers.{AreLinksOf, IsQueueOf, IsAs
 ghost use Rattle.shared_containers.specs.Outcomes.{Gives, IfPartly, IfPartlyCopied, IfUncopied, IfUnmade, IsNotCloned, IsPushed, IsRefused, Said};
 ghost use Rattle.std.specs.Iterator.{IsFiniteIterable};
 
+use crate::iter::Iter;
 use crate::links::Links;
 use crate::moves::{TRIES, exchange, follow, place};
 use crate::outcome::{CloneRefused, FromIterRefused, NotMade, PushRefused, Pushed};
@@ -147,7 +148,22 @@ impl Queue {
         self.front.peek_with(f, domain, links, local)
     }
 
-    /// Calls `f` with each item once, from the first on, under one guard. It ends where the item that it is at is popped.
+    /// A walk along its items, from the first one on, under a guard. It ends where the item that it is at is taken out.
+    pub fn iter<'g, T: Holds>(
+        &self,
+        domain: &Domain<T>,
+        links: &Links,
+        guard: &'g Guard,
+        local: &mut Local<T>,
+    ) -> Iter<'g, T>
+        requires open { IsOpenIn guard.now local.old domain.now }
+        requires queue { IsQueueOf self.now domain.now × AreLinksOf links.now domain.now }
+        ensures same { IsStill local.old local.new }
+    {
+        self.front.iter(domain, links, guard, local)
+    }
+
+    /// Calls `f` with each item of such a walk, under a guard of its own.
     pub fn for_each<T: Holds, F: FnMut(&T)>(
         &self,
         f: F,

@@ -8,6 +8,7 @@ ghost use Rattle.shared_containers.specs.Containers.{AreLinksOf, IsStackOf, IsAs
 ghost use Rattle.shared_containers.specs.Outcomes.{Gives, IfPartly, IfPartlyCopied, IfUncopied, IfUnmade, IsNotCloned, IsPushed, IsRefused, Said};
 ghost use Rattle.std.specs.Iterator.{IsFiniteIterable};
 
+use crate::iter::Iter;
 use crate::links::Links;
 use crate::moves::{TRIES, exchange, follow, place};
 use crate::outcome::{CloneRefused, FromIterRefused, NotMade, Popped, PushRefused, Pushed};
@@ -142,7 +143,25 @@ impl Stack {
         answer
     }
 
-    /// Calls `f` with each item once, from the first on, under one guard. It ends where the item that it is at is popped.
+    /// A walk along its items, from the first one on, under a guard. It ends where the item that it is at is popped.
+    pub fn iter<'g, T: Holds>(
+        &self,
+        domain: &Domain<T>,
+        links: &Links,
+        guard: &'g Guard,
+        local: &mut Local<T>,
+    ) -> Iter<'g, T>
+        requires open { IsOpenIn guard.now local.old domain.now }
+        requires stack { IsStackOf self.now domain.now × AreLinksOf links.now domain.now }
+        ensures same { IsStill local.old local.new }
+    {
+        Iter {
+            at: self.first_item(domain, links, guard, local),
+            left: domain.slots(),
+        }
+    }
+
+    /// Calls `f` with each item of such a walk, under a guard of its own.
     pub fn for_each<T: Holds, F: FnMut(&T)>(
         &self,
         mut f: F,
@@ -158,13 +177,9 @@ impl Stack {
         let Ok(guard) = Guard::new(domain, local) else {
             unreachable!();
         };
-        let mut at = self.first_item(domain, links, &guard, local);
-        for _i in 0..domain.slots() {
-            let Some(item) = at.as_ref() else {
-                break;
-            };
+        let mut items = self.iter(domain, links, &guard, local);
+        while let Some(item) = items.next(domain, links, &guard, local) {
             f(item);
-            at = links.after(at, domain, &guard, local);
         }
         guard.close(domain, local);
     }

@@ -1,0 +1,167 @@
+//! Walks with pops in between, and bags that are taken apart.
+
+ghost use Rattle.std.specs.Prelude.{◌≡◌, []};
+ghost use Rattle.sdd_domain.specs.Tokens.{place_of, home_of, hand_of, own_of};
+ghost use Rattle.shared_containers.specs.Containers.{AreLinksOf, IsAsBefore, IsBagOf};
+
+use crate::scene::{Kind, Made, Scene, end, member, read, sized};
+use sdd_domain::domain::Domain;
+use sdd_domain::guard::Guard;
+use sdd_domain::local::Local;
+use shared_containers::bag::Bag;
+use shared_containers::links::Links;
+use std::alloc::Global;
+use std::process::Abort;
+use std::test::Fail;
+
+/// What a walk gives at each of its steps, and what is popped behind it.
+#[derive(Clone, Copy, PartialEq, Eq)]
+struct Walked {
+    gives: [Option<u64>; 4],
+    left: [Option<u64>; 2],
+}
+
+/// A walk along 1, 2 and 3, which were pushed in this order. Behind its first step two of them are popped, that which it gave
+/// and that which it is at: this it still gives, and ends.
+fn walks(scene: &Scene, local: &mut Local<u64>) -> Walked
+    requires home { (home_of local.old ≡ place_of scene.now.domain.now) × (hand_of local.old ≡ []) }
+    requires closed { (own_of local.old).nesting ≡ 0 }
+    ensures same { IsAsBefore local.old local.new }
+{
+    let Scene {
+        domain,
+        links,
+        stack,
+        queue,
+        ..
+    } = *scene;
+    let _ = (
+        scene.push(local, 1),
+        scene.push(local, 2),
+        scene.push(local, 3),
+    );
+    let Ok(guard) = Guard::new(domain, local) else {
+        unreachable!();
+    };
+    let mut items = if scene.kind == Kind::Queue {
+        queue.iter(domain, links, &guard, local)
+    } else {
+        stack.iter(domain, links, &guard, local)
+    };
+    let first = items.next(domain, links, &guard, local).copied();
+    let _ = (scene.pop(local), scene.pop(local));
+    let second = items.next(domain, links, &guard, local).copied();
+    let third = items.next(domain, links, &guard, local).copied();
+    let last = items.next(domain, links, &guard, local).copied();
+    guard.close(domain, local);
+    Walked {
+        gives: [first, second, third, last],
+        left: [scene.pop(local), scene.pop(local)],
+    }
+}
+
+/// The same in a place of its own.
+fn walks_alone<R: Abort>(rt: &R, alloc: Global, domain: &Domain<u64>, kind: Kind) -> Walked {
+    let mut local = member(rt, domain);
+    let made = Made::new(rt, alloc, domain, &mut local);
+    let found = walks(&made.scene(domain, kind), &mut local);
+    made.end(domain, &mut local);
+    local.end(domain);
+    found
+}
+
+#[test]
+fn a_walk_gives_what_is_popped_meanwhile_and_ends_there(rt: HostRuntime) -> Result<(), Fail> {
+    let table = [
+        (Kind::Stack, [Some(3), Some(2), None, None], Some(1)),
+        (Kind::Queue, [Some(1), Some(2), None, None], Some(3)),
+    ];
+    let mut right = true;
+    for (kind, gives, left) in table {
+        let domain = Domain::new(rt.alloc(), sized(1, 5, 13))?;
+        let found = walks_alone(&rt, rt.alloc(), &domain, kind);
+        end(&rt, domain);
+        let expected = Walked {
+            gives,
+            left: [left, None],
+        };
+        right = right && found == expected;
+    }
+    assert!(rt; right);
+    Ok(())
+}
+
+/// Pushes a value on a bag of two places.
+fn push(bag: &Bag<2>, value: u64, domain: &Domain<u64>, links: &Links, local: &mut Local<u64>)
+    requires home { (home_of local.old ≡ place_of domain.now) × (hand_of local.old ≡ []) }
+    requires closed { (own_of local.old).nesting ≡ 0 }
+    requires made { IsBagOf bag.now domain.now × AreLinksOf links.now domain.now }
+    ensures same { IsAsBefore local.old local.new }
+{
+    if let Err(refused) = bag.push(value, domain, links, local) {
+        let _ = refused.end(domain, local);
+    }
+}
+
+/// Puts 1, 2 and 3 into a bag of two places and its overflow, and takes it apart, by so many steps: the sum of what they gave,
+/// and how many gave nothing. What is left is released.
+fn takes_apart(
+    bag: Bag<2>,
+    domain: &Domain<u64>,
+    links: &Links,
+    local: &mut Local<u64>,
+    steps: u8,
+) -> (u64, u64)
+    requires home { (home_of local.old ≡ place_of domain.now) × (hand_of local.old ≡ []) }
+    requires closed { (own_of local.old).nesting ≡ 0 }
+    requires made { IsBagOf bag domain.now × AreLinksOf links.now domain.now }
+    ensures same { IsAsBefore local.old local.new }
+{
+    push(&bag, 1, domain, links, local);
+    push(&bag, 2, domain, links, local);
+    push(&bag, 3, domain, links, local);
+    let mut items = bag.into_iter();
+    let mut found = (0u64, 0u64);
+    for _step in 0..steps {
+        let popped = items.next(domain, links, local);
+        match read(popped, domain, local) {
+            Some(value) => found.0 = found.0.wrapping_add(value),
+            None => found.1 = found.1.wrapping_add(1),
+        }
+    }
+    items.end(domain, links, local);
+    found
+}
+
+/// The same in a place of its own.
+fn takes_apart_alone<R: Abort>(
+    rt: &R,
+    alloc: Global,
+    domain: &Domain<u64>,
+    steps: u8,
+) -> (u64, u64) {
+    let mut local = member(rt, domain);
+    let Ok(links) = Links::new(alloc, domain, &mut local) else {
+        panic!(rt; "memory is ample, and so are cells");
+    };
+    let Ok(bag) = Bag::<2>::new(alloc, domain, &mut local) else {
+        panic!(rt; "three cells are free");
+    };
+    let found = takes_apart(bag, domain, &links, &mut local, steps);
+    links.end(domain, &mut local);
+    local.end(domain);
+    found
+}
+
+#[test]
+fn a_bag_that_is_taken_apart_gives_each_value_once(rt: HostRuntime) -> Result<(), Fail> {
+    let mut right = true;
+    for (steps, expected) in [(0, (0, 0)), (3, (6, 0)), (5, (6, 2))] {
+        let domain = Domain::new(rt.alloc(), sized(1, 3, 6))?;
+        let found = takes_apart_alone(&rt, rt.alloc(), &domain, steps);
+        end(&rt, domain);
+        right = right && found == expected;
+    }
+    assert!(rt; right);
+    Ok(())
+}
