@@ -1,19 +1,17 @@
 //! Runs in which any one allocation may be refused. A script has each refused in turn: whatever is refused, nothing has
 //! changed, and the same call then succeeds.
 
-ghost use Rattle.std.specs.Prelude.{◌≡◌, ◌<◌};
-ghost use Rattle.sdd_domain.specs.Cells.{cell_number};
-ghost use Rattle.sdd_domain.specs.Tokens.{place_of, cell_count};
+ghost use Rattle.std.specs.Prelude.{◌≡◌};
+ghost use Rattle.sdd_domain.specs.Tokens.{place_of};
 ghost use Rattle.shared_index.specs.Invariant.{IsUnengaged};
 ghost use Rattle.shared_book_tests.specs.Scenes.{CanBegin};
 
-use crate::scene::{Item, end, member, sized};
-use sdd_domain::atomic_shared::AtomicShared;
+use crate::scene::{Item, Scene, closed, in_use, member, place, registered};
 use sdd_domain::domain::Domain;
 use sdd_domain::local::Local;
 use sdd_domain::refusal::RegisterRefused;
 use serial_history::{Accepted, Answer, Audit, Cause, Query, Receipt, Refused, Reply};
-use shared_index::{Book, Naming, NewRefused, Share};
+use shared_index::{Naming, NewRefused};
 use std::alloc::{AllocError, Global};
 use std::marker::Brand;
 use std::process::Abort;
@@ -23,10 +21,10 @@ use version_views::Write;
 const TWICE: &str = "memory was refused twice";
 
 /// A participant, registered at once or, where memory was refused, by a second try.
-fn registered<R: Abort>(rt: &R, domain: &Domain<Item>, met: &mut bool) -> Local<Item>
+fn registered_by_two<R: Abort>(rt: &R, domain: &Domain<Item>, met: &mut bool) -> Local<Item>
     ensures { IsUnengaged (place_of domain.now) result }
 {
-    match domain.register() {
+    match registered(domain) {
         Ok(local) => local,
         Err(RegisterRefused::Memory) => {
             *met = true;
@@ -36,30 +34,27 @@ fn registered<R: Abort>(rt: &R, domain: &Domain<Item>, met: &mut bool) -> Local<
     }
 }
 
-/// An empty book with its cell and its shares, made again where memory was refused; then nothing was in use.
-fn book<L: Naming, R: Abort>(
+/// An empty book, made again where memory was refused; then nothing was in use.
+fn book<'d, L: Naming, R: Abort>(
     rt: &R,
     alloc: Global,
-    domain: &Domain<Item>,
+    domain: &'d Domain<Item>,
     local: Local<Item>,
     blank: Blank,
     met: &mut bool,
-) -> (Book<L, u64, u64, 2>, AtomicShared, Vec<Share<L>>)
+) -> Scene<'d, L, 2>
     requires { CanBegin L.place L.name L.parts 1 domain.now local blank }
-    ensures { cell_number result.1 < cell_count domain.now }
+    ensures { result.domain.now ≡ domain.now }
 {
-    let (local, blank) = match Book::new(alloc, domain, local, blank, 1, u64::MAX) {
-        Ok(made) => return made,
+    let (local, blank) = match Scene::made(alloc, domain, local, blank, u64::MAX) {
+        Ok(scene) => return scene,
         Err((local, blank, NewRefused::Memory)) => (local, blank),
-        Err((local, _, NewRefused::NoSlot)) => {
-            local.end(domain);
-            panic!(rt; "there is a slot and a cell")
-        }
+        Err((_, _, NewRefused::NoSlot)) => panic!(rt; "there is a slot and a cell"),
     };
     *met = true;
-    assert_eq!(rt; domain.slots_in_use(), 0);
-    match Book::new(alloc, domain, local, blank, 1, u64::MAX) {
-        Ok(made) => made,
+    assert_eq!(rt; in_use(domain), 0);
+    match Scene::made(alloc, domain, local, blank, u64::MAX) {
+        Ok(scene) => scene,
         Err(_) => panic!(rt; "memory was refused twice"),
     }
 }
@@ -93,57 +88,47 @@ fn receipt<R: Abort>(rt: &R, alloc: Global, met: &mut bool) -> Receipt<u64, u64>
     receipt
 }
 
+/// The number, how many pairs there are, the count of the share, and how many slots are in use.
+fn state<L: Naming>(scene: &Scene<'_, L, 2>) -> ((u64, usize, u64), usize) {
+    (scene.counts(), in_use(scene.domain))
+}
+
 /// Commits the two writes, again where memory was refused; then the book, the share and the writes were as before.
 fn commit<L: Naming, R: Abort>(
     rt: &R,
     alloc: Global,
-    domain: &Domain<Item>,
-    root: &AtomicShared,
-    book: &mut Book<L, u64, u64, 2>,
-    share: &mut Share<L>,
+    scene: &mut Scene<'_, L, 2>,
     receipt: &Receipt<u64, u64>,
     met: &mut bool,
-) -> Accepted
-    requires place { place_of domain.now ≡ L.place }
-    requires inside { cell_number root.now < cell_count domain.now }
-{
-    let before = (
-        book.number(),
-        book.len(),
-        share.count(),
-        domain.slots_in_use(),
-    );
+) -> Accepted {
+    let before = state(scene);
     let writes = writes(rt, alloc, met);
-    let Refused { cause, writes } = match book.commit(domain, root, share, receipt, writes) {
+    let Refused { cause, writes } = match scene.commit(receipt, writes) {
         Ok(accepted) => return accepted,
         Err(refused) => refused,
     };
     *met = true;
     assert!(rt; cause == Cause::Memory);
     assert!(rt; writes.as_slice() == &[Write::Insert(1, 10), Write::Upsert(1, 11)][..]);
-    let after = (
-        book.number(),
-        book.len(),
-        share.count(),
-        domain.slots_in_use(),
-    );
-    assert_eq!(rt; after, before);
-    book.commit(domain, root, share, receipt, writes)
-        .expect(rt, TWICE)
+    assert!(rt; state(scene) == before);
+    match scene.commit(receipt, writes) {
+        Ok(accepted) => accepted,
+        Err(_) => panic!(rt; "memory was refused twice"),
+    }
 }
 
 /// Audits the receipt, again where memory was refused.
 fn audit<L: Naming, R: Abort>(
     rt: &R,
-    book: &Book<L, u64, u64, 2>,
+    scene: &Scene<'_, L, 2>,
     receipt: &Receipt<u64, u64>,
     met: &mut bool,
 ) -> Audit {
-    match book.audit(receipt) {
+    match scene.audit(receipt) {
         Ok(found) => found,
         Err(AllocError) => {
             *met = true;
-            book.audit(receipt).expect(rt, TWICE)
+            scene.audit(receipt).expect(rt, TWICE)
         }
     }
 }
@@ -163,19 +148,14 @@ fn writes_and_audits<L: Naming, R: Abort>(
 ) -> Found
     requires { CanBegin L.place L.name L.parts 1 domain.now local blank }
 {
-    let (mut book, root, mut shares) = book::<L, R>(rt, alloc, domain, local, blank, met);
-    let Some(mut share) = shares.pop() else {
-        panic!(rt; "there is a share")
-    };
+    let mut scene = book::<L, R>(rt, alloc, domain, local, blank, met);
     let none = Receipt::blank(alloc);
-    let first = commit(rt, alloc, domain, &root, &mut book, &mut share, &none, met);
+    let first = commit(rt, alloc, &mut scene, &none, met);
     let read = receipt(rt, alloc, met);
-    let second = commit(rt, alloc, domain, &root, &mut book, &mut share, &read, met);
-    let audit = audit(rt, &book, &read, met);
-    let counts = (book.number(), book.len(), share.count());
-    let mut local = book.end(domain);
-    root.retire(domain, &mut local);
-    local.end(domain);
+    let second = commit(rt, alloc, &mut scene, &read, met);
+    let audit = audit(rt, &scene, &read, met);
+    let counts = scene.counts();
+    scene.end();
     (first, second, audit, counts)
 }
 
@@ -197,19 +177,19 @@ fn is_right(found: &Found) -> bool {
 /// memory was refused.
 fn in_a_place<R: Abort>(rt: &R, alloc: Global) -> bool {
     let mut met = false;
-    let domain = match Domain::new(alloc, sized(16)) {
+    let domain = match place(alloc, 16) {
         Ok(domain) => domain,
         Err(AllocError) => {
             met = true;
-            Domain::new(alloc, sized(16)).expect(rt, TWICE)
+            place(alloc, 16).expect(rt, TWICE)
         }
     };
-    let local = registered(rt, &domain, &mut met);
+    let local = registered_by_two(rt, &domain, &mut met);
     let found = writes_and_audits::<Brand, R>(rt, alloc, &domain, local, Blank::new(1), &mut met);
     assert!(rt; is_right(&found));
     let mut domain = domain;
     for _i in 0..2u32 {
-        domain = match domain.close() {
+        domain = match closed(domain) {
             Ok(()) => return met,
             Err(back) => back,
         };

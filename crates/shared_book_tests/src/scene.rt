@@ -1,6 +1,6 @@
 //! A book in a place, with what its calls take.
 
-ghost use Rattle.std.specs.Prelude.{◌≡◌, ◌≤◌, ◌<◌};
+ghost use Rattle.std.specs.Prelude.{◌≡◌, ◌≤◌, ◌<◌, IfErr, IfOk};
 ghost use Rattle.sdd_domain.specs.Cells.{cell_number};
 ghost use Rattle.sdd_domain.specs.Tokens.{place_of, cell_count};
 ghost use Rattle.shared_index.specs.Invariant.{IsUnengaged};
@@ -10,8 +10,9 @@ use sdd_base::sizes::Sizes;
 use sdd_domain::atomic_shared::AtomicShared;
 use sdd_domain::domain::Domain;
 use sdd_domain::local::Local;
+use sdd_domain::refusal::RegisterRefused;
 use serial_history::{Accepted, Audit, Receipt, Refused};
-use shared_index::{Book, Naming, Share};
+use shared_index::{Book, Naming, NewRefused, Share};
 use shared_versions::Node;
 use std::alloc::{AllocError, Global};
 use std::process::Abort;
@@ -36,22 +37,46 @@ pub(crate) fn sized(slots: usize) -> Sizes
     }
 }
 
+/// A place for so many items.
+pub(crate) fn place(alloc: Global, slots: usize) -> Result<Domain<Item>, AllocError>
+    requires { (1 ≤ slots) × (slots ≤ 1073741824) }
+{
+    Domain::new(alloc, sized(slots))
+}
+
+/// A participant of the place, or why there is none.
+pub(crate) fn registered(domain: &Domain<Item>) -> Result<Local<Item>, RegisterRefused>
+    ensures { IfOk result (IsUnengaged (place_of domain.now)) }
+{
+    domain.register()
+}
+
 /// A participant of the place, which has one that is free.
 pub(crate) fn member<R: Abort>(rt: &R, domain: &Domain<Item>) -> Local<Item>
     ensures { IsUnengaged (place_of domain.now) result }
 {
-    match domain.register() {
+    match registered(domain) {
         Ok(local) => local,
         Err(_) => panic!(rt; "a participant is free"),
     }
 }
 
+/// Ends a place that nobody uses, or hands it back.
+pub(crate) fn closed(domain: Domain<Item>) -> Result<(), Domain<Item>> {
+    domain.close()
+}
+
 /// Ends a place that nobody uses.
 pub(crate) fn end<R: Abort>(rt: &R, domain: Domain<Item>) {
-    match domain.close() {
+    match closed(domain) {
         Ok(()) => {}
         Err(_) => panic!(rt; "nobody is registered"),
     }
+}
+
+/// How many slots of the place have an item.
+pub(crate) fn in_use(domain: &Domain<Item>) -> usize {
+    domain.slots_in_use()
 }
 
 /// A book, the cell of its version, and its one share.
@@ -65,7 +90,32 @@ pub(crate) struct Scene<'d, L: Naming, const S: usize> {
 }
 
 impl<'d, L: Naming, const S: usize> Scene<'d, L, S> {
-    /// An empty book, whose last number is the given one.
+    /// An empty book, whose last number is the given one; or what it was to be made of, and why it wasn't.
+    pub(crate) fn made(
+        alloc: Global,
+        domain: &'d Domain<Item>,
+        local: Local<Item>,
+        blank: Blank,
+        last: u64,
+    ) -> Result<Self, (Local<Item>, Blank, NewRefused)>
+        requires begins { CanBegin L.place L.name L.parts 1 domain.now local blank }
+        requires size { (1 ≤ S) × (S ≤ 225) }
+        ensures back { IfErr result (λ back. CanBegin L.place L.name L.parts 1 domain.now back.0 back.1) }
+        ensures domain { IfOk result (λ scene. scene.domain.now ≡ domain.now) }
+    {
+        let (book, root, mut shares) = Book::new(alloc, domain, local, blank, 1, last)?;
+        match shares.pop() {
+            Some(share) => Ok(Scene {
+                domain,
+                root,
+                book,
+                share,
+            }),
+            None => unreachable!(),
+        }
+    }
+
+    /// An empty book, for which there is room.
     pub(crate) fn new<R: Abort>(
         rt: &R,
         alloc: Global,
@@ -77,20 +127,9 @@ impl<'d, L: Naming, const S: usize> Scene<'d, L, S> {
         requires begins { CanBegin L.place L.name L.parts 1 domain.now local blank }
         requires size { (1 ≤ S) × (S ≤ 225) }
     {
-        match Book::new(alloc, domain, local, blank, 1, last) {
-            Ok((book, root, mut shares)) => match shares.pop() {
-                Some(share) => Scene {
-                    domain,
-                    root,
-                    book,
-                    share,
-                },
-                None => unreachable!(),
-            },
-            Err((local, _, _)) => {
-                local.end(domain);
-                panic!(rt; "there is memory, a slot and a cell")
-            }
+        match Self::made(alloc, domain, local, blank, last) {
+            Ok(scene) => scene,
+            Err(_) => panic!(rt; "there is memory, a slot and a cell"),
         }
     }
 

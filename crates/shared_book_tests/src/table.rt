@@ -3,7 +3,7 @@
 ghost use Rattle.std.specs.Prelude.{◌≤◌};
 ghost use Rattle.shared_book_tests.specs.Scenes.{CanBegin};
 
-use crate::scene::{Item, ROOM, Scene, end, member, sized};
+use crate::scene::{Item, ROOM, Scene, end, member, place};
 use sdd_domain::domain::Domain;
 use sdd_domain::local::Local;
 use serial_history::{
@@ -194,7 +194,7 @@ pub(crate) fn on_books<R: Abort>(rt: &R, alloc: Global, tables: &[&[(Call, Told)
 
 /// Plays a table on an empty book with 64 slots, up to a last number, with two pairs in a segment at most.
 pub(crate) fn on_a_book<R: Abort>(rt: &R, alloc: Global, last: u64, rows: &[(Call, Told)]) {
-    let domain = Domain::new(alloc, sized(64)).expect(rt, ROOM);
+    let domain = place(alloc, 64).expect(rt, ROOM);
     let local = member(rt, &domain);
     by_twos::<Brand, R>(rt, alloc, &domain, local, Blank::new(1), last, rows);
     end(rt, domain);
@@ -204,7 +204,7 @@ pub(crate) fn on_a_book<R: Abort>(rt: &R, alloc: Global, last: u64, rows: &[(Cal
 pub(crate) fn on_a_small_book<R: Abort>(rt: &R, alloc: Global, slots: usize, rows: &[(Call, Told)])
     requires { (1 ≤ slots) × (slots ≤ 1073741824) }
 {
-    let domain = Domain::new(alloc, sized(slots)).expect(rt, ROOM);
+    let domain = place(alloc, slots).expect(rt, ROOM);
     let local = member(rt, &domain);
     by_ones::<Brand, R>(rt, alloc, &domain, local, Blank::new(1), u64::MAX, rows);
     end(rt, domain);
