@@ -6,6 +6,8 @@ mod drafts;
 #[cfg(test)]
 mod nodes;
 #[cfg(test)]
+mod place;
+#[cfg(test)]
 mod placing;
 #[cfg(test)]
 mod sessions;

@@ -2,17 +2,18 @@
 
 ghost use Rattle.std.specs.Prelude.{◌≡◌, ◌≤◌, ◌<◌, []};
 ghost use Rattle.sdd_domain.specs.Cells.{cell_number};
-ghost use Rattle.sdd_domain.specs.Tokens.{place_of, home_of, hand_of, own_of, cell_count, nest_in, IsSame, IsSameButMisses};
+ghost use Rattle.sdd_domain.specs.Tokens.{place_of, home_of, hand_of, own_of, cell_count, IsSame, IsSameButMisses};
 
 use self::Call::{Get, Reclaim, Slots, Upsert};
 use self::Told::{Done, Found, Placed, Refused, Used};
-use crate::sessions::{Item, member};
+use crate::place::{
+    Item, cell_of, close, end, in_use, leave, member, opened, place, reclaimed, retire,
+};
 use sdd_base::sizes::Sizes;
 use sdd_domain::atomic_shared::AtomicShared;
 use sdd_domain::domain::Domain;
-use sdd_domain::guard::Guard;
 use sdd_domain::local::Local;
-use shared_versions::{NoSlot, Present, Session, build, publish, reclaim};
+use shared_versions::{NoSlot, Present, Session, build, publish};
 use std::alloc::Global;
 use std::process::Abort;
 use std::test::Fail;
@@ -46,14 +47,7 @@ fn begun<R: Abort, const S: usize>(
     ensures closed { (own_of local.new).nesting ≡ 0 }
 {
     match Present::new(alloc, domain, local) {
-        Ok((present, owner)) => match AtomicShared::from(owner, domain, local) {
-            Ok(root) => (present, root),
-            Err(owner) => {
-                owner.release(domain, local);
-                present.end(domain, local);
-                panic!(rt; "a cell is free")
-            }
-        },
+        Ok((present, owner)) => (present, cell_of(rt, owner, domain, local)),
         Err(NoSlot) => panic!(rt; "a slot is free"),
     }
 }
@@ -108,33 +102,6 @@ fn upserts<R: Abort>(
     writes
 }
 
-/// A session of the version that the cell names.
-fn opened<R: Abort, const S: usize>(
-    rt: &R,
-    domain: &Domain<Item>,
-    local: &mut Local<Item>,
-    root: &AtomicShared,
-) -> Session<u64, u64, S>
-    requires home { (home_of local.old ≡ place_of domain.now) × (hand_of local.old ≡ []) }
-    requires closed { (own_of local.old).nesting ≡ 0 }
-    requires inside { cell_number root.now < cell_count domain.now }
-    ensures nest { result.nest ≡ nest_in local.new }
-    ensures same { IsSame local.old local.new }
-    ensures open { (own_of local.new).nesting ≡ 1 }
-{
-    let Ok(guard) = Guard::new(domain, local) else {
-        unreachable!();
-    };
-    let loaded = root.loaded(domain, &guard, local);
-    match Session::open(guard, loaded) {
-        Ok(session) => session,
-        Err((guard, _)) => {
-            guard.close(domain, local);
-            panic!(rt; "the cell names a version")
-        }
-    }
-}
-
 /// The value of a key in the version that the cell names, and how many pairs that has.
 fn seen<R: Abort, const S: usize>(
     rt: &R,
@@ -149,9 +116,11 @@ fn seen<R: Abort, const S: usize>(
     ensures same { IsSame local.old local.new }
     ensures closed { (own_of local.new).nesting ≡ 0 }
 {
-    let session = opened::<R, S>(rt, domain, local, root);
+    let Some(session) = opened::<S>(domain, local, root) else {
+        panic!(rt; "the cell names a version");
+    };
     let found = looked_up(&session, key);
-    session.into_guard().close(domain, local);
+    close(session.into_guard(), domain, local);
     found
 }
 
@@ -218,12 +187,12 @@ impl<'d, const S: usize> Scene<'d, S> {
     fn reclaim(&mut self)
         ensures { place_of self.new.domain.now ≡ place_of self.old.domain.now }
     {
-        reclaim(self.domain, &mut self.local);
+        reclaimed(self.domain, &mut self.local);
     }
 
     /// How many slots are in use.
     fn slots(&self) -> usize {
-        self.domain.slots_in_use()
+        in_use(self.domain)
     }
 
     /// Ends the version, the cell and the participant: how many slots are in use then.
@@ -235,22 +204,12 @@ impl<'d, const S: usize> Scene<'d, S> {
             root,
         } = self;
         let mut local = local;
-        root.retire(domain, &mut local);
+        retire(root, domain, &mut local);
         present.end(domain, &mut local);
-        reclaim(domain, &mut local);
-        let slots = domain.slots_in_use();
-        local.end(domain);
-        slots
+        reclaimed(domain, &mut local);
+        leave(local, domain);
+        in_use(domain)
     }
-}
-
-/// Ends a place, in which nothing was in use any more.
-fn end<R: Abort>(rt: &R, domain: Domain<Item>, slots: usize) {
-    match domain.close() {
-        Ok(()) => {}
-        Err(_) => panic!(rt; "nobody is registered"),
-    }
-    assert_eq!(rt; slots, 0);
 }
 
 /// A call on a scene.
@@ -330,12 +289,12 @@ fn on_a_place<R: Abort, const S: usize>(rt: &R, alloc: Global, slots: usize, row
     requires slots { (1 ≤ slots) × (slots ≤ 1073741824) }
     requires size { (1 ≤ S) × (S ≤ 225) }
 {
-    let domain = Domain::new(alloc, sized(slots)).expect(rt, "memory is there");
+    let domain = place(alloc, sized(slots)).expect(rt, "memory is there");
     let mut scene = Scene::<S>::new(rt, alloc, &domain);
     let right = played(rt, alloc, &mut scene, rows);
-    let slots = scene.end();
-    end(rt, domain, slots);
-    assert_eq!(rt; right, rows.len());
+    let left = scene.end();
+    end(rt, domain);
+    assert_eq!(rt; (right, left), (rows.len(), 0));
 }
 
 /// Three segments, their version, and the empty one are in use until the latter is reclaimed.
@@ -440,29 +399,31 @@ fn read_beside<R: Abort>(
     ensures same { IsSame reader.old reader.new }
     ensures closed { (own_of reader.new).nesting ≡ 0 }
 {
-    let session = opened::<R, 2>(rt, scene.domain, reader, &scene.root);
+    let Some(session) = opened::<2>(scene.domain, reader, &scene.root) else {
+        panic!(rt; "the cell names a version");
+    };
     let placed = scene.commit(rt, alloc, &upserts(rt, alloc, 3..12, 2));
     scene.reclaim();
     let found = [looked_up(&session, 3), looked_up(&session, 11)];
-    session.into_guard().close(scene.domain, reader);
+    close(session.into_guard(), scene.domain, reader);
     (placed, found)
 }
 
 #[test]
 fn a_session_reads_on_while_versions_follow(rt: HostRuntime) -> Result<(), Fail> {
     let alloc = rt.alloc();
-    let domain = Domain::new(alloc, sized(64))?;
+    let domain = place(alloc, sized(64))?;
     let mut reader = member(&rt, &domain);
     let mut scene = Scene::<2>::new(&rt, alloc, &domain);
     let first = scene.commit(&rt, alloc, &upserts(&rt, alloc, 1..9, 1));
     let (second, found) = read_beside(&rt, alloc, &mut scene, &mut reader);
     let behind = seen::<_, 2>(&rt, scene.domain, &mut reader, &scene.root, 3);
-    reader.end(&domain);
+    leave(reader, &domain);
     scene.reclaim();
     let slots = scene.slots();
     let left = scene.end();
-    end(&rt, domain, left);
-    assert_eq!(rt; (first, second, slots), (true, true, 7));
+    end(&rt, domain);
+    assert_eq!(rt; (first, second, slots, left), (true, true, 7, 0));
     assert_eq!(rt; (found, behind), ([(Some(1), 8), (None, 8)], (Some(2), 11)));
     Ok(())
 }
