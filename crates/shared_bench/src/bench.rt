@@ -5,6 +5,7 @@ ghost use Rattle.sdd_domain.specs.Cells.{cell_number};
 ghost use Rattle.sdd_domain.specs.Tokens.{place_of, cell_count};
 ghost use Rattle.shared_index.specs.Invariant.{IsUnengaged};
 
+use crate::place::{leave, registered};
 use crate::readers::{Sample, Span, fresh, read_all, sessions};
 use crate::task::{Index, Item, Task};
 use crate::writer::{Commits, build, commit_until, rounds};
@@ -87,7 +88,7 @@ fn alone<L: Naming, R: Wait>(
     let mut share = share;
     let mut refused = 0;
     let domain = index.domain();
-    let Ok(mut local) = domain.register() else {
+    let Some(mut local) = registered(domain) else {
         return (share, None);
     };
     let sample = if task.writes == 0 {
@@ -104,7 +105,7 @@ fn alone<L: Naming, R: Wait>(
         refused = u64::from(task.last).wrapping_sub(rounds(rt, alloc, index, &mut share, task));
         sessions(alloc, domain, index.root(), &mut local, task, 1, fresh(77))
     };
-    local.end(domain);
+    leave(local, domain);
     let times: Vec<u64> = Vec::new(alloc);
     (
         share,
@@ -130,7 +131,7 @@ pub fn run<L: Naming, R: Threads + Wait + Clock + Sync>(
     requires parts { (blank.parts ≡ L.parts) × (blank.parts ≡ 1) }
 {
     let Ok(mut all) = Vec::with_capacity(alloc, 1) else {
-        local.end(domain);
+        leave(local, domain);
         return None;
     };
     let made: Result<(Index<'_, L>, Vec<Share<L>>), _> = SharedIndex::new(
@@ -139,7 +140,7 @@ pub fn run<L: Naming, R: Threads + Wait + Clock + Sync>(
     let (index, mut shares) = match made {
         Ok(made) => made,
         Err((local, _, _)) => {
-            local.end(domain);
+            leave(local, domain);
             return None;
         }
     };
@@ -156,7 +157,7 @@ pub fn run<L: Naming, R: Threads + Wait + Clock + Sync>(
     };
     all.push_reserved(share);
     match index.close(all) {
-        Ok((local, _)) => local.end(domain),
+        Ok((local, _)) => leave(local, domain),
         Err(_) => unreachable!(),
     }
     found

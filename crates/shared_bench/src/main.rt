@@ -14,11 +14,13 @@ ghost use Rattle.std.specs.Prelude.{◌≡◌, ◌<◌, ◌≤◌};
 ghost use Rattle.sdd_domain.specs.Layout.{IsSized};
 
 mod bench;
+mod place;
 mod readers;
 mod task;
 mod writer;
 
 use bench::Found;
+use place::registered;
 use sdd_base::sizes::Sizes;
 use sdd_domain::domain::Domain;
 use std::marker::Brand;
@@ -95,9 +97,9 @@ fn main(rt: HostRuntime) -> io::Result<()> {
         return Err(io::ErrorKind::InvalidInput.into());
     };
     let domain = Domain::new(rt.alloc(), sizes_of(&task))?;
-    let found = match domain.register() {
-        Ok(local) => bench::run::<Brand, _>(&rt, rt.alloc(), &domain, local, Blank::new(1), task),
-        Err(_) => None,
+    let found = match registered(&domain) {
+        Some(local) => bench::run::<Brand, _>(&rt, rt.alloc(), &domain, local, Blank::new(1), task),
+        None => None,
     };
     end(&rt, domain);
     let Some(Found { sample, commits }) = found else {

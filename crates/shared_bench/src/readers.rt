@@ -4,6 +4,7 @@ ghost use Rattle.std.specs.Prelude.{◌≡◌, ◌<◌, ◌≤◌};
 ghost use Rattle.sdd_domain.specs.Cells.{cell_number};
 ghost use Rattle.sdd_domain.specs.Tokens.{place_of, home_of, own_of, cell_count, IsSame};
 
+use crate::place::{leave, registered};
 use crate::task::{Item, Reader, Task, belongs, drawn, key, next};
 use sdd_domain::atomic_shared::AtomicShared;
 use sdd_domain::domain::Domain;
@@ -130,9 +131,7 @@ fn reads<R: Clock>(
 ) -> Option<Sample>
     requires inside { cell_number root.now < cell_count domain.now }
 {
-    let Ok(mut local) = domain.register() else {
-        return None;
-    };
+    let mut local = registered(domain)?;
     let mut sample = fresh(seed);
     for _turn in 0..u64::MAX {
         let Ok(now) = Instant::now(rt) else {
@@ -154,7 +153,7 @@ fn reads<R: Clock>(
             sample = fresh(sample.state);
         }
     }
-    local.end(domain);
+    leave(local, domain);
     Some(sample)
 }
 

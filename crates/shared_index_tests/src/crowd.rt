@@ -3,10 +3,10 @@
 ghost use Rattle.std.specs.Prelude.{◌≡◌};
 ghost use Rattle.sdd_domain.specs.Tokens.{home_of, own_of, IsSame};
 
+use crate::calls::{Numbers, asked, audit, ended, leave, opened, registered};
 use crate::joined::Task::{Raises, Reads, Sums, Writes};
 use crate::joined::{Crowd, first_wrong};
 use crate::place::Item;
-use crate::tasks::Numbers;
 use sdd_domain::local::Local;
 use serial_history::{Answer, Audit, Query, Receipt};
 use shared_index::Naming;
@@ -39,14 +39,12 @@ fn raised_together<L: Naming>(
     ensures same { IsSame local.old local.new }
     ensures closed { (own_of local.new).nesting ≡ 0 }
 {
-    let Ok(mut session) = index.open(local, at_least) else {
-        return None;
-    };
-    let one = session.read(Query::Get(1));
-    let two = session.read(Query::Get(2));
-    let three = session.read(Query::Get(3));
-    let four = session.read(Query::Get(4));
-    let receipt = session.close(index.domain(), local);
+    let mut session = opened(index, local, at_least)?;
+    let one = asked(&mut session, Query::Get(1));
+    let two = asked(&mut session, Query::Get(2));
+    let three = asked(&mut session, Query::Get(3));
+    let four = asked(&mut session, Query::Get(4));
+    let receipt = ended(session, index, local);
     let some = sum_of(value_of(one), value_of(two));
     let others = sum_of(value_of(three), value_of(four));
     if sum_of(some, others) == Some(receipt.number) {
@@ -60,20 +58,18 @@ fn raised_together<L: Naming>(
 /// their number, and receipts that are right by an audit. None if no participant was free.
 pub(crate) fn sums<L: Naming, R: Wait>(rt: &R, index: &Numbers<'_, L>) -> Option<u32> {
     let domain = index.domain();
-    let Ok(mut local) = domain.register() else {
-        return None;
-    };
+    let mut local = registered(domain)?;
     let mut right: u32 = 0;
     let mut latest = 0;
     for _turn in 0..50u32 {
         if let Some(receipt) = raised_together(index, &mut local, latest) {
             latest = receipt.number;
-            if index.audit(rt, &receipt) == Ok(Audit::Yes) {
+            if audit(rt, index, &receipt) == Ok(Audit::Yes) {
                 right = right.saturating_add(1);
             }
         }
     }
-    local.end(domain);
+    leave(local, domain);
     Some(right)
 }
 

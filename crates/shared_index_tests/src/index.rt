@@ -2,6 +2,7 @@
 
 ghost use Rattle.shared_index_tests.specs.Scenes.{CanBegin};
 
+use crate::calls::{audit, close, commit, in_use, place, reclaim};
 use crate::place::{Item, ROOM, end, got, member, two};
 use crate::tasks::{begun, closed, place_for, put, swap, taken};
 use sdd_domain::domain::Domain;
@@ -41,7 +42,7 @@ fn missing_share<L: Naming, R: Wait + Abort>(
     ];
     let counts = [first.count(), second.count()];
     put(rt, &mut shares, first);
-    let (index, mut shares) = match index.close(shares) {
+    let (index, mut shares) = match close(domain, index, shares) {
         Ok(_) => panic!(rt; "a share is missing"),
         Err(back) => back,
     };
@@ -52,7 +53,7 @@ fn missing_share<L: Naming, R: Wait + Abort>(
 
 #[test]
 fn an_index_is_closed_with_all_its_shares(rt: HostRuntime) {
-    let domain = Domain::new(rt.alloc(), place_for(2, 64)).expect(&rt, ROOM);
+    let domain = place(rt.alloc(), place_for(2, 64)).expect(&rt, ROOM);
     let local = member(&rt, &domain);
     let found = missing_share::<Brand, _>(&rt, rt.alloc(), &domain, local, Blank::new(2));
     end(&rt, domain);
@@ -83,14 +84,14 @@ fn told_under_the_lock<L: Naming, R: Wait + Abort>(
     let (index, mut shares) = begun::<L, R>(rt, alloc, domain, local, blank, 1);
     let mut share = taken(rt, &mut shares);
     let writes = two(rt, alloc, Write::Insert(1, 10), Write::Insert(1, 11));
-    let told = index.commit(rt, &mut share, &Receipt::blank(alloc), writes);
-    let before = domain.slots_in_use();
-    index.reclaim(rt);
-    let after = domain.slots_in_use();
+    let told = commit(rt, &index, &mut share, &Receipt::blank(alloc), writes);
+    let before = in_use(domain);
+    reclaim(rt, &index);
+    let after = in_use(domain);
     let audits = [
-        index.audit(rt, &got(rt, alloc, 1, 1, Some(10))),
-        index.audit(rt, &got(rt, alloc, 1, 1, Some(11))),
-        index.audit(rt, &got(rt, alloc, 2, 1, Some(10))),
+        audit(rt, &index, &got(rt, alloc, 1, 1, Some(10))),
+        audit(rt, &index, &got(rt, alloc, 1, 1, Some(11))),
+        audit(rt, &index, &got(rt, alloc, 2, 1, Some(10))),
     ];
     put(rt, &mut shares, share);
     let number = closed(rt, domain, index, shares);
@@ -108,7 +109,7 @@ fn is_told(told: &Result<Accepted, Refused<u64, u64>>) -> bool {
 
 #[test]
 fn a_call_under_the_lock_is_that_of_the_book(rt: HostRuntime) {
-    let domain = Domain::new(rt.alloc(), place_for(2, 64)).expect(&rt, ROOM);
+    let domain = place(rt.alloc(), place_for(2, 64)).expect(&rt, ROOM);
     let local = member(&rt, &domain);
     let found = told_under_the_lock::<Brand, _>(&rt, rt.alloc(), &domain, local, Blank::new(1));
     end(&rt, domain);

@@ -8,10 +8,11 @@ ghost use Rattle.std.specs.Prelude.{◌≡◌, ◌<◌, ◌≤◌};
 ghost use Rattle.sdd_domain.specs.Tokens.{place_of, home_of, own_of, IsSame};
 ghost use Rattle.shared_index_tests.specs.Scenes.{CanBegin};
 
+use crate::calls::{Numbers, audit, leave, place};
 use crate::crowd::sums;
 use crate::own_commits::read_often;
 use crate::place::{Item, ROOM, end, got, member};
-use crate::tasks::{Numbers, begun, closed, listed, own_key, place_for, put, readings, writings};
+use crate::tasks::{begun, closed, listed, own_key, place_for, put, readings, writings};
 use crate::threads::same_key;
 use sdd_domain::domain::Domain;
 use sdd_domain::local::Local;
@@ -224,7 +225,7 @@ fn are_audited<L: Naming, R: Wait + Abort>(
     let mut all = true;
     for (key, value) in list {
         let receipt = got(rt, alloc, number, *key, Some(*value));
-        all = index.audit(rt, &receipt).expect(rt, ROOM) == Audit::Yes && all;
+        all = audit(rt, index, &receipt).expect(rt, ROOM) == Audit::Yes && all;
     }
     all
 }
@@ -257,7 +258,7 @@ fn crowded<L: Naming + Send + Sync, R: Threads + Wait + Abort + Sync>(
     let are_audited = are_audited(rt, alloc, &index, crowd.number, crowd.list);
     let mut reader = member(rt, domain);
     let list = listed(rt, &index, &mut reader, crowd.number);
-    reader.end(domain);
+    leave(reader, domain);
     let is_read = is_list(&list, crowd.list);
     (
         told,
@@ -273,7 +274,7 @@ fn is_right<R: Threads + Wait + Abort + Sync>(rt: &R, alloc: Global, crowd: &Cro
         return false;
     }
     let sizes = place_for(usize::from(crowd.participants), usize::from(crowd.slots));
-    let domain = Domain::new(alloc, sizes).expect(rt, ROOM);
+    let domain = place(alloc, sizes).expect(rt, ROOM);
     let local = member(rt, &domain);
     let (told, are_audited, is_read, number) = crowded::<Brand, R>(
         rt,

@@ -3,10 +3,10 @@
 ghost use Rattle.std.specs.Prelude.{◌≡◌};
 ghost use Rattle.sdd_domain.specs.Tokens.{home_of, own_of, IsSame};
 
+use crate::calls::{Numbers, asked, audit, commit, ended, leave, opened, reclaim, registered};
 use crate::joined::Task::{ReadsBack, Rests};
 use crate::joined::{Crowd, first_wrong};
 use crate::place::Item;
-use crate::tasks::Numbers;
 use sdd_domain::local::Local;
 use serial_history::{Accepted, Answer, Audit, Query, Receipt};
 use shared_index::{Naming, Share};
@@ -26,7 +26,7 @@ fn raised<L: Naming, R: Wait>(
     let Ok(writes) = vec![in alloc; Write::Upsert(key, value)] else {
         return None;
     };
-    match index.commit(rt, share, &Receipt::blank(alloc), writes) {
+    match commit(rt, index, share, &Receipt::blank(alloc), writes) {
         Ok(Accepted { number, replies: _ }) => Some(number),
         Err(_) => None,
     }
@@ -45,11 +45,9 @@ fn read_back<L: Naming>(
     ensures same { IsSame local.old local.new }
     ensures closed { (own_of local.new).nesting ≡ 0 }
 {
-    let Ok(mut session) = index.open(local, at_least) else {
-        return None;
-    };
-    let found = session.read(Query::Get(key));
-    let receipt = session.close(index.domain(), local);
+    let mut session = opened(index, local, at_least)?;
+    let found = asked(&mut session, Query::Get(key));
+    let receipt = ended(session, index, local);
     if found == Ok(Answer::Get(Some(value))) {
         Some(receipt)
     } else {
@@ -68,22 +66,20 @@ pub(crate) fn read_often<L: Naming, R: Wait>(
     key: u64,
 ) -> Option<(Share<L>, u32)> {
     let domain = index.domain();
-    let Ok(mut local) = domain.register() else {
-        return None;
-    };
+    let mut local = registered(domain)?;
     let mut share = share;
     let mut right: u32 = 0;
     for value in 1..=50u64 {
         // the last number stands for a commit that was refused: no session is opened for it
         let number = raised(rt, alloc, index, &mut share, key, value).unwrap_or(u64::MAX);
         if let Some(receipt) = read_back(index, &mut local, number, key, value) {
-            if index.audit(rt, &receipt) == Ok(Audit::Yes) {
+            if audit(rt, index, &receipt) == Ok(Audit::Yes) {
                 right = right.saturating_add(1);
             }
         }
-        index.reclaim(rt);
+        reclaim(rt, index);
     }
-    local.end(domain);
+    leave(local, domain);
     Some((share, right))
 }
 

@@ -4,6 +4,7 @@ ghost use Rattle.std.specs.Prelude.{◌≡◌};
 ghost use Rattle.sdd_domain.specs.Tokens.{place_of};
 ghost use Rattle.shared_index.specs.Invariant.{IsUnengaged};
 
+use crate::calls::registered;
 use sdd_domain::domain::Domain;
 use sdd_domain::local::Local;
 use serial_history::{Answer, Query, Receipt, Seq};
@@ -21,9 +22,9 @@ pub(crate) type Item = Node<u64, u64>;
 pub(crate) fn member<R: Abort>(rt: &R, domain: &Domain<Item>) -> Local<Item>
     ensures { IsUnengaged (place_of domain.now) result }
 {
-    match domain.register() {
-        Ok(local) => local,
-        Err(_) => panic!(rt; "a participant is free"),
+    match registered(domain) {
+        Some(local) => local,
+        None => panic!(rt; "a participant is free"),
     }
 }
 

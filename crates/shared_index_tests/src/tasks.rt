@@ -4,6 +4,9 @@ ghost use Rattle.std.specs.Prelude.{◌≡◌, ◌<◌, ◌≤◌};
 ghost use Rattle.sdd_domain.specs.Tokens.{place_of, home_of, own_of, IsSame};
 ghost use Rattle.shared_index_tests.specs.Scenes.{CanBegin};
 
+use crate::calls::{
+    Numbers, asked, audit, close, commit, ended, leave, opened, reclaim, registered,
+};
 use crate::place::{Item, ROOM, one, two};
 use sdd_base::sizes::Sizes;
 use sdd_domain::domain::Domain;
@@ -16,8 +19,6 @@ use std::process::Abort;
 use std::sync::Wait;
 use std::sync::ledger::Blank;
 use version_views::Write;
-
-pub(crate) type Numbers<'d, L> = SharedIndex<'d, L, u64, u64, 2>;
 
 /// A place for so many participants and items, with one cell.
 pub(crate) fn place_for(participants: usize, slots: usize) -> Sizes
@@ -47,10 +48,7 @@ pub(crate) fn begun<'d, L: Naming, R: Abort>(
 {
     match SharedIndex::new(alloc, domain, local, blank, shares) {
         Ok(made) => made,
-        Err((local, _, _)) => {
-            local.end(domain);
-            panic!(rt; "there is memory, a slot and a cell")
-        }
+        Err(_) => panic!(rt; "there is memory, a slot and a cell"),
     }
 }
 
@@ -78,11 +76,8 @@ pub(crate) fn closed<L: Naming, R: Abort>(
 ) -> u64
     requires { place_of domain.now ≡ L.place }
 {
-    match index.close(shares) {
-        Ok((local, number)) => {
-            local.end(domain);
-            number
-        }
+    match close(domain, index, shares) {
+        Ok(number) => number,
         Err(_) => panic!(rt; "all shares are there"),
     }
 }
@@ -104,7 +99,7 @@ pub(crate) fn swap<L: Naming, R: Wait>(
     let Ok(writes) = vec![in alloc; Write::Upsert(key, new)] else {
         return None;
     };
-    match index.commit(rt, share, &receipt, writes) {
+    match commit(rt, index, share, &receipt, writes) {
         Ok(_) => Some(true),
         Err(
             Refused {
@@ -132,7 +127,7 @@ pub(crate) fn own_key<L: Naming, R: Wait>(
             return None;
         }
         old = Some(new);
-        index.reclaim(rt);
+        reclaim(rt, index);
     }
     Some(share)
 }
@@ -148,12 +143,10 @@ pub(crate) fn twins<L: Naming>(
     ensures same { IsSame local.old local.new }
     ensures closed { (own_of local.new).nesting ≡ 0 }
 {
-    let Ok(mut session) = index.open(local, at_least) else {
-        return None;
-    };
-    let one = session.read(Query::Get(1));
-    let other = session.read(Query::Get(2));
-    let receipt = session.close(index.domain(), local);
+    let mut session = opened(index, local, at_least)?;
+    let one = asked(&mut session, Query::Get(1));
+    let other = asked(&mut session, Query::Get(2));
+    let receipt = ended(session, index, local);
     match (one, other) {
         (Ok(one), Ok(other)) => { if one == other { Some(receipt) } else { None } }
         _ => None,
@@ -164,20 +157,18 @@ pub(crate) fn twins<L: Naming>(
 /// by what they read and by the audit of their receipts. None if no participant was free.
 pub(crate) fn readings<L: Naming, R: Wait>(rt: &R, index: &Numbers<'_, L>) -> Option<u32> {
     let domain = index.domain();
-    let Ok(mut local) = domain.register() else {
-        return None;
-    };
+    let mut local = registered(domain)?;
     let mut right: u32 = 0;
     let mut latest = 0;
     for _turn in 0..100u32 {
         if let Some(receipt) = twins(index, &mut local, latest) {
             latest = receipt.number;
-            if index.audit(rt, &receipt) == Ok(Audit::Yes) {
+            if audit(rt, index, &receipt) == Ok(Audit::Yes) {
                 right = right.saturating_add(1);
             }
         }
     }
-    local.end(domain);
+    leave(local, domain);
     Some(right)
 }
 
@@ -192,10 +183,10 @@ pub(crate) fn writings<L: Naming, R: Wait + Abort>(
     let blank = Receipt::blank(alloc);
     for value in 1..=100u64 {
         let writes = two(rt, alloc, Write::Upsert(1, value), Write::Upsert(2, value));
-        if index.commit(rt, &mut share, &blank, writes).is_err() {
+        if commit(rt, index, &mut share, &blank, writes).is_err() {
             return None;
         }
-        index.reclaim(rt);
+        reclaim(rt, index);
     }
     Some(share)
 }
@@ -208,7 +199,7 @@ pub(crate) fn write<L: Naming, R: Wait>(
     share: &mut Share<L>,
     writes: Vec<Write<u64, u64>>,
 ) {
-    let _told = index.commit(rt, share, &Receipt::blank(alloc), writes);
+    let _told = commit(rt, index, share, &Receipt::blank(alloc), writes);
 }
 
 /// So many commits, which raise ten keys in turn, each followed by a reclaim.
@@ -222,7 +213,7 @@ pub(crate) fn write_often<L: Naming, R: Wait + Abort>(
     for turn in 0..count {
         let writes = one(rt, alloc, Write::Upsert(turn % 10 + 1, turn));
         write(rt, alloc, index, share, writes);
-        index.reclaim(rt);
+        reclaim(rt, index);
     }
 }
 
@@ -243,10 +234,10 @@ pub(crate) fn listed<L: Naming, R: Abort>(
     ensures same { IsSame local.old local.new }
     ensures closed { (own_of local.new).nesting ≡ 0 }
 {
-    let Ok(mut session) = index.open(local, at_least) else {
+    let Some(mut session) = opened(index, local, at_least) else {
         panic!(rt; "the number is there");
     };
-    let told = session.read(all());
-    let _receipt = session.close(index.domain(), local);
+    let told = asked(&mut session, all());
+    let _receipt = ended(session, index, local);
     told.expect(rt, ROOM)
 }

@@ -1,8 +1,9 @@
 //! An index that two threads share.
 
+use crate::calls::{Numbers, reclaim};
 use crate::joined::Task::{CountsUp, Raises, Reads, Rests, Writes};
 use crate::joined::{Crowd, first_wrong};
-use crate::tasks::{Numbers, swap};
+use crate::tasks::swap;
 use shared_index::{Naming, Share};
 use std::alloc::Global;
 use std::sync::Wait;
@@ -21,7 +22,7 @@ pub(crate) fn same_key<L: Naming, R: Wait>(
         if swap(rt, alloc, index, &mut share, 1, old, new)? {
             wrote = u64::saturating_add(wrote, 1);
         }
-        index.reclaim(rt);
+        reclaim(rt, index);
     }
     Some((share, wrote))
 }

@@ -8,10 +8,9 @@ ghost use Rattle.std.specs.Prelude.{◌≡◌};
 ghost use Rattle.sdd_domain.specs.Tokens.{home_of, own_of, IsSame};
 ghost use Rattle.shared_index_tests.specs.Scenes.{CanBegin};
 
+use crate::calls::{Numbers, asked, audit, ended, leave, opened, place, reclaim};
 use crate::place::{Item, ROOM, end, member, range};
-use crate::tasks::{
-    Numbers, all, begun, closed, listed, place_for, put, taken, write, write_often,
-};
+use crate::tasks::{all, begun, closed, listed, place_for, put, taken, write, write_often};
 use sdd_domain::domain::Domain;
 use sdd_domain::local::Local;
 use serial_history::{Answer, Audit, Receipt, Seq};
@@ -97,7 +96,7 @@ fn change_both_sides<L: Naming, R: Wait + Abort>(
     ]
     .expect(rt, ROOM);
     write(rt, alloc, index, &mut share, writes);
-    index.reclaim(rt);
+    reclaim(rt, index);
     *done.lock(rt) = true;
     changed.notify_all();
     write_often(rt, alloc, index, &mut share, 100);
@@ -132,7 +131,7 @@ fn walk_and_wait<L: Naming + Send + Sync, R: Threads + Wait + Abort + Sync>(
     ensures same { IsSame local.old local.new }
     ensures closed { (own_of local.new).nesting ≡ 0 }
 {
-    let Ok(mut session) = index.open(local, 1) else {
+    let Some(mut session) = opened(index, local, 1) else {
         panic!(rt; "the first commit is there");
     };
     let done = Mutex::new(false);
@@ -145,8 +144,8 @@ fn walk_and_wait<L: Naming + Send + Sync, R: Threads + Wait + Abort + Sync>(
         |index| change_both_sides(rt, alloc, index, share, &done, &changed),
         |_index| walk_on(rt, alloc, walk, &done, &changed),
     );
-    let all = session.read(all());
-    let receipt = session.close(index.domain(), local);
+    let all = asked(&mut session, all());
+    let receipt = ended(session, index, local);
     let high = rest == Some(range(rt, alloc, HIGH)) && all == Ok(first_list(rt, alloc));
     (receipt, share, low && high)
 }
@@ -165,15 +164,15 @@ fn kept_open<L: Naming, R: Wait + Abort>(
     ensures same { IsSame local.old local.new }
     ensures closed { (own_of local.new).nesting ≡ 0 }
 {
-    let Ok(mut session) = index.open(local, 1) else {
+    let Some(mut session) = opened(index, local, 1) else {
         panic!(rt; "the first commit is there");
     };
     let mut share = share;
-    let before = session.read(all());
+    let before = asked(&mut session, all());
     write_often(rt, alloc, index, &mut share, 1000);
     let walked = gathered(alloc, session.iter());
-    let after = session.read(all());
-    let receipt = session.close(index.domain(), local);
+    let after = asked(&mut session, all());
+    let receipt = ended(session, index, local);
     let first = first_list(rt, alloc);
     let read = before.as_ref() == Ok(&first) && after.as_ref() == Ok(&first);
     (receipt, share, read && walked == Some(first))
@@ -219,9 +218,9 @@ fn kept_on<L: Naming + Send + Sync, R: Threads + Wait + Abort + Sync>(
         Kept::Waits => walk_and_wait(rt, alloc, &index, &mut reader, share),
         Kept::Reads => kept_open(rt, alloc, &index, &mut reader, share),
     };
-    let audit = index.audit(rt, &receipt);
+    let audit = audit(rt, &index, &receipt);
     let list = listed(rt, &index, &mut reader, last);
-    reader.end(domain);
+    leave(reader, domain);
     let count = share.count();
     put(rt, &mut shares, share);
     let number = closed(rt, domain, index, shares);
@@ -237,7 +236,7 @@ fn in_a_place<R: Threads + Wait + Abort + Sync>(
     how: Kept,
     last: u64,
 ) -> Found {
-    let domain = Domain::new(alloc, place_for(2, usize::from(slots))).expect(rt, ROOM);
+    let domain = place(alloc, place_for(2, usize::from(slots))).expect(rt, ROOM);
     let local = member(rt, &domain);
     let found = kept_on::<Brand, R>(rt, alloc, &domain, local, Blank::new(1), how, last);
     end(rt, domain);

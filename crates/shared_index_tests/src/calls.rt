@@ -1,0 +1,135 @@
+//! Each call of an index of numbers, of its sessions and of its place, in one function: the proof of a call at these types is
+//! long.
+
+ghost use Rattle.std.specs.Prelude.{◌≡◌, ◌+◌, IfNone, IfSome, OnErr, OnOk};
+ghost use Rattle.sdd_domain.specs.Layout.{IsSized};
+ghost use Rattle.sdd_domain.specs.Tokens.{place_of, home_of, own_of, nest_in, IsSame};
+ghost use Rattle.shared_index.specs.Invariant.{IsUnengaged};
+
+use crate::place::Item;
+use sdd_base::sizes::Sizes;
+use sdd_domain::domain::Domain;
+use sdd_domain::local::Local;
+use serial_history::{Accepted, Answer, Audit, Query, Receipt, Refused};
+use shared_index::{Naming, Share, SharedIndex};
+use shared_sessions::SharedSession;
+use std::alloc::{AllocError, Global};
+use std::sync::Wait;
+use version_views::Write;
+
+pub(crate) type Numbers<'d, L> = SharedIndex<'d, L, u64, u64, 2>;
+
+pub(crate) type Session = SharedSession<u64, u64, 2>;
+
+pub(crate) fn place(alloc: Global, sizes: Sizes) -> Result<Domain<Item>, AllocError>
+    requires { IsSized sizes }
+{
+    Domain::new(alloc, sizes)
+}
+
+/// A participant of the place, if one is free.
+pub(crate) fn registered(domain: &Domain<Item>) -> Option<Local<Item>>
+    ensures { IfSome result (IsUnengaged (place_of domain.now)) }
+{
+    match domain.register() {
+        Ok(local) => Some(local),
+        Err(_) => None,
+    }
+}
+
+/// Ends a participant.
+pub(crate) fn leave(local: Local<Item>, domain: &Domain<Item>)
+    requires { IsUnengaged (place_of domain.now) local }
+{
+    local.end(domain);
+}
+
+/// How many slots of the place have an item.
+pub(crate) fn in_use(domain: &Domain<Item>) -> usize {
+    domain.slots_in_use()
+}
+
+/// A session for at least this number, if it is there.
+pub(crate) fn opened<L: Naming>(
+    index: &Numbers<'_, L>,
+    local: &mut Local<Item>,
+    at_least: u64,
+) -> Option<Session>
+    requires home { home_of local.old ≡ L.place }
+    requires closed { (own_of local.old).nesting ≡ 0 }
+    ensures nest { IfSome result (λ s. s.nest ≡ nest_in local.new) }
+    ensures open { IfSome result (λ s. (own_of local.new).nesting ≡ 1) }
+    ensures closed { IfNone result ((own_of local.new).nesting ≡ 0) }
+    ensures same { IsSame local.old local.new }
+{
+    match index.open(local, at_least) {
+        Ok(session) => Some(session),
+        Err(_) => None,
+    }
+}
+
+/// Asks and records a query.
+pub(crate) fn asked(
+    session: &mut Session,
+    query: Query<u64>,
+) -> Result<Answer<u64, u64>, AllocError>
+    ensures { session.new.nest ≡ session.old.nest }
+{
+    session.read(query)
+}
+
+/// Closes a session: its receipt.
+pub(crate) fn ended<L: Naming>(
+    session: Session,
+    index: &Numbers<'_, L>,
+    local: &mut Local<Item>,
+) -> Receipt<u64, u64>
+    requires home { home_of local.old ≡ L.place }
+    requires mine { session.nest ≡ nest_in local.old }
+    requires open { (own_of local.old).nesting ≡ 1 }
+    ensures same { IsSame local.old local.new }
+    ensures closed { (own_of local.new).nesting ≡ 0 }
+{
+    session.close(index.domain(), local)
+}
+
+/// Commits writes that rest on a receipt.
+pub(crate) fn commit<L: Naming, R: Wait>(
+    rt: &R,
+    index: &Numbers<'_, L>,
+    share: &mut Share<L>,
+    receipt: &Receipt<u64, u64>,
+    writes: Vec<Write<u64, u64>>,
+) -> Result<Accepted, Refused<u64, u64>>
+    ensures counted { OnOk result (share.new ≡ share.old + 1) }
+    ensures uncounted { OnErr result (share.new ≡ share.old) }
+{
+    index.commit(rt, share, receipt, writes)
+}
+
+/// Audits a receipt.
+pub(crate) fn audit<L: Naming, R: Wait>(
+    rt: &R,
+    index: &Numbers<'_, L>,
+    receipt: &Receipt<u64, u64>,
+) -> Result<Audit, AllocError> {
+    index.audit(rt, receipt)
+}
+
+/// Reclaims what nobody reads.
+pub(crate) fn reclaim<L: Naming, R: Wait>(rt: &R, index: &Numbers<'_, L>) {
+    index.reclaim(rt);
+}
+
+/// Ends an index with these shares: its number, or both back where a share is missing.
+pub(crate) fn close<'d, L: Naming>(
+    domain: &Domain<Item>,
+    index: Numbers<'d, L>,
+    shares: Vec<Share<L>>,
+) -> Result<u64, (Numbers<'d, L>, Vec<Share<L>>)>
+    requires { place_of domain.now ≡ L.place }
+{
+    let (local, number) = index.close(shares)?;
+    leave(local, domain);
+    Ok(number)
+}
