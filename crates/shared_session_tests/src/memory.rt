@@ -2,6 +2,7 @@
 
 ghost use Rattle.std.specs.Prelude.{◌≡◌, ◌<◌};
 
+use crate::calls::{asked, ended, opened};
 use crate::place::{SMALL, Twos, cell, end, member, place, version};
 use serial_history::{Answer, Query, Receipt};
 use std::alloc::{AllocError, Global};
@@ -12,13 +13,13 @@ use std::process::Abort;
 fn read<R: Abort>(rt: &R, session: &mut Twos, before: usize, met: &mut bool) -> Answer<u64, u64>
     ensures { session.new.nest ≡ session.old.nest }
 {
-    if let Ok(answer) = session.read(Query::Range(Bound::Unbounded, Bound::Unbounded)) {
+    if let Ok(answer) = asked(session, Query::Range(Bound::Unbounded, Bound::Unbounded)) {
         return answer;
     }
     *met = true;
     assert!(rt; session.receipt().number == 1);
     assert!(rt; session.receipt().reads.as_slice().len() == before);
-    match session.read(Query::Range(Bound::Unbounded, Bound::Unbounded)) {
+    match asked(session, Query::Range(Bound::Unbounded, Bound::Unbounded)) {
         Ok(answer) => answer,
         Err(AllocError) => panic!(rt; "memory was refused twice"),
     }
@@ -49,12 +50,12 @@ fn reads<R: Abort>(rt: &R, alloc: Global) -> bool {
     let mut local = member(rt, &domain, &mut met);
     let first = version(rt, alloc, &domain, &mut local, 1, (10, 20, 50), &mut met);
     let cell = cell(rt, first, &domain, &mut local);
-    let Ok(mut session) = Twos::open(&domain, &cell, &mut local, alloc, 1) else {
+    let Ok(mut session) = opened(alloc, &domain, &cell, &mut local, 1) else {
         panic!(rt; "the first version is there");
     };
     let once = read(rt, &mut session, 0, &mut met);
     let again = read(rt, &mut session, 1, &mut met);
-    let receipt = session.close(&domain, &mut local);
+    let receipt = ended(session, &domain, &mut local);
     end(rt, cell, domain, local);
     assert!(rt; lists_three(&once) && lists_three(&again));
     assert!(rt; receipt.number == 1 && has_both(&receipt));

@@ -5,6 +5,7 @@ ghost use Rattle.sdd_domain.specs.Cells.{cell_number};
 ghost use Rattle.sdd_domain.specs.Tokens.{place_of, home_of, hand_of, own_of, cell_count, IsSame};
 
 use self::Step::{Open, Reclaim, Renew, Slots};
+use crate::calls::{ended, in_use, opened, value};
 use crate::place::{Item, Twos, reclaim, renew};
 use sdd_domain::atomic_shared::AtomicShared;
 use sdd_domain::domain::Domain;
@@ -101,7 +102,7 @@ fn taken<R: Abort>(
             reclaim(domain, writer);
             Ok(0)
         }
-        Step::Slots => Ok(domain.slots_in_use() as u64),
+        Step::Slots => Ok(in_use(domain) as u64),
     }
 }
 
@@ -180,21 +181,21 @@ pub fn within<R: Abort>(
     ensures same { IsSame local.old local.new }
     ensures closed { (own_of local.new).nesting ≡ 0 }
 {
-    let Ok(outer) = Twos::open(domain, cell, local, alloc, 0) else {
+    let Ok(outer) = opened(alloc, domain, cell, local, 0) else {
         panic!(rt; "a version of that width is there");
     };
     renew(rt, alloc, domain, cell, local, 2, (11, 21, 51));
-    let refused = match Twos::open(domain, cell, local, alloc, 3) {
+    let refused = match opened(alloc, domain, cell, local, 3) {
         Err(refused) => refused,
         Ok(_) => panic!(rt; "the second version has the number 2"),
     };
-    let Ok(inner) = Twos::open(domain, cell, local, alloc, 2) else {
+    let Ok(inner) = opened(alloc, domain, cell, local, 2) else {
         panic!(rt; "the second version is there");
     };
     let numbers = (outer.number(), inner.number());
-    let inner = inner.close(domain, local);
-    let value = outer.get(&1).copied();
-    let outer = outer.close(domain, local);
+    let inner = ended(inner, domain, local);
+    let value = value(&outer, 1);
+    let outer = ended(outer, domain, local);
     refused == OpenRefused::Earlier(2)
         && value == Some(10)
         && [numbers.0, numbers.1, inner.number, outer.number] == [1, 2, 2, 1]
@@ -229,7 +230,7 @@ pub fn of_loaded<R: Abort>(
         Ok(session) => session,
         Err(_) => panic!(rt; "the second version was loaded"),
     };
-    let value = session.get(&1).copied();
-    let number = session.close(domain, local).number;
+    let value = value(&session, 1);
+    let number = ended(session, domain, local).number;
     refused == OpenRefused::Earlier(1) && value == Some(11) && number == 2
 }

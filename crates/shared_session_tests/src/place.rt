@@ -9,11 +9,11 @@ ghost use Rattle.sdd_domain.specs.Sharing.{kept_in, IsOwnerOf};
 ghost use Rattle.sdd_domain.specs.Tokens.{place_of, home_of, hand_of, own_of, cell_count, IsInNest, IsSame, IsSameButHand};
 ghost use Rattle.shared_versions.specs.Nodes.{held_by};
 
+use crate::calls::{closed, leave, made, registered, retire};
 use sdd_base::sizes::Sizes;
 use sdd_base::tag::Tag;
 use sdd_domain::atomic_shared::AtomicShared;
 use sdd_domain::domain::Domain;
-use sdd_domain::guard::Guard;
 use sdd_domain::held::Held;
 use sdd_domain::holding::hold_last;
 use sdd_domain::local::Local;
@@ -53,11 +53,11 @@ pub const SMALL: Sizes = Sizes {
 pub fn place<R: Abort>(rt: &R, alloc: Global, sizes: Sizes, met: &mut bool) -> Domain<Item>
     requires { IsSized sizes }
 {
-    match Domain::new(alloc, sizes) {
+    match made(alloc, sizes) {
         Ok(domain) => domain,
         Err(AllocError) => {
             *met = true;
-            Domain::new(alloc, sizes).expect(rt, TWICE)
+            made(alloc, sizes).expect(rt, TWICE)
         }
     }
 }
@@ -67,11 +67,11 @@ pub fn member<R: Abort>(rt: &R, domain: &Domain<Item>, met: &mut bool) -> Local<
     ensures home { (home_of result ≡ place_of domain.now) × (hand_of result ≡ []) }
     ensures closed { (own_of result).nesting ≡ 0 }
 {
-    match domain.register() {
+    match registered(domain) {
         Ok(local) => local,
         Err(RegisterRefused::Memory) => {
             *met = true;
-            match domain.register() {
+            match registered(domain) {
                 Ok(local) => local,
                 Err(_) => panic!(rt; "{TWICE}"),
             }
@@ -296,20 +296,14 @@ pub fn copied(pair: Option<(&u64, &u64)>) -> Option<(u64, u64)> {
     }
 }
 
-/// Eight accelerated guards, opened and closed one by one: what nobody reads any more is reclaimed.
+/// Reclaims what nobody reads any more.
 pub fn reclaim(domain: &Domain<Item>, local: &mut Local<Item>)
     requires home { home_of local.old ≡ place_of domain.now }
     requires closed { (own_of local.old).nesting ≡ 0 }
     ensures same { IsSame local.old local.new }
     ensures closed { (own_of local.new).nesting ≡ 0 }
 {
-    for _turn in 0..8u8 {
-        let Ok(guard) = Guard::new(domain, local) else {
-            unreachable!();
-        };
-        guard.accelerate(local);
-        guard.close(domain, local);
-    }
+    shared_versions::reclaim(domain, local);
 }
 
 /// Gives the cell back, and ends the participant and the place.
@@ -319,13 +313,13 @@ pub fn end<R: Abort>(rt: &R, cell: AtomicShared, domain: Domain<Item>, local: Lo
     requires inside { cell_number cell < cell_count domain }
 {
     let mut local = local;
-    cell.retire(&domain, &mut local);
-    local.end(&domain);
+    retire(cell, &domain, &mut local);
+    leave(local, &domain);
     // What still waits holds owners, and so the end of the place takes memory, which may be refused once.
-    let Err(domain) = domain.close() else {
+    let Err(domain) = closed(domain) else {
         return;
     };
-    match domain.close() {
+    match closed(domain) {
         Ok(()) => {}
         Err(_) => panic!(rt; "nobody is registered"),
     }

@@ -7,6 +7,7 @@ ghost use Rattle.sdd_domain.specs.Tokens.{place_of, home_of, hand_of, own_of, ce
 use self::Play::{
     Beside, Empty, Kinds, Looks, OfLoaded, Rows, Threads as ByThreads, Walked, Within,
 };
+use crate::calls::leave;
 use crate::opening::{
     AT_LEAST, NO_GUARD, NO_VERSION, ONE_WIDTH, Row, all_taken, of_loaded, within,
 };
@@ -81,7 +82,7 @@ fn plays<R: Threads + Abort + Sync>(rt: &R, alloc: Global, first: First, play: P
     let mut writer = member(rt, &domain, &mut met);
     let cell = owning(rt, alloc, &domain, &mut writer, first);
     let right = goes(rt, alloc, &domain, &cell, &mut reader, &mut writer, play);
-    reader.end(&domain);
+    leave(reader, &domain);
     end(rt, cell, domain, writer);
     right
 }

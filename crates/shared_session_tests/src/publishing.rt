@@ -4,7 +4,8 @@ ghost use Rattle.std.specs.Prelude.{◌≡◌, ◌<◌, []};
 ghost use Rattle.sdd_domain.specs.Cells.{cell_number};
 ghost use Rattle.sdd_domain.specs.Tokens.{place_of, home_of, hand_of, own_of, cell_count, IsSame};
 
-use crate::place::{First, Item, SEVERAL, Twos, copied, member, owning, place, reclaim, renew};
+use crate::calls::{asked, closed, ended, in_use, leave, opened, retire, value};
+use crate::place::{First, Item, SEVERAL, copied, member, owning, place, reclaim, renew};
 use sdd_domain::atomic_shared::AtomicShared;
 use sdd_domain::domain::Domain;
 use sdd_domain::local::Local;
@@ -28,11 +29,11 @@ fn read_one<R: Abort>(
     ensures same { IsSame local.old local.new }
     ensures closed { (own_of local.new).nesting ≡ 0 }
 {
-    let Ok(session) = Twos::open(domain, cell, local, alloc, at_least) else {
+    let Ok(session) = opened(alloc, domain, cell, local, at_least) else {
         panic!(rt; "a version of that number is there");
     };
-    let value = session.get(&1).copied();
-    (value, session.close(domain, local).number)
+    let found = value(&session, 1);
+    (found, ended(session, domain, local).number)
 }
 
 /// A session beside a second version: whether it reads the values of keys 1 and 5 of its own one before that and behind it,
@@ -52,19 +53,19 @@ pub fn beside<R: Abort>(
     ensures reader { IsSame reader.old reader.new × ((own_of reader.new).nesting ≡ 0) }
     ensures writer { IsSame writer.old writer.new × ((own_of writer.new).nesting ≡ 0) }
 {
-    let Ok(mut session) = Twos::open(domain, cell, reader, alloc, 1) else {
+    let Ok(mut session) = opened(alloc, domain, cell, reader, 1) else {
         panic!(rt; "the first version is there");
     };
-    let before = session.get(&1).copied();
+    let before = value(&session, 1);
     renew(rt, alloc, domain, cell, writer, 2, (11, 21, 51));
     reclaim(domain, writer);
-    let counts = (domain.slots_in_use(), session.number());
-    let values = [before, session.get(&1).copied(), session.get(&5).copied()];
-    let read = session.read(Query::Get(2));
+    let counts = (in_use(domain), session.number());
+    let values = [before, value(&session, 1), value(&session, 5)];
+    let read = asked(&mut session, Query::Get(2));
     let later = read_one(rt, alloc, domain, cell, writer, 2);
-    let receipt = session.close(domain, reader);
+    let receipt = ended(session, domain, reader);
     reclaim(domain, writer);
-    let left = domain.slots_in_use();
+    let left = in_use(domain);
     values == [Some(10), Some(10), Some(50)]
         && (counts, left) == ((6, 1), 3)
         && read == Ok(Answer::Get(Some(20)))
@@ -92,7 +93,7 @@ pub fn walked<R: Abort>(
     ensures reader { IsSame reader.old reader.new × ((own_of reader.new).nesting ≡ 0) }
     ensures writer { IsSame writer.old writer.new × ((own_of writer.new).nesting ≡ 0) }
 {
-    let Ok(session) = Twos::open(domain, cell, reader, alloc, 0) else {
+    let Ok(session) = opened(alloc, domain, cell, reader, 0) else {
         panic!(rt; "the first version is there");
     };
     let mut walk = session.iter();
@@ -109,7 +110,7 @@ pub fn walked<R: Abort>(
     let last = copied(range.next_back());
     let middle = copied(range.next_back());
     let back = [last, middle, copied(range.next_back())];
-    let receipt = session.close(domain, reader);
+    let receipt = ended(session, domain, reader);
     steps == STEPS
         && back == [Some((5, 50)), Some((2, 20)), None]
         && receipt.reads.as_slice().is_empty()
@@ -131,16 +132,16 @@ fn a_session_keeps_its_version_when_the_cell_is_given_back(rt: HostRuntime) {
     let mut local = member(&rt, &domain, &mut met);
     let version = First::Version(1, (10, 20, 50));
     let cell = owning(&rt, rt.alloc(), &domain, &mut local, version);
-    let Ok(session) = Twos::open(&domain, &cell, &mut local, rt.alloc(), 1) else {
+    let Ok(session) = opened(rt.alloc(), &domain, &cell, &mut local, 1) else {
         panic!(rt; "the first version is there");
     };
-    let last = cell.retire(&domain, &mut local);
-    let read = (session.len(), session.get(&2).copied());
-    let number = session.close(&domain, &mut local).number;
+    let last = retire(cell, &domain, &mut local);
+    let read = (session.len(), value(&session, 2));
+    let number = ended(session, &domain, &mut local).number;
     reclaim(&domain, &mut local);
-    let slots = domain.slots_in_use();
-    local.end(&domain);
-    match domain.close() {
+    let slots = in_use(&domain);
+    leave(local, &domain);
+    match closed(domain) {
         Ok(()) => {}
         Err(_) => panic!(rt; "nobody is registered"),
     }

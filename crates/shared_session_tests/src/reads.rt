@@ -4,6 +4,7 @@ ghost use Rattle.std.specs.Prelude.{◌≡◌, ◌<◌};
 ghost use Rattle.sdd_domain.specs.Cells.{cell_number};
 ghost use Rattle.sdd_domain.specs.Tokens.{place_of, home_of, own_of, cell_count, IsSame};
 
+use crate::calls::{self, asked, ended, opened, value};
 use crate::place::{Item, Twos, copied};
 use sdd_domain::atomic_shared::AtomicShared;
 use sdd_domain::domain::Domain;
@@ -81,7 +82,7 @@ fn are_looked_up(session: &Twos) -> bool {
     let mut steps = Steps::new();
     let mut right = session.number() == 1 && session.len() == 3;
     for (key, value) in KEYS {
-        let got = session.get(&key).copied() == value
+        let got = calls::value(session, key) == value
             && session.get_counted(&key, &mut steps).copied() == value;
         let has = session.contains(&key) == value.is_some()
             && session.contains_counted(&key, &mut steps) == value.is_some();
@@ -202,17 +203,17 @@ pub fn are_right(
     ensures same { IsSame local.old local.new }
     ensures closed { (own_of local.new).nesting ≡ 0 }
 {
-    let Ok(session) = Twos::open(domain, cell, local, alloc, 0) else {
+    let Ok(session) = opened(alloc, domain, cell, local, 0) else {
         return false;
     };
     let right = answers(&session, look);
-    let receipt = session.close(domain, local);
+    let receipt = ended(session, domain, local);
     right && receipt.number == 1 && receipt.reads.as_slice().is_empty()
 }
 
 /// Whether a session of the empty list tells that it has no pair.
 fn is_empty(session: &Twos) -> bool {
-    let nothing = session.get(&1).is_none() && !session.contains(&1);
+    let nothing = value(session, 1).is_none() && !session.contains(&1);
     session.number() == 0
         && session.len() == 0
         && nothing
@@ -229,7 +230,7 @@ fn records<R: Abort>(rt: &R, session: &mut Twos, rows: &[(Query<u64>, Answer<u64
     let mut right = true;
     for at in 0..rows.len() {
         let query = rows[at].0.clone().expect(rt, ROOM);
-        let told = session.read(query).expect(rt, ROOM) == rows[at].1;
+        let told = asked(session, query).expect(rt, ROOM) == rows[at].1;
         let recorded = session.receipt().reads.as_slice().len() == at + 1;
         right = told && recorded && session.receipt().number == number && right;
     }
@@ -252,14 +253,14 @@ fn are_recorded<R: Abort>(
     ensures same { IsSame local.old local.new }
     ensures closed { (own_of local.new).nesting ≡ 0 }
 {
-    let Ok(mut session) = Twos::open(domain, cell, local, alloc, 0) else {
+    let Ok(mut session) = opened(alloc, domain, cell, local, 0) else {
         return false;
     };
     let recorded = records(rt, &mut session, rows);
-    let last = session.get(&5).copied();
+    let last = value(&session, 5);
     let number = session.number();
     let plain = is_empty(&session) || (number, last) == (1, Some(50));
-    let receipt = session.close(domain, local);
+    let receipt = ended(session, domain, local);
     recorded && plain && receipt.number == number && receipt.reads.as_slice() == rows
 }
 

@@ -4,7 +4,8 @@ ghost use Rattle.std.specs.Prelude.{◌≡◌, ◌<◌};
 ghost use Rattle.sdd_domain.specs.Cells.{cell_number};
 ghost use Rattle.sdd_domain.specs.Tokens.{place_of, home_of, own_of, cell_count, IsSame};
 
-use crate::place::{Item, Twos, reclaim, renew};
+use crate::calls::{ended, leave, opened, registered};
+use crate::place::{Item, reclaim, renew};
 use sdd_domain::atomic_shared::AtomicShared;
 use sdd_domain::domain::Domain;
 use sdd_domain::local::Local;
@@ -29,15 +30,13 @@ fn whole(
     ensures same { IsSame local.old local.new }
     ensures closed { (own_of local.new).nesting ≡ 0 }
 {
-    let Ok(session) = Twos::open(domain, cell, local, alloc, at_least) else {
-        return None;
-    };
+    let session = opened(alloc, domain, cell, local, at_least).ok()?;
     let number = session.number();
     let mut same = session.len() == 3;
     for (_, value) in session.iter() {
         same = same && *value == number;
     }
-    session.close(domain, local);
+    ended(session, domain, local);
     if same && number >= at_least {
         Some(number)
     } else {
@@ -50,9 +49,7 @@ fn whole(
 fn reads(alloc: Global, domain: &Domain<Item>, cell: &AtomicShared) -> Option<u32>
     requires inside { cell_number cell.now < cell_count domain.now }
 {
-    let Ok(mut local) = domain.register() else {
-        return None;
-    };
+    let mut local = registered(domain).ok()?;
     let mut count: u32 = 0;
     let mut latest = 0;
     for _turn in 0..200u32 {
@@ -61,7 +58,7 @@ fn reads(alloc: Global, domain: &Domain<Item>, cell: &AtomicShared) -> Option<u3
             count = count.saturating_add(1);
         }
     }
-    local.end(domain);
+    leave(local, domain);
     Some(count)
 }
 
@@ -69,16 +66,14 @@ fn reads(alloc: Global, domain: &Domain<Item>, cell: &AtomicShared) -> Option<u3
 fn writes<R: Abort>(rt: &R, alloc: Global, domain: &Domain<Item>, cell: &AtomicShared) -> Option<()>
     requires inside { cell_number cell.now < cell_count domain.now }
 {
-    let Ok(mut local) = domain.register() else {
-        return None;
-    };
+    let mut local = registered(domain).ok()?;
     for behind in 0..LAST {
         let number = behind + 2;
         let values = (number, number, number);
         renew(rt, alloc, domain, cell, &mut local, number, values);
         reclaim(domain, &mut local);
     }
-    local.end(domain);
+    leave(local, domain);
     Some(())
 }
 
