@@ -293,7 +293,7 @@ fn puts(
     found
 }
 
-/// Four threads load, swap and release one cell.
+/// Four threads load, swap and release one cell a hundred thousand times: what is in use then is what is held.
 pub(crate) const SWAPPED_BY_THREADS: Table = Table {
     participants: 5,
     slots: 64,
@@ -303,12 +303,12 @@ pub(crate) const SWAPPED_BY_THREADS: Table = Table {
         Apart(&[(Join, Is(1)), (Place(1), Nothing), (Own, Yes)]),
         Crowd([
             Task::Swaps(0),
-            Task::Swaps(10_000),
-            Task::Swaps(20_000),
-            Task::Swaps(30_000),
+            Task::Swaps(100_000),
+            Task::Swaps(200_000),
+            Task::Swaps(300_000),
         ]),
         Apart(&[
-            (Sum, Is(4000)),
+            (Sum, Is(100_000)),
             (Sweep(3), Nothing),
             (Passes(true, 4), Nothing),
             (Slots, Is(1)),

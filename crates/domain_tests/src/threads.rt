@@ -140,6 +140,7 @@ pub(crate) fn done(scene: &Scene, task: Task) -> Option<u32> {
         Task::Collects => return collecting(scene.domain),
         Task::ComesAndGoes => (1000, 1),
         Task::Counts => (1, 4000),
+        Task::Swaps(_) => (1, 25_000),
         _ => (1, 1000),
     };
     let mut done: u32 = 0;
