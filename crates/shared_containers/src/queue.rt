@@ -3,9 +3,10 @@
 ghost use Rattle.std.specs.Prelude.{◌≡◌, ◌<◌, true, false, [], OnOk, IfOk, IfErr, IfSome};
 ghost use Rattle.sdd_domain.specs.Cells.{cell_number};
 ghost use Rattle.sdd_domain.specs.Sharing.{kept_in, IsOwnerOf};
-ghost use Rattle.sdd_domain.specs.Tokens.{place_of, home_of, cell_count};
+ghost use Rattle.sdd_domain.specs.Tokens.{place_of, home_of, cell_count, slot_count};
 ghost use Rattle.shared_containers.specs.Containers.{AreLinksOf, IsQueueOf, IsAsBefore, IsReady, IsOpenIn, IsStill};
 ghost use Rattle.shared_containers.specs.Outcomes.{Gives, IfPartly, IfPartlyCopied, IfUncopied, IfUnmade, IsNotCloned, IsPushed, IsRefused, Said};
+ghost use Rattle.shared_containers.specs.Walks.{left_of};
 ghost use Rattle.std.specs.Iterator.{IsFiniteIterable};
 
 use crate::iter::Iter;
@@ -158,6 +159,7 @@ impl Queue {
     ) -> Iter<'g, T>
         requires open { IsOpenIn guard.now local.old domain.now }
         requires queue { IsQueueOf self.now domain.now × AreLinksOf links.now domain.now }
+        ensures most { left_of result ≡ slot_count domain.now }
         ensures same { IsStill local.old local.new }
     {
         self.front.iter(domain, links, guard, local)
