@@ -6,6 +6,7 @@ use tree_index::{Node, TreeIndex};
 
 mod calls;
 mod cursor;
+mod each_call;
 mod index;
 mod large;
 mod leaf;
@@ -34,9 +35,9 @@ fn leaf_at<'t>(tree: &'t TreeIndex<u64, u64>, key: u64) -> Option<&'t Leaf<u64, 
 
 /// A tree with these pairs.
 fn tree_of(alloc: Global, pairs: &[(u64, u64)]) -> Tree {
-    let mut tree = TreeIndex::new(alloc);
+    let mut tree = each_call::empty(alloc);
     for (key, val) in pairs {
-        let _inserted = tree.insert_sync(*key, *val);
+        let _inserted = each_call::insert(&mut tree, *key, *val);
     }
     tree
 }

@@ -1,12 +1,16 @@
 //! Calls of trees as data, so that a test of many calls is a table: each call with what it answers.
 
+use super::each_call::{
+    clear, copy_of, count_of, depth_of, empty, first_of, has, insert, last_of, len_of, remove,
+    upsert, val_of,
+};
 use super::index::{lose_a_third, take_stirred, upsert_in_rounds, upsert_stirred};
 use super::shrink::{go_through, has_few_leaves, shrink, stir_often};
 use super::{Tree, leaf_at};
 use std::alloc::Global;
 use std::mem;
 use std::ops::Bound;
-use tree_index::{InsertRefused, TreeIndex};
+use tree_index::InsertRefused;
 
 /// A pair for each number: its key is `number * factor + shift`, of which the remainder by `modulus` is taken where that
 /// isn't 0, and its value is `number * val_factor + val_shift`. All wrap round.
@@ -131,7 +135,7 @@ pub(super) fn shown(key: &u64, val: &u64) -> (u64, u64) {
     (*key, *val)
 }
 
-fn insert(tree: &mut Tree, key: u64, val: u64) -> Told {
+fn insert_told(tree: &mut Tree, key: u64, val: u64) -> Told {
     match tree.insert_sync(key, val) {
         Ok(()) => Told::Done,
         Err(InsertRefused::Duplicate(key, val)) => Told::Duplicate(key, val),
@@ -139,7 +143,7 @@ fn insert(tree: &mut Tree, key: u64, val: u64) -> Told {
     }
 }
 
-fn upsert(tree: &mut Tree, key: u64, val: u64) -> Told {
+fn upsert_told(tree: &mut Tree, key: u64, val: u64) -> Told {
     match tree.upsert_sync(key, val) {
         Ok(()) => Told::Done,
         Err((key, val)) => Told::NoMemory(key, val),
@@ -161,24 +165,24 @@ fn has_full_leaf(tree: &Tree, key: u64) -> bool {
 fn look(tree: &Tree, call: Call) -> Told {
     match call {
         Call::IsEmpty => Told::Is(tree.is_empty()),
-        Call::Depth => Told::Number(tree.depth()),
-        Call::IsDeeper(than) => Told::Is(tree.depth() > than),
+        Call::Depth => Told::Number(depth_of(tree)),
+        Call::IsDeeper(than) => Told::Is(depth_of(tree) > than),
         Call::HasFewLeaves(number, most) => Told::Is(has_few_leaves(tree, number, most)),
         Call::HasFullLeaf(key) => Told::Is(has_full_leaf(tree, key)),
-        Call::Peek(key) => Told::Val(tree.peek(&key).copied()),
+        Call::Peek(key) => Told::Val(val_of(tree, key)),
         Call::PeekEntry(key) => Told::Pair(read(tree.peek_entry(&key))),
         Call::PeekWith(key) => Told::Pair(tree.peek_with(&key, shown)),
         Call::ReadSync(key) => Told::Pair(tree.read_sync(&key, shown)),
-        Call::Contains(key) => Told::Is(tree.contains(&key)),
+        Call::Contains(key) => Told::Is(has(tree, key)),
         Call::Holds(pairs, first, last) => Told::Is(holds(tree, pairs, first, last)),
         Call::Lacks(pairs, first, last) => Told::Is(lacks(tree, pairs, first, last)),
-        Call::Count => Told::Number(tree.iter().count()),
+        Call::Count => Told::Number(count_of(tree)),
         Call::CountWithin(lower, upper) => Told::Number(
             tree.range(lower.as_ref(), upper.as_ref()).count(),
         ),
-        Call::First => Told::Pair(read(tree.iter().next())),
-        Call::Last => Told::Pair(read(tree.iter().next_back())),
-        _ => Told::Number(tree.len()),
+        Call::First => Told::Pair(first_of(tree)),
+        Call::Last => Told::Pair(last_of(tree)),
+        _ => Told::Number(len_of(tree)),
     }
 }
 
@@ -203,16 +207,16 @@ fn run(tree: &mut Tree, call: Call) -> Told {
 /// Makes a call of one tree.
 pub(super) fn make(tree: &mut Tree, call: Call) -> Told {
     match call {
-        Call::Insert(key, val) => insert(tree, key, val),
-        Call::Upsert(key, val) => upsert(tree, key, val),
-        Call::Remove(key) => Told::Is(tree.remove_sync(&key)),
+        Call::Insert(key, val) => insert_told(tree, key, val),
+        Call::Upsert(key, val) => upsert_told(tree, key, val),
+        Call::Remove(key) => Told::Is(remove(tree, key)),
         Call::RemoveIf(key, wanted) => Told::Is(tree.remove_if_sync(&key, |val| *val == wanted)),
         Call::RemoveRange(lower, upper) => {
             tree.remove_range_sync(lower.as_ref(), upper.as_ref());
             Told::Done
         }
         Call::Clear => {
-            tree.clear();
+            clear(tree);
             Told::Done
         }
         _ => run(tree, call),
@@ -241,7 +245,7 @@ fn fill_both(rising: &mut Tree, falling: &mut Tree) -> bool {
 }
 
 fn copy(alloc: Global, tree: &Tree, other: &mut Tree) -> Told {
-    match tree.clone(alloc) {
+    match copy_of(alloc, tree) {
         Ok(made) => {
             *other = made;
             Told::Done
@@ -266,8 +270,8 @@ fn make_of_two(alloc: Global, tree: &mut Tree, other: &mut Tree, call: Call) -> 
 
 /// Makes the calls of a table on two new trees, in order, and tells the place of the first that is answered otherwise.
 pub(super) fn first_other(alloc: Global, rows: &[(Call, Told)]) -> Option<usize> {
-    let mut tree: Tree = TreeIndex::new(alloc);
-    let mut other: Tree = TreeIndex::new(alloc);
+    let mut tree = empty(alloc);
+    let mut other = empty(alloc);
     for at in 0..rows.len() {
         let (call, wanted) = rows[at];
         if make_of_two(alloc, &mut tree, &mut other, call) != wanted {
@@ -277,17 +281,12 @@ pub(super) fn first_other(alloc: Global, rows: &[(Call, Told)]) -> Option<usize>
     None
 }
 
-/// The value of a key.
-pub(super) fn val_of(tree: &Tree, key: u64) -> Option<u64> {
-    tree.peek(&key).copied()
-}
-
 /// Inserts the pairs of the numbers from one on up to below another, and tells whether each was taken.
 fn take(tree: &mut Tree, pairs: Pairs, first: u64, last: u64) -> bool {
     let mut taken = true;
     for number in first..last {
         let (key, val) = pair_of(pairs, number);
-        taken = tree.insert_sync(key, val).is_ok() && taken;
+        taken = insert(tree, key, val) && taken;
     }
     taken
 }
@@ -297,9 +296,9 @@ pub(super) fn fill(tree: &mut Tree, pairs: Pairs, first: u64, last: u64) -> bool
     let mut taken = true;
     for number in first..last {
         let (key, val) = pair_of(pairs, number);
-        let depth = tree.depth();
-        let done = tree.insert_sync(key, val).is_ok();
-        let there = val_of(tree, key) == Some(val) && tree.depth() >= depth;
+        let depth = depth_of(tree);
+        let done = insert(tree, key, val);
+        let there = val_of(tree, key) == Some(val) && depth_of(tree) >= depth;
         taken = done && there && taken;
     }
     taken
@@ -310,7 +309,7 @@ pub(super) fn upsert_all(tree: &mut Tree, pairs: Pairs, first: u64, last: u64) -
     let mut taken = true;
     for number in first..last {
         let (key, val) = pair_of(pairs, number);
-        let done = tree.upsert_sync(key, val).is_ok();
+        let done = upsert(tree, key, val);
         taken = val_of(tree, key) == Some(val) && done && taken;
     }
     taken
@@ -322,7 +321,7 @@ pub(super) fn lose(tree: &mut Tree, pairs: Pairs, first: u64, last: u64) -> bool
     for number in first..last {
         let (key, val) = pair_of(pairs, number);
         let found = val_of(tree, key) == Some(val);
-        there = tree.remove_sync(&key) && found && there;
+        there = remove(tree, key) && found && there;
     }
     there
 }
@@ -342,7 +341,7 @@ fn lacks(tree: &Tree, pairs: Pairs, first: u64, last: u64) -> bool {
     let mut absent = true;
     for number in first..last {
         let (key, _) = pair_of(pairs, number);
-        absent = !tree.contains(&key) && absent;
+        absent = !has(tree, key) && absent;
     }
     absent
 }

@@ -3,13 +3,14 @@
 use self::Step::{Flip, Get, GetBack, Next, NextBack};
 use super::calls::Call::{CountWithin, Fill};
 use super::calls::Told::{Is, Number};
-use super::calls::{Call, Pairs, Seen, Told, read, val_of};
+use super::calls::{Call, Pairs, Seen, Told, read};
+use super::each_call::{clear, empty, remove, upsert, val_of};
 use super::removal::{is_from, is_up_to};
 use super::{Tree, tree_of};
 use crate::numbers::stirred;
 use std::alloc::{AllocError, Global};
 use std::ops::Bound;
-use tree_index::{Iter, Proximity, Range, TreeIndex};
+use tree_index::{Iter, Proximity, Range};
 
 /// A call of a cursor.
 #[derive(Clone, Copy)]
@@ -347,15 +348,15 @@ fn bound_of(seed: u64) -> Bound<u64> {
 
 /// A tree of keys below 300 in no order, of which some were removed again.
 fn thinned(alloc: Global, round: u64, seed: &mut u64) -> Tree {
-    let mut tree = TreeIndex::new(alloc);
+    let mut tree = empty(alloc);
     for _ in 0..round.wrapping_mul(7) {
         *seed = stirred(*seed);
-        let _ = tree.upsert_sync((*seed >> 33) % 300, *seed >> 40);
+        let _ = upsert(&mut tree, (*seed >> 33) % 300, *seed >> 40);
     }
     for key in 0..300u64 {
         *seed = stirred(*seed);
         if (*seed >> 33) % 5 < round % 5 || (100 <= key && key < 150) {
-            let _ = tree.remove_sync(&key);
+            let _ = remove(&mut tree, key);
         }
     }
     tree
@@ -468,6 +469,6 @@ fn locate_finds_a_pair_or_its_neighbours(rt: HostRuntime) {
     let mut tree = tree_of(rt.alloc(), &ODD);
     let other = first_other_place(&tree);
     let over = between(&tree, 2) == [None, Some((3, 2)), None, Some((1, 1))];
-    tree.clear();
+    clear(&mut tree);
     assert!(rt; over && other.is_none() && stands(&tree, 3) == (4, None, None));
 }

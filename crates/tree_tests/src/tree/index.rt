@@ -9,11 +9,11 @@ use super::calls::Call::{
     Swap, TakeStirred, Upsert, UpsertAll, UpsertInRounds, UpsertStirred,
 };
 use super::calls::Told::{Done, Duplicate, Is, Number, Pair, Val};
-use super::calls::{Call, EACH, Pairs, Told, equal, fill, lose, make, upsert_all, val_of};
+use super::calls::{Call, EACH, Pairs, Told, equal, fill, lose, make, upsert_all};
+use super::each_call::{copy_of, depth_of, empty, has, insert, len_of, remove, upsert, val_of};
 use crate::numbers::{lacks_three, stirred};
 use std::alloc::{AllocError, Global};
 use std::collections::BTreeMap;
-use tree_index::TreeIndex;
 
 /// A new tree has depth 0, and one pair makes it 1.
 pub(super) const ONE_PAIR: [(Call, Told); 5] = [
@@ -111,7 +111,7 @@ pub(super) fn take_stirred(tree: &mut Tree) -> bool {
     let mut taken = true;
     for _ in 0..6000u32 {
         key = stirred(key);
-        taken = tree.insert_sync(key, !key).is_ok() && taken;
+        taken = insert(tree, key, !key) && taken;
     }
     taken
 }
@@ -125,8 +125,8 @@ pub(super) fn lose_a_third(tree: &mut Tree) -> bool {
         let found = (val_of(tree, key), val_of(tree, key.wrapping_add(1)));
         as_said = found == (Some(!key), None) && as_said;
         if key % 3 == 0 {
-            let first = tree.remove_sync(&key);
-            as_said = !tree.remove_sync(&key) && first && as_said;
+            let first = remove(tree, key);
+            as_said = !remove(tree, key) && first && as_said;
         }
     }
     as_said
@@ -138,8 +138,8 @@ pub(super) fn upsert_stirred(tree: &mut Tree) -> bool {
     let mut as_said = true;
     for _ in 0..6000u32 {
         key = stirred(key);
-        let there = tree.contains(&key) == (key % 3 != 0);
-        let done = tree.upsert_sync(key, key).is_ok();
+        let there = has(tree, key) == (key % 3 != 0);
+        let done = upsert(tree, key, key);
         as_said = val_of(tree, key) == Some(key) && there && done && as_said;
     }
     as_said
@@ -239,7 +239,7 @@ fn lacks_two(val: &u64) -> bool
 
 /// Whether the calls of an empty tree call no function.
 fn calls_none(alloc: Global) -> bool {
-    let mut tree: Tree = TreeIndex::new(alloc);
+    let mut tree = empty(alloc);
     let peeked = tree.peek_with(&1, left).is_none();
     let read = tree.read_sync(&1, left).is_none();
     peeked && read && !tree.remove_if_sync(&1, lacks_three)
@@ -247,7 +247,7 @@ fn calls_none(alloc: Global) -> bool {
 
 /// What functions tell of the value 3, which is spared by one condition and removed by another.
 fn of_three(alloc: Global) -> (Option<u64>, Option<u64>, bool, bool) {
-    let mut tree: Tree = TreeIndex::new(alloc);
+    let mut tree = empty(alloc);
     match tree.insert_sync(1, 3) {
         Ok(()) => {
             let peeked = tree.peek_with(&1, left);
@@ -285,7 +285,7 @@ fn act(
             map.insert(key, val)?;
             Ok(make(tree, Upsert(key, val)) == Done)
         }
-        2 => Ok(tree.remove_sync(&key) == map.remove(&key).is_some()),
+        2 => Ok(remove(tree, key) == map.remove(&key).is_some()),
         _ => Ok(val_of(tree, key) == there),
     }
 }
@@ -301,7 +301,7 @@ fn are_alike(tree: &Tree, map: &BTreeMap<u64, u64>) -> bool {
 
 /// Whether so many random calls are answered alike, and leave the same.
 fn go_alike(alloc: Global, calls: u32) -> Result<bool, AllocError> {
-    let mut tree: Tree = TreeIndex::new(alloc);
+    let mut tree = empty(alloc);
     let mut map = BTreeMap::new(alloc);
     let mut seed = 7u64;
     let mut alike = true;
@@ -309,7 +309,7 @@ fn go_alike(alloc: Global, calls: u32) -> Result<bool, AllocError> {
         seed = stirred(seed);
         let (kind, key) = ((seed >> 33) % 4, (seed >> 40) % 300);
         let same = act(&mut tree, &mut map, kind, key, seed >> 8)?;
-        alike = same && tree.len() == map.len() && alike;
+        alike = same && len_of(&tree) == map.len() && alike;
     }
     Ok(alike && are_alike(&tree, &map))
 }
@@ -323,20 +323,20 @@ fn random_calls_answer_as_on_a_map_of_std(rt: HostRuntime) {
 fn loses_as(copy: &mut Tree, tree: &Tree) -> bool {
     let mut as_said = true;
     for key in 0..1000u64 {
-        let there = key > 700 || tree.contains(&key);
-        as_said = copy.remove_sync(&key) == there && as_said;
+        let there = key > 700 || has(tree, key);
+        as_said = remove(copy, key) == there && as_said;
     }
     as_said
 }
 
 /// Whether a clone of a tree has its pairs and is low, takes the keys from 701 to 999, and loses all.
 fn goes_on(alloc: Global, tree: &Tree) -> Result<bool, AllocError> {
-    let mut copy = tree.clone(alloc)?;
-    let same = equal(&copy, tree) == Is(true) && copy.len() == tree.len();
-    let low = copy.len() > 240 || copy.depth() <= 1;
+    let mut copy = copy_of(alloc, tree)?;
+    let same = equal(&copy, tree) == Is(true) && len_of(&copy) == len_of(tree);
+    let low = len_of(&copy) > 240 || depth_of(&copy) <= 1;
     let taken = fill(&mut copy, EACH, 701, 1000);
     let lost = loses_as(&mut copy, tree);
-    Ok(same && low && taken && lost && copy.is_empty())
+    Ok(same && low && taken && lost && len_of(&copy) == 0)
 }
 
 // Keys below 701 in no order, each with its number.
@@ -351,11 +351,11 @@ const BELOW_701: Pairs = Pairs {
 /// Whether a clone of a tree of so many pairs, of which a third is gone, goes on by itself; and how many are left in
 /// the tree then.
 fn left_after(alloc: Global, count: u64) -> Result<(bool, usize), AllocError> {
-    let mut tree: Tree = TreeIndex::new(alloc);
+    let mut tree = empty(alloc);
     let taken = fill(&mut tree, BELOW_701, 0, count);
     let lost = lose(&mut tree, BELOW_701, 0, count / 3);
     let gone_on = goes_on(alloc, &tree)?;
-    Ok((taken && lost && gone_on, tree.len()))
+    Ok((taken && lost && gone_on, len_of(&tree)))
 }
 
 // How many pairs come, and how many are left without a third of them.

@@ -2,7 +2,8 @@
 
 use super::Tree;
 use super::calls::{EVENS, Seen, fill, shown};
-use tree_index::{Node, TreeIndex};
+use super::each_call::{clear, depth_of, empty, insert, len_of};
+use tree_index::Node;
 
 /// The pair that a node lends to a function.
 fn entry(node: &Node<'_, u64, u64>, key: u64) -> Seen {
@@ -17,15 +18,19 @@ fn lends_over_leaves(tree: &Tree, key: u64, wanted: Seen) -> bool {
     }
 }
 
+fn has_no_root(tree: &Tree) -> bool {
+    tree.root().is_none()
+}
+
 #[test]
 fn a_tree_without_nodes_has_no_root(rt: HostRuntime) {
-    let mut tree: Tree = TreeIndex::new(rt.alloc());
-    let new = tree.root().is_none();
-    let taken = tree.insert_sync(4, 5).is_ok();
+    let mut tree = empty(rt.alloc());
+    let new = has_no_root(&tree);
+    let taken = insert(&mut tree, 4, 5);
     let there = lends_over_leaves(&tree, 4, Some((4, 5)));
     let absent = lends_over_leaves(&tree, 3, None);
-    tree.clear();
-    let cleared = tree.root().is_none();
+    clear(&mut tree);
+    let cleared = has_no_root(&tree);
     assert!(rt; new && taken && there && absent && cleared);
 }
 
@@ -60,7 +65,7 @@ fn reads_on_the_way(tree: &Tree) -> bool {
         } else {
             None
         };
-        as_said = way_to(tree, key, wanted) == Some(tree.depth()) && as_said;
+        as_said = way_to(tree, key, wanted) == Some(depth_of(tree)) && as_said;
     }
     as_said
 }
@@ -82,8 +87,8 @@ const AT_A_CHILD: [Seen; 3] = [Some((0, 1)), None, Some((7998, 7999))];
 
 #[test]
 fn a_key_is_read_at_the_root_and_at_each_node_on_the_way(rt: HostRuntime) {
-    let mut tree: Tree = TreeIndex::new(rt.alloc());
+    let mut tree = empty(rt.alloc());
     let taken = fill(&mut tree, EVENS, 0, 4000);
     let read = reads_on_the_way(&tree) && read_below_root(&tree, 0, 7998) == Some(AT_A_CHILD);
-    assert!(rt; taken && read && tree.len() == 4000 && tree.depth() >= 2);
+    assert!(rt; taken && read && len_of(&tree) == 4000 && depth_of(&tree) >= 2);
 }

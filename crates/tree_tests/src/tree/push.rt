@@ -1,18 +1,36 @@
 //! Pairs that come by rising keys, each put behind the last one, and copies that are made so.
 
-use super::calls::{Pairs, fill, read, val_of};
+use super::calls::Told::Is;
+use super::calls::{Pairs, equal, fill};
+use super::each_call::{
+    clear, copy_of, count_of, depth_of, empty, first_of, last_of, len_of, push, val_of,
+};
 use super::{Tree, leaf_at};
 use std::alloc::{AllocError, Global};
+use std::test::Fail;
 use tree_index::TreeIndex;
 
 #[test]
+fn pairs_are_put_behind_the_last_one(rt: HostRuntime) -> Result<(), Fail> {
+    let mut tree: Tree = TreeIndex::with_capacity(rt.alloc(), 3)?;
+    let depth = depth_of(&tree);
+    let first = push(&mut tree, 10, 1);
+    let second = push(&mut tree, 20, 2);
+    let third = push(&mut tree, 30, 3);
+    let ends = (first_of(&tree), val_of(&tree, 20), last_of(&tree));
+    assert!(rt; first && second && third && depth == 0 && len_of(&tree) == 3);
+    assert!(rt; ends == (Some((10, 1)), Some(2), Some((30, 3))));
+    Ok(())
+}
+
+#[test]
 fn a_tree_that_was_emptied_takes_pairs_behind_its_last_one(rt: HostRuntime) {
-    let mut tree: Tree = TreeIndex::new(rt.alloc());
-    let first = tree.push_last(5, 50).is_ok();
-    tree.clear();
-    let second = tree.push_last(4, 40).is_ok();
-    let third = tree.push_last(6, 60).is_ok();
-    let found = tree.len() == 2 && val_of(&tree, 4) == Some(40) && val_of(&tree, 5).is_none();
+    let mut tree = empty(rt.alloc());
+    let first = push(&mut tree, 5, 50);
+    clear(&mut tree);
+    let second = push(&mut tree, 4, 40);
+    let third = push(&mut tree, 6, 60);
+    let found = len_of(&tree) == 2 && val_of(&tree, 4) == Some(40) && val_of(&tree, 5).is_none();
     assert!(rt; first && second && third && found);
 }
 
@@ -27,19 +45,19 @@ const BELOW_300: Pairs = Pairs {
 
 /// How many pairs the first leaf has, if there is a pair.
 fn first_leaf(tree: &Tree) -> Option<usize> {
-    let (key, _) = read(tree.iter().next())?;
+    let (key, _) = first_of(tree)?;
     Some(leaf_at(tree, key)?.array.len())
 }
 
 /// Whether a tree takes so many pairs, and its copy is equal, by its walk too, has the least depth, and a full first leaf.
 fn is_copied(alloc: Global, count: u64) -> Result<bool, AllocError> {
-    let mut tree: Tree = TreeIndex::new(alloc);
+    let mut tree = empty(alloc);
     let taken = fill(&mut tree, BELOW_300, 0, count);
-    let copy = tree.clone(alloc)?;
-    let len = tree.len();
-    let same = copy == tree && copy.iter().count() == len;
+    let copy = copy_of(alloc, &tree)?;
+    let len = len_of(&tree);
+    let same = equal(&copy, &tree) == Is(true) && count_of(&copy) == len;
     let depth = if len > 240 { 2 } else { 1 };
-    let full = copy.depth() == depth && first_leaf(&copy) == Some(len.min(15));
+    let full = depth_of(&copy) == depth && first_leaf(&copy) == Some(len.min(15));
     Ok(taken && same && (full || len == 0))
 }
 

@@ -3,11 +3,11 @@
 
 use super::Tree;
 use super::calls::Call::Insert;
-use super::calls::Told::{Done, Duplicate, NoMemory};
-use super::calls::{EACH, holds, make, val_of};
+use super::calls::Told::{Done, Duplicate, Is, NoMemory};
+use super::calls::{EACH, equal, holds, make};
+use super::each_call::{copy_of, depth_of, empty, len_of, upsert, val_of};
 use crate::numbers::stirred;
 use std::alloc::Global;
-use tree_index::TreeIndex;
 
 /// What a run met: whether memory was refused, and whether all was as it has to be.
 #[derive(Clone, Copy)]
@@ -18,11 +18,11 @@ struct Met {
 
 /// Inserts a pair, again where memory was refused: nothing had changed then.
 fn insert(tree: &mut Tree, key: u64, met: &mut Met) {
-    let before = (tree.depth(), tree.len());
+    let before = (depth_of(tree), len_of(tree));
     let told = make(tree, Insert(key, !key));
     if told != Done {
-        let kept = (tree.depth(), tree.len()) == before && val_of(tree, key).is_none();
-        let again = tree.upsert_sync(key, !key).is_ok();
+        let kept = (depth_of(tree), len_of(tree)) == before && val_of(tree, key).is_none();
+        let again = upsert(tree, key, !key);
         met.refusal = true;
         met.as_said = told == NoMemory(key, !key) && kept && again && met.as_said;
     }
@@ -47,13 +47,13 @@ fn has_all(tree: &Tree, count: u32) -> bool {
 /// What a tree meets that grows.
 fn grows(alloc: Global) -> Met {
     let mut met = NOTHING;
-    let mut tree: Tree = TreeIndex::new(alloc);
+    let mut tree = empty(alloc);
     let mut key = 1u64;
     for _ in 0..700u32 {
         key = stirred(key);
         insert(&mut tree, key, &mut met);
     }
-    met.as_said = tree.len() == 700 && has_all(&tree, 700) && met.as_said;
+    met.as_said = len_of(&tree) == 700 && has_all(&tree, 700) && met.as_said;
     met
 }
 
@@ -67,13 +67,13 @@ fn fills(tree: &mut Tree, last: u64, met: &mut Met) {
 /// What a tree meets that is cloned.
 fn clones(alloc: Global) -> Met {
     let mut met = NOTHING;
-    let mut tree: Tree = TreeIndex::new(alloc);
+    let mut tree = empty(alloc);
     fills(&mut tree, 100, &mut met);
-    match tree.clone(alloc) {
-        Ok(copy) => met.as_said = copy == tree && met.as_said,
+    match copy_of(alloc, &tree) {
+        Ok(copy) => met.as_said = equal(&copy, &tree) == Is(true) && met.as_said,
         Err(_) => {
             met.refusal = true;
-            met.as_said = tree.len() == 100 && holds(&tree, EACH, 0, 100) && met.as_said;
+            met.as_said = len_of(&tree) == 100 && holds(&tree, EACH, 0, 100) && met.as_said;
         },
     }
     met
@@ -84,7 +84,7 @@ fn repeats_all(tree: &mut Tree) -> bool {
     let mut as_said = true;
     for key in 0..15u64 {
         let repeated = make(tree, Insert(key, key)) == Duplicate(key, key);
-        as_said = tree.upsert_sync(key, key).is_ok() && repeated && as_said;
+        as_said = upsert(tree, key, key) && repeated && as_said;
     }
     as_said
 }
@@ -92,9 +92,9 @@ fn repeats_all(tree: &mut Tree) -> bool {
 /// What a leaf meets that is filled, whose keys are duplicates then, and whose pairs are written over.
 fn repeats(alloc: Global) -> Met {
     let mut met = NOTHING;
-    let mut tree: Tree = TreeIndex::new(alloc);
+    let mut tree = empty(alloc);
     fills(&mut tree, 15, &mut met);
-    met.as_said = repeats_all(&mut tree) && tree.len() == 15 && met.as_said;
+    met.as_said = repeats_all(&mut tree) && len_of(&tree) == 15 && met.as_said;
     met
 }
 

@@ -3,12 +3,12 @@
 use super::Tree;
 use super::calls::Call::{Contains, Fill, Len, RemoveRange};
 use super::calls::Told::{Done, Is, Number};
-use super::calls::{Call, EACH, Told, fill, make, val_of};
+use super::calls::{Call, EACH, Told, fill, make};
+use super::each_call::{count_of, empty, len_of, upsert, val_of};
 use crate::numbers::stirred;
 use std::alloc::{AllocError, Global};
 use std::collections::BTreeMap;
 use std::ops::Bound;
-use tree_index::TreeIndex;
 
 /// A range is removed, and its edges are kept.
 pub(super) const EDGES: [(Call, Told); 5] = [
@@ -21,7 +21,7 @@ pub(super) const EDGES: [(Call, Told); 5] = [
 
 /// Whether a range that is removed leaves the keys outside alone, of the keys from 1 to 13.
 fn leaves_the_keys_outside(alloc: Global, low: u64, high: u64) -> bool {
-    let mut tree: Tree = TreeIndex::new(alloc);
+    let mut tree = empty(alloc);
     let filled = fill(&mut tree, EACH, 1, 14);
     let range = RemoveRange(Bound::Included(low), Bound::Excluded(high));
     let mut as_said = make(&mut tree, range) == Done && filled;
@@ -84,7 +84,7 @@ fn is_alike(
         }
         alike = val_of(tree, key) == map.get(&key).copied() && alike;
     }
-    alike && tree.len() == map.len() && tree.iter().count() == map.len()
+    alike && len_of(tree) == map.len() && count_of(tree) == map.len()
 }
 
 /// Upserts eighty random keys below 400 in a tree and in a map.
@@ -95,7 +95,7 @@ fn stir_both(
 ) -> Result<(), AllocError> {
     for _ in 0..80u32 {
         *seed = stirred(*seed);
-        let _ = tree.upsert_sync((*seed >> 33) % 400, *seed >> 8);
+        let _ = upsert(tree, (*seed >> 33) % 400, *seed >> 8);
         map.insert((*seed >> 33) % 400, *seed >> 8)?;
     }
     Ok(())
@@ -104,7 +104,7 @@ fn stir_both(
 /// Whether so many rounds of upserts, and of a random range that is removed from a tree and from a map, leave the same
 /// pairs.
 fn go_alike(alloc: Global, rounds: u32) -> Result<bool, AllocError> {
-    let mut tree: Tree = TreeIndex::new(alloc);
+    let mut tree = empty(alloc);
     let mut map = BTreeMap::new(alloc);
     let mut seed = 5u64;
     let mut alike = true;

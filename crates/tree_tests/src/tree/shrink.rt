@@ -6,6 +6,7 @@ use super::calls::Call::{
 };
 use super::calls::Told::{Done, Is, Number, Pair};
 use super::calls::{Call, EACH, Pairs, Told, fill, lose};
+use super::each_call::{count_of, depth_of, len_of, remove, upsert};
 use super::{Tree, leaf_at};
 use crate::numbers::stirred;
 use std::ops::Bound;
@@ -55,7 +56,7 @@ pub(super) fn has_few_leaves(tree: &Tree, number: usize, most: usize) -> bool {
 
 /// Whether no more leaves are there than pairs, and as many pairs as are counted.
 fn is_lean(tree: &Tree, most: usize) -> bool {
-    leaves_of(tree, most) <= tree.len() && tree.iter().count() == tree.len()
+    leaves_of(tree, most) <= len_of(tree) && count_of(tree) == len_of(tree)
 }
 
 /// Removes the keys below 1000, by so many at a step, and tells whether each was there, and the tree was lean behind each
@@ -112,7 +113,7 @@ pub(super) fn go_through(queue: &mut Tree) -> bool {
         as_said = fill(queue, EACH, key, key + 1) && gone && as_said;
         // ten pairs to a leaf are there at least, and a leaf that went gave its place to another
         if key % 100 == 99 {
-            as_said = leaves_of(queue, 9) <= most && queue.depth() <= 2 && as_said;
+            as_said = leaves_of(queue, 9) <= most && depth_of(queue) <= 2 && as_said;
         }
     }
     as_said
@@ -132,11 +133,11 @@ fn stir(tree: &mut Tree, start: u64) -> u64 {
     let mut seed = start;
     for _ in 0..100u32 {
         seed = stirred(seed);
-        let _ = tree.upsert_sync((seed >> 33) % 500, seed >> 8);
+        let _ = upsert(tree, (seed >> 33) % 500, seed >> 8);
     }
     for _ in 0..400u32 {
         seed = stirred(seed);
-        let _ = tree.remove_sync(&((seed >> 33) % 500));
+        let _ = remove(tree, (seed >> 33) % 500);
     }
     seed
 }

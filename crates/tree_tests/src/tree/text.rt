@@ -1,7 +1,6 @@
 //! Trees of texts.
 
 use std::ops::Bound;
-use std::test::Fail;
 use tree_index::{Proximity, TreeIndex};
 
 /// A number with its text, as it is lent.
@@ -10,21 +9,6 @@ fn read(pair: Option<(&u64, &&'static str)>) -> Option<(u64, &'static str)> {
         Some((key, text)) => Some((*key, *text)),
         None => None,
     }
-}
-
-#[test]
-fn pairs_are_put_behind_the_last_one(rt: HostRuntime) -> Result<(), Fail> {
-    let mut tree: TreeIndex<u64, &'static str> = TreeIndex::with_capacity(rt.alloc(), 3)?;
-    let depth = tree.depth();
-    let first = tree.push_last(10, "ten").is_ok();
-    let second = tree.push_last(20, "twenty").is_ok();
-    let third = tree.push_last(30, "thirty").is_ok();
-    let twenty = tree.peek(&20).copied();
-    let mut pairs = tree.iter();
-    let ends = [read(pairs.next()), read(pairs.next_back())];
-    let found = twenty == Some("twenty") && ends == [Some((10, "ten")), Some((30, "thirty"))];
-    assert!(rt; first && second && third && depth == 0 && found && tree.len() == 3);
-    Ok(())
 }
 
 const APPOINTMENTS: [(u64, &str); 3] = [(930, "dentist"), (1100, "review"), (1530, "train")];

@@ -1,0 +1,84 @@
+//! Each call of a tree of numbers that tests make by itself, once: the proof of a call of generic code takes seconds
+//! wherever it stands, so tests call these functions.
+
+ghost use Rattle.std.specs.Prelude.{◌≡◌, ◌++◌, ◌∷◌, [], IsTrue};
+ghost use Rattle.std.specs.Bool.{OnFalse};
+ghost use Rattle.std.specs.Ordering.{nat_cmp};
+ghost use Rattle.tree_index.specs.Depth.{IsAbove};
+
+use super::Tree;
+use super::calls::{Seen, read};
+use std::alloc::{AllocError, Global};
+use tree_index::TreeIndex;
+
+/// A tree without pairs.
+pub(super) fn empty(alloc: Global) -> Tree
+    ensures { result.pairs ≡ [] }
+{
+    TreeIndex::new(alloc)
+}
+
+pub(super) fn len_of(tree: &Tree) -> usize {
+    tree.len()
+}
+
+pub(super) fn depth_of(tree: &Tree) -> usize {
+    tree.depth()
+}
+
+/// How many pairs a walk gives.
+pub(super) fn count_of(tree: &Tree) -> usize {
+    tree.iter().count()
+}
+
+/// The first pair, and the last, of a walk.
+pub(super) fn first_of(tree: &Tree) -> Seen {
+    read(tree.iter().next())
+}
+
+pub(super) fn last_of(tree: &Tree) -> Seen {
+    read(tree.iter().next_back())
+}
+
+/// The value of a key.
+pub(super) fn val_of(tree: &Tree, key: u64) -> Option<u64> {
+    tree.peek(&key).copied()
+}
+
+pub(super) fn has(tree: &Tree, key: u64) -> bool {
+    tree.contains(&key)
+}
+
+/// Inserts a pair, and tells whether it was taken.
+pub(super) fn insert(tree: &mut Tree, key: u64, val: u64) -> bool {
+    tree.insert_sync(key, val).is_ok()
+}
+
+/// Upserts a pair, and tells whether it was taken.
+pub(super) fn upsert(tree: &mut Tree, key: u64, val: u64) -> bool {
+    tree.upsert_sync(key, val).is_ok()
+}
+
+/// Puts a pair behind all others, and tells whether it was taken.
+pub(super) fn push(tree: &mut Tree, key: u64, val: u64) -> bool
+    requires { IsAbove nat_cmp key tree.old.pairs }
+    ensures pushed { IsTrue result → tree.new.pairs ≡ tree.old.pairs ++ (key, val) ∷ [] }
+    ensures refused { OnFalse result (tree.new ≡ tree.old) }
+{
+    tree.push_last(key, val).is_ok()
+}
+
+/// Removes a key, and tells whether it was there.
+pub(super) fn remove(tree: &mut Tree, key: u64) -> bool {
+    tree.remove_sync(&key)
+}
+
+pub(super) fn clear(tree: &mut Tree)
+    ensures { tree.new.pairs ≡ [] }
+{
+    tree.clear();
+}
+
+pub(super) fn copy_of(alloc: Global, tree: &Tree) -> Result<Tree, AllocError> {
+    tree.clone(alloc)
+}
