@@ -7,6 +7,7 @@ ghost use Rattle.shared_versions.specs.Placing.{AreApart, IsKeptSegment, IsNewIn
 
 use crate::kept::{Kept, release_kept};
 use crate::node::Node;
+use crate::owners::let_go;
 use sdd_domain::domain::Domain;
 use sdd_domain::local::Local;
 use sdd_domain::shared::Shared;
@@ -74,7 +75,7 @@ pub(crate) fn release_new<K: Ord + Drop, V: Drop>(
     'releasing: while let Some(one) = to_keep.pop() {
         match one {
             ToKeep::New(owner) => {
-                let _last = owner.release(domain, local);
+                let_go(owner, domain, local);
             }
             ToKeep::Old(_) => {}
         }

@@ -6,6 +6,7 @@ ghost use Rattle.sdd_domain.specs.Tokens.{place_of, home_of, hand_of, misses_of}
 ghost use Rattle.shared_versions.specs.Placing.{IsKeptSegment, IsLeft, IsSegmentOf, IsStill, IsStillButMisses, pairs_kept, pairs_owned};
 
 use crate::node::Node;
+use crate::owners::let_go;
 use sdd_domain::domain::Domain;
 use sdd_domain::local::Local;
 use sdd_domain::shared::Shared;
@@ -78,7 +79,7 @@ pub(crate) fn release_kept<K: Ord + Drop, V: Drop>(
     'releasing: while let Some(owner) = kept.pop() {
         match owner {
             Some(owner) => {
-                let _last = owner.release(domain, local);
+                let_go(owner, domain, local);
             }
             None => {}
         }

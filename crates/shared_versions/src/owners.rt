@@ -1,10 +1,11 @@
-//! Items that are placed with two owners, and items that aren't placed.
+//! Items that are placed with two owners, items that aren't placed, and owners that are released.
 
 ghost use Rattle.std.specs.Prelude.{◌≡◌, ◌+◌, [], IfOk, IfErr, IfSome, MatchOption, OnOk, OnErr};
 ghost use Rattle.sdd_domain.specs.Sharing.{IsOwnerOf};
 ghost use Rattle.sdd_domain.specs.Tokens.{place_of, home_of, hand_of, misses_of};
 ghost use Rattle.shared_versions.specs.Placing.{IsOwnedIn, IsStill, IsStillButMisses};
 
+use crate::node::Node;
 use sdd_domain::domain::Domain;
 use sdd_domain::holds::Holds;
 use sdd_domain::local::Local;
@@ -51,4 +52,19 @@ pub(crate) fn take_back<T: Holds>(mut item: T, domain: &Domain<T>, local: &mut L
         let _last = owner.own(domain, local).release(domain, local);
     }
     item.end();
+}
+
+/// Releases an owner of a node: where it was the last one, the node waits to be reclaimed. Other calls of `Shared::release`
+/// go by this one, since its proof at a node takes as long as theirs.
+pub(crate) fn let_go<K: Ord + Drop, V: Drop>(
+    owner: Shared<Node<K, V>>,
+    domain: &Domain<Node<K, V>>,
+    local: &mut Local<Node<K, V>>,
+)
+    requires home { home_of local.old ≡ place_of domain.now }
+    requires mine { IsOwnedIn (place_of domain.now).0 owner }
+    ensures hand { hand_of local.new ≡ hand_of local.old }
+    ensures same { IsStill local.old local.new }
+{
+    let _last = owner.release(domain, local);
 }

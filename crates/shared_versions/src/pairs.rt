@@ -12,7 +12,7 @@ ghost use Rattle.shared_versions.specs.Placing.{IsKeptSegment, IsSegmentOf, IsSt
 use crate::keeping::{ToKeep, release_new};
 use crate::kept::{Kept, clone_at};
 use crate::node::Node;
-use crate::owners::place_two;
+use crate::owners::{let_go, place_two};
 use sdd_domain::domain::Domain;
 use sdd_domain::held::Held;
 use sdd_domain::holding::hold_last;
@@ -139,7 +139,7 @@ fn release_all<K: Ord + Drop, V: Drop>(
     ensures same { IsStill local.old local.new }
 {
     'releasing: while let Some(owner) = owners.pop() {
-        let _last = owner.release(domain, local);
+        let_go(owner, domain, local);
     }
     owners.destroy_empty();
 }

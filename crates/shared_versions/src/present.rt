@@ -12,7 +12,7 @@ use crate::keeping::{keep_all, release_new};
 use crate::kept::{Kept, release_kept};
 use crate::lending::view_of;
 use crate::node::{Node, Version};
-use crate::owners::{place_two, take_back};
+use crate::owners::{let_go, place_two, take_back};
 use crate::pairs::{all_owners, hold_all};
 use crate::room::Room;
 use sdd_base::tag::Tag;
@@ -144,7 +144,7 @@ impl<K: Ord + Drop, V: Drop, const S: usize> Present<K, V, S> {
         match place_two(Node::Version(Version::new(directory, S)), domain, local) {
             Ok((version, root)) => {
                 let older = mem::replace(&mut self.version, version);
-                let _last = older.release(domain, local);
+                let_go(older, domain, local);
                 // only now are owners moved: nothing is refused any more
                 keep_all(to_keep, &mut self.segments, kept, domain, local);
                 Ok(root)
@@ -168,7 +168,7 @@ impl<K: Ord + Drop, V: Drop, const S: usize> Present<K, V, S> {
         ensures same { IsStill local.old local.new }
     {
         let Present { version, segments } = self;
-        let _last = version.release(domain, local);
+        let_go(version, domain, local);
         release_kept(segments, domain, local);
     }
 }
@@ -208,6 +208,6 @@ pub fn publish<K: Ord + Drop, V: Drop>(
     ensures same { IsStill local.old local.new }
 {
     if let (Some(older), _) = root.swap((Some(new), Tag::None), domain, local) {
-        let _last = older.release(domain, local);
+        let_go(older, domain, local);
     }
 }

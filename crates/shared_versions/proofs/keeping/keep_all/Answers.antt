@@ -3,7 +3,7 @@ use Rattle.std.specs.List.{All, AllPairs}
 use Rattle.std.specs.Prelude.{IfSome}
 use Rattle.std.proofs.lemmas.List.{length-append}
 use Rattle.std.proofs.lemmas.List.Elements.{All-pop, All-push}
-use Rattle.shared_versions.specs.Placing.{AreApart, IsKeptSegment, IsLeft, IsSameIn, IsToKeep, moved_from, owner_of, pairs_kept, pairs_kept_at, pairs_to_keep}
+use Rattle.shared_versions.specs.Placing.{AreApart, IsKeptSegment, IsLeft, IsSameIn, IsToKeep, IsWithinKept, moved_from, owner_of, pairs_kept, pairs_kept_at, pairs_to_keep}
 use Rattle.shared_versions.proofs.ApartLemmas.{pairs_head, pairs_tail}
 use Rattle.shared_versions.proofs.MovingLemmas.{all_stay, all_turned, as_many_places, owner_told, rest_left}
 use Rattle.shared_versions.proofs.SeamLemmas.{crossing, first_told}
@@ -40,3 +40,27 @@ moving-preserved g c =
       places = ap length left ∙ (as_many_places older one ∙ before.places);
       room = omega (arith, before.room, ap length fewer, length-append rest (one ∷ []), ap length keeps, length-append c.moving.kept.items (owner ∷ []), c.push_reserved.ensures.capacity);
     }
+
+pub moved-requires : goal.moved-requires
+moved-requires g c =
+    let IsOne = IsToKeep c.args.domain.now.table.shared.table_id (length c.args.kept.now.items) in
+    let all = All-pop IsOne c.moving.to_keep.items c.pop.new.self.items c.pop.result c.pop.ensures.items c.moving.invariant.to_keep in
+    subst (λ n. IsWithinKept n c.in-Some.one) (sym c.moving.invariant.places) (subst (λ r. IfSome r IsOne) c.in-Some.is all.1).1
+
+pub push_reserved-requires : goal.push_reserved-requires
+push_reserved-requires g c = omega (arith, c.moving.invariant.room, ap length c.in-Some.ensures.items, length-append c.pop.new.self.items (c.in-Some.one ∷ []))
+
+pub release_kept-requires-clause-home : goal.release_kept-requires-clause-home
+release_kept-requires-clause-home g c = c.requires.home
+
+pub release_kept-requires-clause-left : goal.release_kept-requires-clause-left
+release_kept-requires-clause-left g c = c.moving.invariant.left
+
+pub returns-clause-kept : goal.returns-clause-kept
+returns-clause-kept g c = c.moving.invariant.kept
+
+pub returns-clause-hand : goal.returns-clause-hand
+returns-clause-hand g c = c.release_kept.ensures.hand
+
+pub returns-clause-same : goal.returns-clause-same
+returns-clause-same g c = c.release_kept.ensures.same

@@ -21,3 +21,21 @@ returns-clause-pairs g c =
     let taken = sym c.in-Some.is ∙ c.replace.ensures.value in
     let alike = c.clone_segment-owner.ensures.own.1 ∙ (ap pairs_kept taken ∙ ap pairs_kept c.index_mut.ensures.value) in
     ap (map pairs_kept) written ∙ map-set_same pairs_kept kept c.args.place owner _ alike
+
+pub clone_segment-owner-requires-clause-mine : goal.clone_segment-owner-requires-clause-mine
+clone_segment-owner-requires-clause-mine g c =
+    let IsThere = IsKeptSegment c.args.domain.now.table.shared.table_id in
+    let taken = sym c.in-Some.is ∙ c.replace.ensures.value in
+    subst IsThere (sym (taken ∙ c.index_mut.ensures.value)) (c.requires.kept c.args.place _ c.requires.inside)
+
+pub returns-clause-hand : goal.returns-clause-hand
+returns-clause-hand g c = c.clone_segment-owner.ensures.hand
+
+pub returns-clause-hit : goal.returns-clause-hit
+returns-clause-hit g c = c.clone_segment-owner.ensures.hit
+
+pub returns-clause-missed : goal.returns-clause-missed
+returns-clause-missed g c = c.clone_segment-owner.ensures.missed
+
+pub returns-clause-same : goal.returns-clause-same
+returns-clause-same g c = c.clone_segment-owner.ensures.same

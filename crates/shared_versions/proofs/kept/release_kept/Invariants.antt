@@ -6,7 +6,11 @@ use Rattle.shared_versions.proofs.kept.release_kept.Given as goal
 
 -- the owners that are left are of the place, and the participant is the same
 abbrev pub invariant-releasing : goal.invariant-releasing
-invariant-releasing g l = All (IsLeft (place_of l.fn.domain).0) l.kept.items × (hand_of l.local ≡ hand_of l.fn.local) × IsStill l.fn.local l.local
+invariant-releasing g l = record {
+  kept : All (IsLeft (place_of l.fn.domain).0) l.kept.items;
+  hand : hand_of l.local ≡ hand_of l.fn.local;
+  same : IsStill l.fn.local l.local;
+}
 
 abbrev pub decreases-releasing : goal.decreases-releasing
 decreases-releasing g l = length l.kept.items

@@ -29,3 +29,27 @@ holding-preserved g c =
       room = omega (arith, before.room, ap length fewer, length-append c.pop.new.self.items (owner ∷ []), ap length longer, length-append c.holding.held.items (held ∷ []), c.hold_last.ensures.room);
       same = still c.args.local.now c.holding.local c.hold_last.new.local before.same (but_for_the_hand c.holding.local c.hold_last.new.local c.hold_last.ensures.same);
     }
+
+pub hold_last-requires-clause-home : goal.hold_last-requires-clause-home
+hold_last-requires-clause-home g c = c.holding.invariant.same.0 ∙ c.requires.home
+
+pub hold_last-requires-clause-mine : goal.hold_last-requires-clause-mine
+hold_last-requires-clause-mine g c =
+    let place = c.args.domain.now.table.shared.table_id in
+    let popped = All-pop (IsSegmentOf place) c.holding.owners.items c.pop.new.self.items c.pop.result c.pop.ensures.items c.holding.invariant.owners in
+    (subst (λ r. IfSome r (IsSegmentOf place)) c.in-Some.is popped.1).0
+
+pub hold_last-requires-clause-hand : goal.hold_last-requires-clause-hand
+hold_last-requires-clause-hand g c = c.holding.invariant.hand
+
+pub hold_last-requires-clause-room : goal.hold_last-requires-clause-room
+hold_last-requires-clause-room g c = omega (arith, c.holding.invariant.room, ap length c.in-Some.ensures.items, length-append c.pop.new.self.items (c.in-Some.owner ∷ []))
+
+pub returns-clause-segments : goal.returns-clause-segments
+returns-clause-segments g c = c.holding.invariant.segments
+
+pub returns-clause-hand : goal.returns-clause-hand
+returns-clause-hand g c = c.holding.invariant.hand
+
+pub returns-clause-same : goal.returns-clause-same
+returns-clause-same g c = c.holding.invariant.same

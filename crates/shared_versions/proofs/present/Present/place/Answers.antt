@@ -10,6 +10,7 @@ use Rattle.shared_versions.specs.Sight.{Sight}
 use Rattle.shared_versions.proofs.ApartLemmas.{all_apart}
 use Rattle.shared_versions.proofs.MovingLemmas.{all_new}
 use Rattle.shared_versions.proofs.PresentLemmas.{kept_present, owned_version, placed_present, planned_blocks, planned_whole, taken_there}
+use Rattle.shared_versions.proofs.StillLemmas.{but_for_misses, still_but_misses}
 use Rattle.shared_versions.proofs.present.Present.place.Goals as goal
 
 pub all_owners-all-requires-clause-there : goal.all_owners-all-requires-clause-there
@@ -135,3 +136,34 @@ returns-in-Ok-clause-made g c =
       blocks = ap (λ (v : Sight _ _). v.blocks) (made ∙ sight) ∙ (ap (λ (d : Directory _ _). map owned_pairs d.segments.items) is ∙ (c.hold_all.ensures.pairs ∙ (pairs ∙ planned)));
       separators = ap (λ (v : Sight _ _). v.separators) (made ∙ sight) ∙ (ap (λ (d : Directory _ _). d.separators.items) is ∙ ap (λ (p : SharedPlan _ _). p.separators) plan);
     }
+
+pub hold_all-requires-clause-home : goal.hold_all-requires-clause-home
+hold_all-requires-clause-home g c = c.all_owners-all.ensures.same.0 ∙ c.requires.home
+
+pub place_two-requires-clause-home : goal.place_two-requires-clause-home
+place_two-requires-clause-home g c = c.hold_all.ensures.same.0 ∙ (c.all_owners-all.ensures.same.0 ∙ c.requires.home)
+
+pub let_go-requires-clause-home : goal.let_go-requires-clause-home
+let_go-requires-clause-home g c = c.place_two.ensures.same.0 ∙ (c.hold_all.ensures.same.0 ∙ (c.all_owners-all.ensures.same.0 ∙ c.requires.home))
+
+pub keep_all-requires-clause-home : goal.keep_all-requires-clause-home
+keep_all-requires-clause-home g c = c.let_go.ensures.same.0 ∙ (c.place_two.ensures.same.0 ∙ (c.hold_all.ensures.same.0 ∙ (c.all_owners-all.ensures.same.0 ∙ c.requires.home)))
+
+pub release_new-requires-clause-home : goal.release_new-requires-clause-home
+release_new-requires-clause-home g c = c.place_two.ensures.same.0 ∙ (c.hold_all.ensures.same.0 ∙ (c.all_owners-all.ensures.same.0 ∙ c.requires.home))
+
+pub take_back-requires-clause-home : goal.take_back-requires-clause-home
+take_back-requires-clause-home g c = c.release_new.ensures.same.0 ∙ (c.place_two.ensures.same.0 ∙ (c.hold_all.ensures.same.0 ∙ (c.all_owners-all.ensures.same.0 ∙ c.requires.home)))
+
+pub returns-in-Ok-clause-same : goal.returns-in-Ok-clause-same
+returns-in-Ok-clause-same g c =
+    let old = c.args.local.now in
+    let first = c.all_owners-all.new.local in
+    let second = c.hold_all.new.local in
+    let third = c.place_two.new.local in
+    let fourth = c.let_go.new.local in
+    let last = c.keep_all.new.local in
+    let held = still_but_misses old first second c.all_owners-all.ensures.same (but_for_misses first second c.hold_all.ensures.same) in
+    let placed = still_but_misses old second third held c.place_two.ensures.same in
+    let released = still_but_misses old third fourth placed (but_for_misses third fourth c.let_go.ensures.same) in
+    still_but_misses old fourth last released (but_for_misses fourth last c.keep_all.ensures.same)
