@@ -38,3 +38,6 @@ returns-clause-deferred g c =
     let r = named_idle a c.pop.new.self.items c.in-Some.i c.self.invariant c.in-Some.ensures.items in
     let idle = subst (λ (w : State _). (c.in-Some.i < length w.states) × (status_at w c.in-Some.i ≡ status.Idle)) c.self.view_is r in
     (c.in-Some.i, idle, deferred_view a c.args.p c.in-Some.i c.index_mut-3.result.now c.put.new.self (known_in a c.args.self.now _ c.self.view_is c.requires) c.index_mut-3.ensures.value c.put.ensures.shown ∙ ap (λ (w : State _). waiting_as status.Deferred c.args.p c.in-Some.i w) c.self.view_is)
+
+pub index_mut-requires-3 : goal.index_mut-requires-3
+index_mut-requires-3 g c = omega (arith, known_in c.self.inside c.args.self.now _ c.self.view_is c.requires, c.self.inside.participants.ok.0)

@@ -146,3 +146,6 @@ returns-else-has_item g c =
     let was = waits_job _ d.1 used in
     let read : c.take-value-in-Some.result ≡ get_or c.self.inside.values.items c.in-Some.i c.take-value-in-Some.result = subst (λ (y : Option _). y ≡ get_or c.self.inside.values.items c.in-Some.i y) (sym c.take-value-in-Some.ensures.value) c.index_mut-in-Some-3.ensures.value in
     taken_result c.self.inside c.args.self.now c.args.p c.in-Some.i s.0 c.index_mut.result.now c.next.new.self c.take-value-in-Some.result c.take-value-in-Some.new.self status.Idle c.self.inside.used c.self.inside.free c.keep_name-in-Some.new.stack c.self.view_is c.self.invariant known c.index_mut.ensures.value s.1 s.2 d.0 (sym (ap vacated was)) read c.take-value-in-Some.ensures.after
+
+pub index_mut-requires : goal.index_mut-requires
+index_mut-requires g c = omega (arith, known_in c.self.inside c.args.self.now _ c.self.view_is c.requires.participant, c.self.inside.participants.ok.0)

@@ -12,3 +12,6 @@ pub returns : goal.returns
 returns g c =
     let known = known_in c.self.inside c.args.self.now _ c.self.view_is c.requires.participant in
     changed_view c.self.inside c.args.p bags_moved_on c.index_mut.result.now _ known c.index_mut.ensures.value c.turn.ensures.shown ∙ ap (λ w. changing c.args.p bags_moved_on w) c.self.view_is
+
+pub index_mut-requires : goal.index_mut-requires
+index_mut-requires g c = omega (arith, known_in c.self.inside c.args.self.now _ c.self.view_is c.requires.participant, c.self.inside.participants.ok.0)

@@ -18,3 +18,6 @@ pub returns : goal.returns
 returns g c =
     let known = known_in c.self.inside c.args.self.now _ c.self.view_is c.requires in
     changed_view c.self.inside c.args.p recalled c.index_mut.result.now _ known c.index_mut.ensures.value c.unretire.ensures.shown ∙ ap (λ w. changing c.args.p recalled w) c.self.view_is
+
+pub index_mut-requires : goal.index_mut-requires
+index_mut-requires g c = omega (arith, known_in c.self.inside c.args.self.now _ c.self.view_is c.requires, c.self.inside.participants.ok.0)
