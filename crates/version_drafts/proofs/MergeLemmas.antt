@@ -140,6 +140,10 @@ module _ {K V X : Type 0} (cmp : K → K → Ordering) where
   never_reached cs [] e h = let none = h.last in cc
   never_reached cs (p ∷ ps) e h = cc
 
+  pub none_reach : (cs : List (K × X)) (ps : List (K × V)) → cs ≡ [] → IsReachedBy cmp cs ps → ⊥
+  none_reach [] ps e h = let none = h.first in cc
+  none_reach (c ∷ cs) ps e h = cc
+
 -- ---- how many trees are made
 
 module _ {K V N : Type 0} (s : ℕ) where
@@ -155,6 +159,10 @@ module _ {K V N : Type 0} (s : ℕ) where
 
   pub filled_none : (a b : ℕ) (c : SegmentBuilder K V N) → b ≤ a → GivesNoMoreThanRead s a b c c
   filled_none a b c le = record { spent = omega (arith, le); some = λ h. h; none = λ e. refl }
+
+  -- a pair was given, and as much or more was passed
+  pub filled_one : (a b : ℕ) (c c' : SegmentBuilder K V N) → b + 1 ≤ a → GivesNoMoreThanRead s 1 0 c c' → GivesNoMoreThanRead s a b c c'
+  filled_one a b c c' less f = let spent = f.spent in record { spent = omega (arith, spent, less); some = f.some; none = f.none }
 
 -- so many full trees and a pair more have no more pairs than full trees and some pairs
 upto_full : (s a b j : ℕ) → 1 ≤ s → s * a + 1 ≤ s * b + j → a + 1 ≤ b + j

@@ -4,7 +4,8 @@ use Rattle.version_drafts.specs.Changes.{apply_delta, changed}
 use Rattle.version_views.specs.Cuts.{pairs_in}
 use Rattle.version_drafts.specs.declared.changes.Changes.{Changes}
 use Rattle.version_drafts.specs.Gone.{is_gone, without_gone}
-use Rattle.version_views.specs.Writes.{after_write}
+use Rattle.version_views.specs.Writes.{after_write, reply_to}
+use Rattle.version_views.specs.declared.write.Reply.TheVariants as replies
 use Rattle.version_views.proofs.FilterLemmas.{rising_kept}
 use Rattle.version_drafts.proofs.DeltaLemmas.{noted, noted_few, noted_none, removed_absent, all_cleared}
 use Rattle.version_drafts.proofs.changes.apply.Goals as goal
@@ -64,3 +65,98 @@ returns-in_ok-note-in-Upsert-clause-few g c = let few = noted_few g.met.K.Ord.to
 
 pub returns-in_ok-note-in-Remove-clause-few : goal.returns-in_ok-note-in-Remove-clause-few
 returns-in_ok-note-in-Remove-clause-few g c = let few = noted_few g.met.K.Ord.total c.in-Remove.key None c.args.changes.now.edits.pairs in let noted' = ap length c.in_ok-note-in-Remove.ensures.noted in omega (arith, few, noted')
+
+pub note-requires : goal.note-requires
+note-requires g c = c.requires.keys
+
+pub note-requires-in-Upsert : goal.note-requires-in-Upsert
+note-requires-in-Upsert g c = c.requires.keys
+
+pub note-requires-in-Remove : goal.note-requires-in-Remove
+note-requires-in-Remove g c = c.requires.keys
+
+pub remove_range-requires-clause-keys : goal.remove_range-requires-clause-keys
+remove_range-requires-clause-keys g c = c.requires.keys
+
+pub remove_range-requires-clause-ordered : goal.remove_range-requires-clause-ordered
+remove_range-requires-clause-ordered g c = c.requires.ordered
+
+pub remove_range-requires-in-Clear-clause-keys : goal.remove_range-requires-in-Clear-clause-keys
+remove_range-requires-in-Clear-clause-keys g c = c.requires.keys
+
+pub remove_range-requires-in-Clear-clause-ordered : goal.remove_range-requires-in-Clear-clause-ordered
+remove_range-requires-in-Clear-clause-ordered g c = c.requires.ordered
+
+pub remove_range-requires-clause-spans : goal.remove_range-requires-clause-spans
+remove_range-requires-clause-spans g c = c.requires.spans
+
+pub returns-then-has-clause-few : goal.returns-then-has-clause-few
+returns-then-has-clause-few g c = omega arith
+
+pub returns-then-has-clause-spans : goal.returns-then-has-clause-spans
+returns-then-has-clause-spans g c = c.requires.spans
+
+pub returns-then-not-has-clause-few : goal.returns-then-not-has-clause-few
+returns-then-not-has-clause-few g c = omega arith
+
+pub returns-then-not-has-clause-spans : goal.returns-then-not-has-clause-spans
+returns-then-not-has-clause-spans g c = c.requires.spans
+
+pub returns-in_ok-note-in-Insert-clause-spans : goal.returns-in_ok-note-in-Insert-clause-spans
+returns-in_ok-note-in-Insert-clause-spans g c = c.requires.spans
+
+pub returns-in_ok-note-in-Upsert-clause-spans : goal.returns-in_ok-note-in-Upsert-clause-spans
+returns-in_ok-note-in-Upsert-clause-spans g c = c.requires.spans
+
+pub returns-in_ok-note-in-Remove-clause-spans : goal.returns-in_ok-note-in-Remove-clause-spans
+returns-in_ok-note-in-Remove-clause-spans g c = c.requires.spans
+
+pub returns-in_ok-remove_range-in-RemoveRange-clause-few : goal.returns-in_ok-remove_range-in-RemoveRange-clause-few
+returns-in_ok-remove_range-in-RemoveRange-clause-few g c = c.in_ok-remove_range-in-RemoveRange.ensures.few
+
+pub returns-in_ok-remove_range-in-RemoveRange-clause-spans : goal.returns-in_ok-remove_range-in-RemoveRange-clause-spans
+returns-in_ok-remove_range-in-RemoveRange-clause-spans g c = c.in_ok-remove_range-in-RemoveRange.ensures.spans
+
+pub returns-in_ok-remove_range-in-Clear-clause-spans : goal.returns-in_ok-remove_range-in-Clear-clause-spans
+returns-in_ok-remove_range-in-Clear-clause-spans g c = c.in_ok-remove_range-in-Clear.ensures.spans
+
+pub returns-then-has-clause-reply : goal.returns-then-has-clause-reply
+returns-then-has-clause-reply g c =
+    let now = changed g.K.Ord.cmp c.args.changes.now (pairs_in (g.O.BaseVersion.blocks c.args.old.now)) in
+    sym (ap (λ w. reply_to g.K.Ord.cmp w now) c.in-Insert.is ∙ ap (λ b. cond b replies.Duplicate replies.Inserted) (sym c.if-has.ensures))
+
+pub returns-in_ok-note-in-Insert-clause-reply : goal.returns-in_ok-note-in-Insert-clause-reply
+returns-in_ok-note-in-Insert-clause-reply g c =
+    let now = changed g.K.Ord.cmp c.args.changes.now (pairs_in (g.O.BaseVersion.blocks c.args.old.now)) in
+    sym (ap (λ w. reply_to g.K.Ord.cmp w now) c.in-Insert.is ∙ ap (λ b. cond b replies.Duplicate replies.Inserted) (sym c.if-has.ensures))
+
+pub returns-then-not-has-clause-reply : goal.returns-then-not-has-clause-reply
+returns-then-not-has-clause-reply g c =
+    let now = changed g.K.Ord.cmp c.args.changes.now (pairs_in (g.O.BaseVersion.blocks c.args.old.now)) in
+    sym (ap (λ w. reply_to g.K.Ord.cmp w now) c.in-Remove.is ∙ ap (λ b. cond b replies.Removed replies.Absent) (sym c.if-not-has.ensures))
+
+pub returns-in_ok-note-in-Remove-clause-reply : goal.returns-in_ok-note-in-Remove-clause-reply
+returns-in_ok-note-in-Remove-clause-reply g c =
+    let now = changed g.K.Ord.cmp c.args.changes.now (pairs_in (g.O.BaseVersion.blocks c.args.old.now)) in
+    sym (ap (λ w. reply_to g.K.Ord.cmp w now) c.in-Remove.is ∙ ap (λ b. cond b replies.Removed replies.Absent) (sym c.if-not-has.ensures))
+
+pub returns-in_ok-note-in-Upsert-clause-reply : goal.returns-in_ok-note-in-Upsert-clause-reply
+returns-in_ok-note-in-Upsert-clause-reply g c =
+    let now = changed g.K.Ord.cmp c.args.changes.now (pairs_in (g.O.BaseVersion.blocks c.args.old.now)) in
+    sym (ap (λ w. reply_to g.K.Ord.cmp w now) c.in-Upsert.is)
+
+pub returns-in_ok-remove_range-in-RemoveRange-clause-reply : goal.returns-in_ok-remove_range-in-RemoveRange-clause-reply
+returns-in_ok-remove_range-in-RemoveRange-clause-reply g c =
+    let now = changed g.K.Ord.cmp c.args.changes.now (pairs_in (g.O.BaseVersion.blocks c.args.old.now)) in
+    sym (ap (λ w. reply_to g.K.Ord.cmp w now) c.in-RemoveRange.is)
+
+pub returns-in_ok-remove_range-in-Clear-clause-reply : goal.returns-in_ok-remove_range-in-Clear-clause-reply
+returns-in_ok-remove_range-in-Clear-clause-reply g c =
+    let now = changed g.K.Ord.cmp c.args.changes.now (pairs_in (g.O.BaseVersion.blocks c.args.old.now)) in
+    sym (ap (λ w. reply_to g.K.Ord.cmp w now) c.in-Clear.is)
+
+pub returns-then-has-clause-list : goal.returns-then-has-clause-list
+returns-then-has-clause-list g c =
+    let cmp = g.K.Ord.cmp in
+    let now = changed cmp c.args.changes.now (pairs_in (g.O.BaseVersion.blocks c.args.old.now)) in
+    sym (ap (λ w. after_write cmp w now) c.in-Insert.is ∙ ap (λ b. cond b now (upserted cmp c.in-Insert.key c.in-Insert.value now)) (sym c.if-has.ensures))

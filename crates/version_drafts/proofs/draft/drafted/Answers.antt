@@ -69,3 +69,30 @@ returns-clause-replies g c =
     let told = c.loop-write.replies.items in
     let all : length c.args.writes.now ≤ c.loop-write.write-index = omega (arith, c.loop-write-test.false) in
     sym (ap (λ ws. told ++ replies_to cmp ws now) (drop_out c.loop-write.write-index c.args.writes.now all) ∙ append-nil told) ∙ c.loop-write.invariant.replies
+
+pub apply-requires-clause-keys : goal.apply-requires-clause-keys
+apply-requires-clause-keys g c = c.requires.keys
+
+pub apply-requires-clause-spans : goal.apply-requires-clause-spans
+apply-requires-clause-spans g c = c.loop-write.invariant.spans
+
+pub merged-requires-clause-size : goal.merged-requires-clause-size
+merged-requires-clause-size g c = c.requires.size
+
+pub merged-requires-clause-keys : goal.merged-requires-clause-keys
+merged-requires-clause-keys g c = c.requires.keys
+
+pub merged-requires-clause-values : goal.merged-requires-clause-values
+merged-requires-clause-values g c = c.requires.values
+
+pub merged-requires-clause-whole : goal.merged-requires-clause-whole
+merged-requires-clause-whole g c = c.requires.whole
+
+pub merged-requires-clause-spans : goal.merged-requires-clause-spans
+merged-requires-clause-spans g c = c.loop-write.invariant.spans
+
+pub returns-clause-cut : goal.returns-clause-cut
+returns-clause-cut g c = c.in_ok-segments.ensures.cut
+
+pub returns-clause-length : goal.returns-clause-length
+returns-clause-length g c = c.in_ok-segments.ensures.length

@@ -1,10 +1,11 @@
 use Rattle.std.proofs.Common.{◌≡◌, ◌*◌, ◌++◌, Bool, false, not, drop, length, sym, ap, ◌∙◌, subst, arith}
 use Rattle.std.proofs.lemmas.Bool.{false≢true}
 use Rattle.leaf_array.specs.Pairs.{IsAscending}
+use Rattle.std.specs.List.{All}
 use Rattle.version_drafts.specs.Changes.{ahead, apply_delta, named_by}
 use Rattle.version_views.specs.Cuts.{pairs_in}
 use Rattle.version_drafts.specs.Cutting.{IsThrifty, given_pairs}
-use Rattle.version_drafts.specs.Gone.{is_gone, without_gone}
+use Rattle.version_drafts.specs.Gone.{IsSpan, is_gone, without_gone}
 use Rattle.version_drafts.proofs.DeltaLemmas.{rising_amended}
 use Rattle.version_views.proofs.FilterLemmas.{rising_kept}
 use Rattle.version_drafts.proofs.GapLemmas.{turns_gone}
@@ -91,3 +92,48 @@ returns-clause-few g c =
     let all = i.thrifty.1.all in
     let made = c.in_ok-segments.ensures.made in
     omega (arith, up, all, made)
+
+pub begun-requires : goal.begun-requires
+begun-requires g c = c.requires.size
+
+pub pass-requires-clause-keys : goal.pass-requires-clause-keys
+pass-requires-clause-keys g c = c.requires.keys
+
+pub pass-requires-clause-values : goal.pass-requires-clause-values
+pass-requires-clause-values g c = c.requires.values
+
+pub pass-requires-clause-old : goal.pass-requires-clause-old
+pass-requires-clause-old g c = c.requires.whole
+
+pub pass-requires-clause-spans : goal.pass-requires-clause-spans
+pass-requires-clause-spans g c = subst (All (IsSpan g.K.Ord.cmp (g.O.BaseVersion.blocks c.args.old.now))) (sym c.deref.ensures.value) c.requires.spans
+
+pub pass-requires-clause-within : goal.pass-requires-clause-within
+pass-requires-clause-within g c = omega (arith, c.count-count.ensures, c.loop-place-test.true)
+
+pub pass-requires-clause-whole : goal.pass-requires-clause-whole
+pass-requires-clause-whole g c = c.loop-place.invariant.whole
+
+pub loop-place-smaller : goal.loop-place-smaller
+loop-place-smaller g c = omega (arith, c.loop-place-test.true, c.in_ok-place.ensures.behind)
+
+pub put_all-requires-clause-keys : goal.put_all-requires-clause-keys
+put_all-requires-clause-keys g c = c.requires.keys
+
+pub put_all-requires-clause-values : goal.put_all-requires-clause-values
+put_all-requires-clause-values g c = c.requires.values
+
+pub finish-requires-clause-keys : goal.finish-requires-clause-keys
+finish-requires-clause-keys g c = c.requires.keys
+
+pub finish-requires-clause-values : goal.finish-requires-clause-values
+finish-requires-clause-values g c = c.requires.values
+
+pub finish-requires-clause-whole : goal.finish-requires-clause-whole
+finish-requires-clause-whole g c = c.in_ok-put_all.ensures.whole
+
+pub returns-clause-cut : goal.returns-clause-cut
+returns-clause-cut g c = c.in_ok-segments.ensures.cut
+
+pub returns-clause-length : goal.returns-clause-length
+returns-clause-length g c = c.in_ok-segments.ensures.length

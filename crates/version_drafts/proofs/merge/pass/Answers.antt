@@ -203,3 +203,102 @@ returns-clause-thrifty g c = λ budget last t.
         behind = λ e z. absurd (false≢true e);
       },
     )
+
+pub returns-then-covers-clause-behind : goal.returns-then-covers-clause-behind
+returns-then-covers-clause-behind g c = omega arith
+
+pub returns-then-covers-clause-whole : goal.returns-then-covers-clause-whole
+returns-then-covers-clause-whole g c = c.requires.whole
+
+pub touches-requires-clause-old : goal.touches-requires-clause-old
+touches-requires-clause-old g c = c.requires.old
+
+pub touches-requires-clause-spans : goal.touches-requires-clause-spans
+touches-requires-clause-spans g c = c.requires.spans
+
+pub touches-requires-clause-within : goal.touches-requires-clause-within
+touches-requires-clause-within g c = c.requires.within
+
+pub merge_segment-requires-clause-keys : goal.merge_segment-requires-clause-keys
+merge_segment-requires-clause-keys g c = c.requires.keys
+
+pub merge_segment-requires-clause-values : goal.merge_segment-requires-clause-values
+merge_segment-requires-clause-values g c = c.requires.values
+
+pub merge_segment-requires-clause-old : goal.merge_segment-requires-clause-old
+merge_segment-requires-clause-old g c = c.requires.old
+
+pub merge_segment-requires-clause-within : goal.merge_segment-requires-clause-within
+merge_segment-requires-clause-within g c = c.requires.within
+
+pub merge_segment-requires-clause-whole : goal.merge_segment-requires-clause-whole
+merge_segment-requires-clause-whole g c = c.requires.whole
+
+pub merge_segment-requires-clause-rising : goal.merge_segment-requires-clause-rising
+merge_segment-requires-clause-rising g c = c.requires.rising
+
+pub merge_segment-requires-then-joins-clause-keys : goal.merge_segment-requires-then-joins-clause-keys
+merge_segment-requires-then-joins-clause-keys g c = c.requires.keys
+
+pub merge_segment-requires-then-joins-clause-values : goal.merge_segment-requires-then-joins-clause-values
+merge_segment-requires-then-joins-clause-values g c = c.requires.values
+
+pub merge_segment-requires-then-joins-clause-old : goal.merge_segment-requires-then-joins-clause-old
+merge_segment-requires-then-joins-clause-old g c = c.requires.old
+
+pub merge_segment-requires-then-joins-clause-within : goal.merge_segment-requires-then-joins-clause-within
+merge_segment-requires-then-joins-clause-within g c = c.requires.within
+
+pub merge_segment-requires-then-joins-clause-whole : goal.merge_segment-requires-then-joins-clause-whole
+merge_segment-requires-then-joins-clause-whole g c = c.requires.whole
+
+pub merge_segment-requires-then-joins-clause-rising : goal.merge_segment-requires-then-joins-clause-rising
+merge_segment-requires-then-joins-clause-rising g c = c.requires.rising
+
+pub returns-then-touches-clause-behind : goal.returns-then-touches-clause-behind
+returns-then-touches-clause-behind g c = omega arith
+
+pub returns-then-touches-clause-whole : goal.returns-then-touches-clause-whole
+returns-then-touches-clause-whole g c = c.in_ok-merge_segment.ensures.whole
+
+pub returns-then-touches-clause-list : goal.returns-then-touches-clause-list
+returns-then-touches-clause-list g c = c.in_ok-merge_segment.ensures.list
+
+pub returns-then-joins-clause-behind : goal.returns-then-joins-clause-behind
+returns-then-joins-clause-behind g c = omega arith
+
+pub returns-then-joins-clause-whole : goal.returns-then-joins-clause-whole
+returns-then-joins-clause-whole g c = c.in_ok-merge_segment-2.ensures.whole
+
+pub returns-then-joins-clause-list : goal.returns-then-joins-clause-list
+returns-then-joins-clause-list g c = c.in_ok-merge_segment-2.ensures.list
+
+pub stretch_end-end-requires-clause-spans : goal.stretch_end-end-requires-clause-spans
+stretch_end-end-requires-clause-spans g c = c.requires.spans
+
+pub stretch_end-end-requires-clause-within : goal.stretch_end-end-requires-clause-within
+stretch_end-end-requires-clause-within g c = omega (arith, c.requires.within)
+
+pub take_stretch-requires-clause-keys : goal.take_stretch-requires-clause-keys
+take_stretch-requires-clause-keys g c = c.requires.keys
+
+pub take_stretch-requires-clause-values : goal.take_stretch-requires-clause-values
+take_stretch-requires-clause-values g c = c.requires.values
+
+pub take_stretch-requires-clause-old : goal.take_stretch-requires-clause-old
+take_stretch-requires-clause-old g c = c.requires.old
+
+pub take_stretch-requires-clause-whole : goal.take_stretch-requires-clause-whole
+take_stretch-requires-clause-whole g c = c.requires.whole
+
+pub take_stretch-requires-clause-some : goal.take_stretch-requires-clause-some
+take_stretch-requires-clause-some g c = omega (arith, c.stretch_end-end.ensures.from)
+
+pub take_stretch-requires-clause-within : goal.take_stretch-requires-clause-within
+take_stretch-requires-clause-within g c = c.stretch_end-end.ensures.within
+
+pub returns-clause-behind : goal.returns-clause-behind
+returns-clause-behind g c = omega (arith, c.stretch_end-end.ensures.from)
+
+pub returns-clause-whole : goal.returns-clause-whole
+returns-clause-whole g c = c.in_ok-take_stretch.ensures.whole

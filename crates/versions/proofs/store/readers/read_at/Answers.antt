@@ -1,7 +1,22 @@
-use Rattle.std.proofs.Common.{ap, ◌∙◌, arith}
-use Rattle.versions.specs.Store.{Version}
+use Rattle.std.proofs.Common.{Some, sym, ap, ◌∙◌, arith}
+use Rattle.version_views.proofs.OptionLemmas.{mapped_some, read_there}
+use Rattle.versions.specs.Store.{Version, read_by}
 use Rattle.versions.proofs.StoreLemmas.{reader_known}
 use Rattle.versions.proofs.store.readers.read_at.Goals as goal
+
+pub bounds-readers-place : goal.bounds-readers-place
+bounds-readers-place g c =
+    let r = mapped_some (read_by c.args.w.now) c.args.readers.now c.args.place c.requires.reader.0 c.requires.reader.1 in
+    (read_there c.args.readers.now c.args.place (Some r.0) r.1).0
+
+pub unreachable-requires : goal.unreachable-requires
+unreachable-requires g c =
+    let r = mapped_some (read_by c.args.w.now) c.args.readers.now c.args.place c.requires.reader.0 c.requires.reader.1 in
+    let none = sym (read_there c.args.readers.now c.args.place (Some r.0) r.1).1 ∙ c.in-None.is in
+    cc
+
+pub returns-clause-version : goal.returns-clause-version
+returns-clause-version g c = c.seen.ensures.version
 
 pub seen-requires : goal.seen-requires
 seen-requires g c =

@@ -1,13 +1,30 @@
-use Rattle.std.proofs.Common.{◌≡◌, ℕ, refl, ap, ◌∙◌, arith, true}
+use Rattle.std.proofs.Common.{◌≡◌, ℕ, ◌<◌, refl, sym, ap, ◌∙◌, subst, arith, true}
 use Rattle.sdd_base.specs.Passing.{accelerated, passed_times}
 use Rattle.sdd_base.specs.State.{State, local_at, with_local}
 use Rattle.sdd_base.specs.Steps.{guard_closed}
+use Rattle.sdd_base.specs.Tokens.{guard_participant}
 use Rattle.version_views.specs.Items.{held_by}
 use Rattle.versions.proofs.PassLemmas.{passing_closed, passing_known, passing_next}
 use Rattle.versions.proofs.store.reclaiming.run_passes.Goals as goal
 
 pub new-requires : goal.new-requires
 new-requires g c = passing_known g.K.Ord.cmp c.loop.counter c.args.w.now c.loop.w c.requires.0 c.args.writer c.requires.1 c.requires.2 c.requires.3 c.loop.invariant
+
+pub accelerate-requires : goal.accelerate-requires
+accelerate-requires g c =
+    let known = passing_known g.K.Ord.cmp c.loop.counter c.args.w.now c.loop.w c.requires.0 c.args.writer c.requires.1 c.requires.2 c.requires.3 c.loop.invariant in
+    omega (arith, known, c.in-Ok.ensures.opened.0, c.in-Ok.ensures.keeps.participants)
+
+pub close-requires-clause-participant : goal.close-requires-clause-participant
+close-requires-clause-participant g c =
+    let known = passing_known g.K.Ord.cmp c.loop.counter c.args.w.now c.loop.w c.requires.0 c.args.writer c.requires.1 c.requires.2 c.requires.3 c.loop.invariant in
+    omega (arith, known, c.in-Ok.ensures.opened.0, c.in-Ok.ensures.keeps.participants, c.accelerate.ensures.keeps.participants)
+
+pub close-requires-clause-open : goal.close-requires-clause-open
+close-requires-clause-open g c =
+    let own = c.in-Ok.ensures.opened.0 in
+    let open' = subst (λ (q : ℕ). 0 < (local_at c.new.new.w q).nesting) (sym own) c.in-Ok.ensures.open in
+    omega (arith, open', c.accelerate.ensures.nests (guard_participant c.in-Ok.guard))
 
 pub unreachable-requires : goal.unreachable-requires
 unreachable-requires g c =

@@ -1,13 +1,21 @@
-use Rattle.std.proofs.Common.{◌≡◌, ℕ, None, inl, inr, sym, ap, ◌∙◌, subst, arith}
+use Rattle.std.proofs.Common.{◌≡◌, ℕ, [], None, inl, inr, sym, ap, ◌∙◌, subst, arith}
 use Rattle.std.specs.List.{All}
+use Rattle.sdd_base.proofs.CountLemmas.{owners_are_counted}
 use Rattle.sdd_base.specs.Steps.{shared_ended}
 use Rattle.sdd_base.specs.Tokens.{shared_cell}
 use Rattle.versions.proofs.SweepLemmas.{sweeps_leave_none}
 use Rattle.versions.specs.Store.{Store, read_by}
+use Rattle.version_views.specs.Items.{held_by}
 use Rattle.version_views.proofs.OptionLemmas.{all_none}
 use Rattle.versions.proofs.PassLemmas.{none_reads}
 use Rattle.versions.proofs.PublishLemmas.{root_retired}
 use Rattle.versions.proofs.store.local.LocalStore.end.Goals as goal
+
+pub retire-requires-clause-participant : goal.retire-requires-clause-participant
+retire-requires-clause-participant g c = omega (arith, c.len.ensures, c.self.inside.readers.ok.0, c.self.invariant.0.participants)
+
+pub retire-requires-clause-cell : goal.retire-requires-clause-cell
+retire-requires-clause-cell g c = (owners_are_counted held_by).cell_in_hand (shared_cell c.self.inside.root) [] c.self.inside.world c.self.invariant.0.counted
 
 pub end_all-requires : goal.end_all-requires
 end_all-requires g c = (omega arith, all_none (read_by c.self.inside.world) c.self.inside.readers.items (subst (λ (x : Store _ _). All (λ r. r ≡ None) x.readers) (sym c.self.view_is) c.requires))
