@@ -1,7 +1,9 @@
 -- What a desk keeps, and runs of calls.
-use Rattle.std.proofs.Common.{◌≡◌, ◌≢◌, ℕ, ◌<◌, ◌≤◌, zero, suc, List, [], ◌∷◌, ◌++◌, length, take, set, refl, sym, ap, ◌∙◌, subst, arith, Option, Some, None, IfSome, MatchOption, slice_get, ◌⊎◌, inl, inr, ⊎_elim, length-append}
+use Rattle.std.proofs.Common.{◌≡◌, ◌≢◌, ℕ, ◌<◌, ◌≤◌, zero, suc, List, [], ◌∷◌, ◌++◌, length, take, set, refl, sym, ap, ◌∙◌, subst, arith, Option, Some, None, IfNone, IfSome, MatchOption, slice_get, ◌⊎◌, inl, inr, ⊎_elim, length-append}
 use Rattle.std.proofs.lemmas.List.{length-set, set-set, take_at}
 use Rattle.std.proofs.lemmas.Option.{slice_get_cases, slice_get_within}
+use Rattle.std.specs.Borrow.{Bor}
+use Rattle.std.specs.Option.{option_copied}
 use Rattle.std.specs.declared.cmp.Ordering.{Ordering}
 use Rattle.std.specs.Prelude.{Result, Ok, Err, IfOk, OnErr}
 use Rattle.std.specs.declared.alloc.AllocError.{AllocError}
@@ -54,6 +56,20 @@ get-front (y ∷ xs) ys (suc i) x h = get-front xs ys i x h
 get-end : {X : Type 0} (xs : List X) (x : X) → slice_get (xs ++ x ∷ []) (length xs) ≡ Some x
 get-end [] x = refl
 get-end (y ∷ xs) x = get-end xs x
+
+-- what holds whatever the answer is
+pub if_err : {X E P : Type 0} (r : Result X E) → P → OnErr r P
+if_err (Ok x) p = tt
+if_err (Err e) p = p
+
+-- what is lent is what there is
+pub lent_is : {X : Type 0} (P : X → Type 0) (r : Option (Bor X)) (x : X) → option_copied r ≡ Some x → P x → IfSome r (λ b. P b.now)
+lent_is P None x e p = tt
+lent_is P (Some b) x e p = let same : b.now ≡ x = cc in subst P (sym same) p
+
+pub lent_some : {X : Type 0} (P : Type 0) (r : Option (Bor X)) (x : X) → option_copied r ≡ Some x → IfNone r P
+lent_some P None x e = absurd cc
+lent_some P (Some b) x e = tt
 
 module _ {K V : Type 0} where
   kept-room : (old new : State K V) (desk : List (Option (Seat K V))) (place : ℕ) (p : Option ℕ) (s : Option (Seat K V)) → Serves (record { index = old; desk = desk }) → new ≡ record old { places = set old.places place p } → length new.places ≤ length (set desk place s)

@@ -1,17 +1,17 @@
 -- The versions of an index have the lists of their numbers, and each call keeps it an index.
-use Rattle.std.proofs.Common.{length-append, ◌≡◌, ℕ, ◌+◌, ◌-◌, ◌≤◌, List, [], ◌∷◌, ◌++◌, length, take, drop, get_or, map, set, sym, ap, ◌∙◌, subst, arith, Option, Some, None, IfSome, ⊎_elim}
+use Rattle.std.proofs.Common.{length-append, ◌≡◌, ℕ, ◌+◌, ◌-◌, ◌≤◌, List, [], ◌∷◌, ◌++◌, length, take, drop, get_or, map, replicate, set, refl, sym, ap, ◌∙◌, subst, arith, Option, Some, None, IfSome, ⊎_elim}
 use Rattle.std.specs.declared.cmp.Ordering.{Ordering}
 use Rattle.std.specs.List.{All, slice_get}
 use Rattle.std.specs.Option.{option_map, unwrap_or}
 use Rattle.std.proofs.lemmas.List.{map-set}
-use Rattle.std.proofs.lemmas.List.Elements.{All-set}
+use Rattle.std.proofs.lemmas.List.Elements.{All-replicate, All-set}
 use Rattle.std.proofs.lemmas.Option.{slice_get_within, unwrap_or-slice_get}
 use Rattle.std.proofs.Math.Seq.{take-length}
 use Rattle.version_views.specs.Writes.{after_writes, replies_to}
 use Rattle.ordered_index.specs.Invariant.{IsIndex, IsOf, index_state}
 use Rattle.version_views.proofs.OptionLemmas.{mapped_some}
 use Rattle.ordered_index.specs.State.{State, present, list_at, MayAccept}
-use Rattle.versions.specs.Store.{IsKeptHere, Store, Version}
+use Rattle.versions.specs.Store.{IsKeptHere, Store, Version, no_version}
 use Rattle.serial_history.specs.Serial.{after_all, IsValid}
 use Rattle.serial_history.specs.declared.transaction.Transaction.{Transaction}
 use Rattle.serial_history.proofs.ReplayLemmas.{after_between}
@@ -120,6 +120,24 @@ module _ {K V : Type 0} (cmp : K → K → Ordering) where
   -- what an index shows of a place that is written
   pub sets_shows : (store : Store K V) (history : List (Transaction K V)) (last place : ℕ) (r : Option (Version K V)) → index_state (record store { readers = set store.readers place r }) history last ≡ record (index_state store history last) { places = set (map (option_map (λ (v : Version K V). v.number)) store.readers) place (option_map (λ (v : Version K V). v.number) r) }
   sets_shows store history last place r = ap (λ (ps : List (Option ℕ)). record (index_state store history last) { places = ps }) (map-set (option_map (λ (v : Version K V). v.number)) store.readers place r)
+
+  -- and when a transaction is added, and its version is published
+  pub append_shows : (store store' : Store K V) (history ts : List (Transaction K V)) (last used : ℕ) (v : Version K V) (t u : Transaction K V) (value : State K V) → store' ≡ record store { present = v; used = used } → ts ≡ history ++ t ∷ [] → t ≡ u → index_state store history last ≡ value → index_state store' ts last ≡ record value { history = value.history ++ u ∷ []; used = used }
+  append_shows store store' history ts last used v t u value stored longer same view =
+      ap (λ (x : Store K V). index_state x ts last) stored ∙ ap (λ (hs : List (Transaction K V)). record (index_state store hs last) { used = used }) longer
+      ∙ ap (λ (x : Transaction K V). record (index_state store (history ++ x ∷ []) last) { used = used }) same
+      ∙ ap (λ (x : State K V). record x { history = x.history ++ u ∷ []; used = used }) view
+
+  -- an index without transactions, of a store with the empty version alone
+  pub kept_new : (width places slots used raises last : ℕ) → 1 ≤ width → width ≤ 225 → IsIndex {V = V} cmp width (record { present = no_version; readers = replicate places None; slots = slots; used = used; raises = raises }) [] last
+  kept_new width places slots used raises last some fits = record {
+    some_pair = some;
+    segment_fits = fits;
+    serial = tt;
+    numbered = omega arith;
+    present = refl;
+    readers = All-replicate (λ r. IfSome r (IsOf cmp [])) places None tt;
+  }
 
 module _ {K V : Type 0} (cmp : K → K → Ordering) {width last : ℕ} {store : Store K V} {history : List (Transaction K V)} (kept : IsIndex cmp width store history last) where
   -- the transactions since a version that is kept lead from its list to that of a later number

@@ -31,3 +31,5 @@ pub mod PushLemmas
 pub mod DepthLemmas
 pub mod LeafArenaLemmas
 pub mod StandingLemmas
+pub mod LastLemmas
+pub mod RoomierLemmas

@@ -1,5 +1,5 @@
-use Rattle.std.proofs.Common.{refl, ◌++◌, ◌∷◌, [], List, ap, ◌∙◌, subst}
-use Rattle.ordered_index.specs.State.{State, Refuses, transaction_of}
+use Rattle.std.proofs.Common.{refl, ◌++◌, ◌∷◌, [], List, sym, ap, ◌∙◌, lit<, subst, arith}
+use Rattle.ordered_index.specs.State.{MayAccept, State, Refuses, transaction_of}
 use Rattle.ordered_index.proofs.index.LocalIndex.commit.Goals as goal
 
 pub returns-in-Some-clause-commits : goal.returns-in-Some-clause-commits
@@ -30,3 +30,29 @@ returns-in-Ok-install-clause-commits g c =
 pub returns-in-Err-clause-commits : goal.returns-in-Err-clause-commits
 returns-in-Err-clause-commits g c =
     subst (λ (rs : List _). Refuses g.K.Ord.cmp g.row.S c.args.self.now rs c.args.writes.items c.in-Err.refused c.install.new.self) (c.in-Ok.ensures.reads ∙ c.as_slice-reads.ensures) c.in-Err.ensures.refused
+
+pub next_number-number-requires : goal.next_number-number-requires
+next_number-number-requires g c = (lit< tt, c.in_default.ensures.none.not_last)
+
+pub prepare-requires : goal.prepare-requires
+prepare-requires g c = record { keys = c.requires.keys; values = c.requires.values }
+
+pub install-requires : goal.install-requires
+install-requires g c =
+    let accepted = subst (λ (rs : List _). MayAccept g.K.Ord.cmp c.args.self.now rs) (sym c.in-Ok.ensures.reads) c.in_default.ensures.none in
+    (lit< tt, (c.requires.keys, (c.requires.values, (c.in-Ok.ensures.empty, (omega (arith, c.in-Ok.ensures.room, c.len.ensures, c.args.writes.ok.0), accepted)))))
+
+pub returns-in-Some-clause-short : goal.returns-in-Some-clause-short
+returns-in-Some-clause-short g c = λ e. absurd (c.in-Some.ensures.early e)
+
+pub returns-in-Ok-install-clause-sessions : goal.returns-in-Ok-install-clause-sessions
+returns-in-Ok-install-clause-sessions g c = ap (λ (x : State _ _). x.places) c.in-Ok-install.ensures.ok
+
+pub returns-in-Ok-install-clause-few : goal.returns-in-Ok-install-clause-few
+returns-in-Ok-install-clause-few g c = c.in-Ok-install.ensures.few
+
+pub returns-in-Err-clause-sessions : goal.returns-in-Err-clause-sessions
+returns-in-Err-clause-sessions g c = ap (λ (x : State _ _). x.places) c.in-Err.ensures.refused.unchanged
+
+pub returns-in-Err-clause-short : goal.returns-in-Err-clause-short
+returns-in-Err-clause-short g c = c.in-Err.ensures.short

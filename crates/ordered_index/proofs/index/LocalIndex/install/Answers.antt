@@ -1,11 +1,11 @@
-use Rattle.std.proofs.Common.{◌+◌, Err, [], ◌∷◌, ◌++◌, length, refl, sym, ap, ◌∙◌, subst, arith}
+use Rattle.std.proofs.Common.{◌+◌, Err, [], List, ◌∷◌, ◌++◌, length, refl, sym, ap, ◌∙◌, subst, arith}
 use Rattle.version_views.specs.Sizes.{room_for}
 use Rattle.version_views.specs.Writes.{after_writes, replies_to}
-use Rattle.ordered_index.specs.Invariant.{index_state}
-use Rattle.ordered_index.specs.State.{MayAccept, State, present}
+use Rattle.ordered_index.specs.Invariant.{IsIndex, index_state}
+use Rattle.ordered_index.specs.State.{MayAccept, State, present, transaction_of}
 use Rattle.serial_history.specs.declared.transaction.Transaction.{Transaction}
 use Rattle.serial_history.proofs.RunLemmas.{length-replies}
-use Rattle.ordered_index.proofs.IndexLemmas.{kept_append, present_number, present_pairs}
+use Rattle.ordered_index.proofs.IndexLemmas.{append_shows, kept_append, present_number, present_pairs}
 use Rattle.ordered_index.proofs.index.LocalIndex.install.Goals as goal
 
 pub returns-in_default-clause-refused : goal.returns-in_default-clause-refused
@@ -69,6 +69,25 @@ invariant_of-self-2 g c =
     (c.from_vec-2.ensures ∙ c.copied_replies-replies.ensures ∙ c.as_slice-2.ensures.value ∙ c.in-Ok-write.ensures.replies ∙ ap (λ ws. replies_to g.K.Ord.cmp ws store.present.pairs) written ∙ ap (λ ps. replies_to g.K.Ord.cmp c.from_vec.result ps) pairs) in
     rw longer kept
 
+pub returns-clause-told : goal.returns-clause-told
+returns-clause-told g c =
+    let store = c.self.inside.store in
+    let pairs = present_pairs g.K.Ord.cmp c.self.invariant ∙ ap (λ (x : State _ _). present g.K.Ord.cmp x) c.self.view_is in
+    c.in-Ok-write.ensures.replies ∙ ap (λ ws. replies_to g.K.Ord.cmp ws store.present.pairs) c.as_slice.ensures.value ∙ ap (λ ps. replies_to g.K.Ord.cmp c.args.writes.items ps) pairs
+
+pub returns-clause-ok : goal.returns-clause-ok
+returns-clause-ok g c =
+    let store = c.self.inside.store in
+    let reads = c.args.prepared.reads in
+    let writes = c.args.writes.items in
+    let old : State _ _ = c.args.self.now in
+    let t : Transaction _ _ = record { reads = reads; writes = c.from_vec.result; replies = c.from_vec-2.result } in
+    let replies = c.from_vec-2.ensures ∙ c.copied_replies-replies.ensures ∙ c.as_slice-2.ensures.value ∙ returns-clause-told g c in
+    let same = ap (λ ws. record { reads = reads; writes = ws; replies = c.from_vec-2.result }) c.from_vec.ensures ∙ ap (λ rs. record { reads = reads; writes = writes; replies = rs }) replies in
+    append_shows g.K.Ord.cmp store c.write.new.self c.self.inside.history.items c.push_reserved.new.self.items c.self.inside.last c.write.new.self.used
+    (record { number = store.present.number + 1; pairs = after_writes g.K.Ord.cmp c.as_slice.result.now store.present.pairs }) t (transaction_of g.K.Ord.cmp old reads writes) old
+    c.in-Ok-write.ensures.written (c.push_reserved.ensures.items ∙ ap (λ ts. ts ++ t ∷ []) c.reserve.ensures.items) same c.self.view_is
+
 pub returns-clause-room : goal.returns-clause-room
 returns-clause-room g c =
     let store = c.self.inside.store in
@@ -84,3 +103,15 @@ returns-clause-few g c =
     let long = ap length c.as_slice.ensures.value in
     let few = c.in-Ok-write.ensures.few in
     omega (arith, few, long, used)
+
+pub invariant_of-self : goal.invariant_of-self
+invariant_of-self g c = subst (λ (ts : List _). IsIndex g.K.Ord.cmp g.row.S c.self.inside.store ts c.self.inside.last) (sym c.reserve.ensures.items) c.self.invariant
+
+pub invariant_of-self-in-Err-Memory : goal.invariant_of-self-in-Err-Memory
+invariant_of-self-in-Err-Memory g c = rw (c.in-Err-Memory.ensures.refused, c.reserve.ensures.items) c.self.invariant
+
+pub invariant_of-self-in-Err-NoSlot : goal.invariant_of-self-in-Err-NoSlot
+invariant_of-self-in-Err-NoSlot g c = rw (c.in-Err-NoSlot.ensures.refused, c.reserve.ensures.items) c.self.invariant
+
+pub push_reserved-requires : goal.push_reserved-requires
+push_reserved-requires g c = omega (arith, c.in-Ok.ensures.ok)

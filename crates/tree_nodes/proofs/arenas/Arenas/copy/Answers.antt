@@ -1,4 +1,5 @@
 use Rattle.std.proofs.Common.{◌≡◌, ◌+◌, ℕ, take, sym, ap, ◌∙◌, subst, arith}
+use Rattle.std.proofs.Math.Seq.{take-length}
 use Rattle.tree_nodes.specs.Content.{pairs_of}
 use Rattle.tree_nodes.specs.Copy.{place, IsPositionOrEnd}
 use Rattle.tree_nodes.specs.Depth.{IsAbove, ascending_headroom, headroom_for, root_room}
@@ -60,3 +61,17 @@ loop-next-smaller g c =
     let next = end_position_answer a (position a c.in-Some.spot + 1) c.behind.result c.behind.ensures.none c.behind.ensures.there in
     let within = (spot_pair g.K.Ord.cmp a c.requires.sound c.in-Some.spot spot).1 in
     omega (arith, at, next, within, c.in_ok-next-in-Success.ensures.further)
+
+pub loop-next-preserved : goal.loop-next-preserved
+loop-next-preserved g c = record { copied = c.in_ok-next-in-Success.ensures.copied }
+
+pub returns-clause-sound : goal.returns-clause-sound
+returns-clause-sound g c = c.loop-next.invariant.copied.sound
+
+pub returns-clause-pairs : goal.returns-clause-pairs
+returns-clause-pairs g c =
+    let pairs = pairs_of c.args.self.now in
+    c.loop-next.invariant.copied.front ∙ ap (λ next. take (place c.args.self.now next) pairs) c.in_default.is ∙ take-length pairs
+
+pub returns-clause-ascending_headroom : goal.returns-clause-ascending_headroom
+returns-clause-ascending_headroom g c = c.loop-next.invariant.copied.places

@@ -1,5 +1,5 @@
-use Rattle.std.proofs.Common.{◌≡◌, ◌≤◌, ◌<◌, sym, ap, ◌∙◌, refl, subst, arith}
-use Rattle.slab.specs.Slab.{Slab}
+use Rattle.std.proofs.Common.{◌≡◌, ◌-◌, ◌≤◌, ◌<◌, sym, ap, ◌∙◌, refl, subst, arith}
+use Rattle.slab.specs.Slab.{HasRoomFor, Slab}
 use Rattle.tree_nodes.specs.declared.leaf.Leaf.{Leaf}
 use Rattle.tree_nodes.specs.declared.node.InnerNode.{InnerNode}
 use Rattle.tree_nodes.proofs.NodeLemmas.{roomier_sound, roomier_ascents, roomier_pairs, roomier_full}
@@ -7,6 +7,7 @@ use Rattle.tree_nodes.specs.declared.arenas.Arenas.{Arenas}
 use Rattle.tree_nodes.specs.Content.{pairs_of, IsLeafFull}
 use Rattle.tree_nodes.specs.Depth.{IsAbove, ascending_headroom}
 use Rattle.tree_nodes.proofs.DepthLemmas.{flat_node, on_err}
+use Rattle.tree_nodes.proofs.RoomierLemmas.{roomier_split, roomier_way}
 use Rattle.tree_nodes.proofs.arenas.Arenas.make_room.Goals as goal
 
 pub returns-in_err-reserve-clause-sound : goal.returns-in_err-reserve-clause-sound
@@ -49,3 +50,30 @@ returns-clause-ascending g c above some =
     let grown : ascending_headroom cmp c.split_nodes-above.new.self ≤ ascending_headroom cmp c.split_leaf.new.self = c.split_leaf.ensures.ascending (subst (IsLeafFull cmp key) (sym still) full) (subst (λ (x : Arenas g.row.K.Denot g.row.V.Denot). IsAbove cmp key (pairs_of x)) (sym still) over_b) (subst (λ (x : Arenas g.row.K.Denot g.row.V.Denot). 1 < ascending_headroom cmp x) (sym still) more) in
     let to : ascending_headroom cmp c.split_nodes-above.new.self ≡ ascending_headroom cmp b = ap (ascending_headroom cmp) still in
     omega (arith, grown, to, same)
+
+pub returns-in_err-reserve-clause-pairs : goal.returns-in_err-reserve-clause-pairs
+returns-in_err-reserve-clause-pairs g c = roomier_pairs g.K.Ord.cmp c.args.self.now c.reserve.new.self c.args.self.now.nodes (ap (λ (s : Slab (Leaf g.row.K.Denot g.row.V.Denot)). s.slots) c.reserve.ensures.rest_kept) refl
+
+pub returns-in_err-reserve-2-clause-pairs : goal.returns-in_err-reserve-2-clause-pairs
+returns-in_err-reserve-2-clause-pairs g c = roomier_pairs g.K.Ord.cmp c.args.self.now c.reserve.new.self c.reserve-2.new.self (ap (λ (s : Slab (Leaf g.row.K.Denot g.row.V.Denot)). s.slots) c.reserve.ensures.rest_kept) (ap (λ (s : Slab (InnerNode g.row.K.Denot)). s.slots) c.reserve-2.ensures.rest_kept)
+
+pub returns-in_err-reserve-clause-refused : goal.returns-in_err-reserve-clause-refused
+returns-in_err-reserve-clause-refused g c = on_err c.from_residual-in_err-reserve.result refl
+
+pub returns-in_err-reserve-2-clause-refused : goal.returns-in_err-reserve-2-clause-refused
+returns-in_err-reserve-2-clause-refused g c = on_err c.from_residual-in_err-reserve-2.result refl
+
+pub split_nodes-above-requires-clause-lowest : goal.split_nodes-above-requires-clause-lowest
+split_nodes-above-requires-clause-lowest g c =
+    c.requires.above c.if-self-eq0.false ∙ sym (roomier_way g.K.Ord.cmp c.args.self.now c.reserve.new.self c.reserve-2.new.self (ap (λ (s : Slab (Leaf g.row.K.Denot g.row.V.Denot)). s.slots) c.reserve.ensures.rest_kept) (ap (λ (s : Slab (InnerNode g.row.K.Denot)). s.slots) c.reserve-2.ensures.rest_kept) c.args.key.now (c.args.self.now.height - 1))
+
+pub split_leaf-requires-clause-on : goal.split_leaf-requires-clause-on
+split_leaf-requires-clause-on g c =
+    c.requires.on ∙ sym (roomier_way g.K.Ord.cmp c.args.self.now c.reserve.new.self c.reserve-2.new.self (ap (λ (s : Slab (Leaf g.row.K.Denot g.row.V.Denot)). s.slots) c.reserve.ensures.rest_kept) (ap (λ (s : Slab (InnerNode g.row.K.Denot)). s.slots) c.reserve-2.ensures.rest_kept) c.args.key.now c.args.self.now.height) ∙ sym c.split_nodes-above.ensures.leaf
+
+pub split_leaf-requires-clause-split_point : goal.split_leaf-requires-clause-split_point
+split_leaf-requires-clause-split_point g c =
+    roomier_split g.K.Ord.cmp c.args.self.now c.reserve.new.self c.reserve-2.new.self (ap (λ (s : Slab (Leaf g.row.K.Denot g.row.V.Denot)). s.slots) c.reserve.ensures.rest_kept) (ap (λ (s : Slab (InnerNode g.row.K.Denot)). s.slots) c.reserve-2.ensures.rest_kept) c.args.key.now c.split_nodes-above.new.self c.in_ok-split_point.split_point c.split_nodes-above.ensures.leaves c.split_nodes-above.ensures.leaf c.in_ok-split_point.ensures
+
+pub split_leaf-requires-clause-room : goal.split_leaf-requires-clause-room
+split_leaf-requires-clause-room g c = subst (λ (s : Slab (Leaf g.row.K.Denot g.row.V.Denot)). HasRoomFor s 1) (sym c.split_nodes-above.ensures.leaves) c.in_ok-reserve.ensures.room
