@@ -9,3 +9,4 @@ pub mod PassLemmas
 pub mod NoteLemmas
 pub mod CellLemmas
 pub mod IdleParticipantLemmas
+pub mod CelledLemmas

@@ -1,4 +1,4 @@
-use Rattle.std.proofs.Common.{◌≡◌, ◌<◌, ◌≤◌, true, ℕ, List, ◌∷◌, ◌++◌, length, map, vec_capacity, sym, refl, ap, ◌∙◌, subst}
+use Rattle.std.proofs.Common.{◌≡◌, ◌<◌, ◌≤◌, true, ℕ, List, ◌∷◌, ◌++◌, length, map, vec_capacity, IfSome, sym, refl, ap, ◌∙◌, subst}
 use Rattle.std.specs.VecDeque.{deque_capacity}
 use Rattle.atomic_table.specs.Seated.{TableId}
 use Rattle.atomic_table.specs.Table.{Me}
@@ -7,12 +7,14 @@ use Rattle.sdd_homes.specs.declared.Lease.{Lease}
 use Rattle.domain_table.specs.Bags.{ages, Waits}
 use Rattle.domain_table.specs.Contents.{blanks}
 use Rattle.domain_table.specs.Owners.{told}
-use Rattle.domain_table.specs.Layout.{claim_word}
-use Rattle.domain_table.specs.Leases.{life_number, leased_homes, row_slots, all_below}
+use Rattle.domain_table.specs.Layout.{claim_word, all_words}
+use Rattle.domain_table.specs.Leases.{life_number, row_told, lease_told, leased_homes, row_slots, all_below}
 use Rattle.domain_table.specs.Plays.{own_spare, own_bag}
 use Rattle.domain_table.specs.declared.board.Acting.{Acting}
 use Rattle.domain_table.specs.declared.board.Home.{Home}
 use Rattle.domain_table.specs.declared.board.Home.TheVariants.{Blank}
+use Rattle.domain_table.specs.declared.board.Plan.{Plan}
+use Rattle.sdd_domain.specs.Sharing.{kept_in}
 use Rattle.sdd_domain.specs.declared.local.Local.{Local}
 use Rattle.sdd_domain.proofs.Bagged.{are_out}
 use Rattle.domain_table.proofs.Noted.{homes_both, blanks_both}
@@ -76,3 +78,36 @@ returns-in-Ok-clause-same g c = let l = c.args.local.now in let m = c.exchange_o
 pub returns-in-Err-clause-same : goal.returns-in-Err-clause-same
 returns-in-Err-clause-same g c = let l = c.args.local.now in let m = c.exchange_owner-free.new.place.me in let all = (c.exchange_owner-free.ensures.tried (behind l) (out l)).2 in let table = c.exchange_owner-free.ensures.seat.0 in
     (((λ j. (table j, ap (λ (z : Me _ Acting). z.0.sizes) all j), refl, ap (λ (z : Me _ Acting). map told z.0.hand) all, refl), (λ j. (l.number, sym (ap life_number c.in-Some.is) j))), refl, ap (λ (z : Me _ Acting). z.0.born) all, ap (λ (z : Me _ Acting). length z.0.waits) all)
+
+pub exchange_owner-free-requires-clause-table : goal.exchange_owner-free-requires-clause-table
+exchange_owner-free-requires-clause-table g c =
+    let l = c.args.local.now in
+    let d = c.args.domain.now in
+    let known : l.place.me.0.sizes ≡ d.sizes = ap (λ (t : TableId × Sizes). t.1) c.requires.home ∙ sym d.sized.0 in (
+      (
+        ap (λ (t : TableId × Sizes). t.0) c.requires.home ∙ sym c.words.ensures.0,
+        ap (λ (k : Plan). k.sizes) c.words.ensures.1 ∙ sym d.sized.0,
+        known,
+        d.sized.1,
+        subst (λ (t : TableId). all_words d.sizes ≤ t.words) (sym c.words.ensures.0) d.sized.2,
+      ),
+      subst (λ (z : Sizes). l.number < z.participants) known l.fills.2,
+      c.requires.inside,
+    )
+
+pub exchange_owner-free-requires-clause-rows : goal.exchange_owner-free-requires-clause-rows
+exchange_owner-free-requires-clause-rows g c =
+    let l = c.args.local.now in
+    let known : l.place.me.0.sizes ≡ c.args.domain.now.sizes = ap (λ (t : TableId × Sizes). t.1) c.requires.home ∙ sym c.args.domain.now.sized.0 in (
+      subst (λ life. map row_told l.rows.items ≡ map (lease_told (life_number life)) l.place.me.0.leases) c.in-Some.is l.lends.0,
+      subst (λ (z : Sizes). all_below z.slots (row_slots l.rows.items) ≡ true) known l.lends.2,
+      subst (λ (z : Sizes). z.slots ≤ deque_capacity l.rows) known l.lends.1,
+    )
+
+pub exchange_owner-free-requires-clause-mine : goal.exchange_owner-free-requires-clause-mine
+exchange_owner-free-requires-clause-mine g c = subst (λ (t : TableId). IfSome c.args.new.0 (λ s. kept_in s ≡ t)) (sym c.words.ensures.0) c.requires.mine
+
+pub returns-in-Err-clause-seen : goal.returns-in-Err-clause-seen
+returns-in-Err-clause-seen g c = λ s is.
+    let under = c.loaded_at.ensures s is c.in-Some.life.id c.exchange_owner-free.new.place.me.0.leases c.exchange_owner-free.ensures.rows.0 in
+    λ j. (c.args.local.now.number, (under ∙ sym (ap life_number c.in-Some.is)) j)

@@ -56,3 +56,42 @@ invariant_of-local g c = let l = c.args.local.now in let d = l.place.me.0 in let
       fills = (ap (λ (z : Me _ Acting). z.0.filling) all ∙ l.fills.0, l.fills.1, subst (λ (z : Me _ Acting). l.number < z.0.sizes.participants) (sym all) l.fills.2);
       waits = (subst (λ (z : Me _ Acting). Waits z.0.waits l.bags.slots.items (ages l.bags.current l.bags.previous l.bags.next l.bags.due)) (sym all) l.waits.0, l.waits.1, l.waits.2 ∙ sym (ap (λ (z : Me _ Acting). z.0.sizes.slots) all));
     }
+
+-- where it wasn't raised the owner leaves the hand again
+pub invariant_of-local-in-None : goal.invariant_of-local-in-None
+invariant_of-local-in-None g c =
+    let l = c.args.local.now in
+    let d = l.place.me.0 in
+    let s = c.args.self in
+    let rows = c.clone.new.rows in
+    let taken = c.take_in.ensures.taken in
+    let parted = c.part_with-seat-in-None.ensures.seat in
+    let all : c.part_with-seat-in-None.new.place.me ≡ l.place.me = parted.2 ∙ ap (λ (z : Me _ Acting). (others_in z.0, z.1)) (c.in-None.ensures.refused ∙ mine l s c.take_in.new.place.me taken) in
+    let table = parted.0 ∙ (c.clone.ensures.seat.0 ∙ c.take_in.ensures.seat.0) in record {
+      acts = (
+        ap (λ (z : Me _ Acting). z.0.kind) all ∙ l.acts.0,
+        ap (λ (z : Me _ Acting). z.0.number) all ∙ l.acts.1,
+        ap (λ (z : Me _ Acting). z.0.scan) all ∙ l.acts.2,
+        l.acts.3,
+        subst (λ (z : TableId). claim_word l.number < z.words) (sym table) l.acts.4,
+        ap (λ (z : Me _ Acting). z.0.releasing) all ∙ l.acts.5,
+      );
+      has_spare = (
+        ap (λ (z : Me _ Acting). z.0.spare) all ∙ l.has_spare.0,
+        l.has_spare.1,
+        subst (λ (z : Me _ Acting). has_all is_blank (own_spare z.0 l.spare ∷ own_bag z.0 ∷ leased_homes z.0 z.0.leases) z.1 ≡ true) (sym all) l.has_spare.2,
+      );
+      lends = (
+        c.clone.ensures.rows (life_number l.life) (told l s c.take_in.new.place.me taken (life_number l.life) l.lends.0) ∙ sym (ap (λ (z : Me _ Acting). map (lease_told (life_number l.life)) z.0.leases) parted.2),
+        subst (λ (z : Me _ Acting). z.0.sizes.slots ≤ deque_capacity rows) (sym all) (subst (λ n. d.sizes.slots ≤ n) (sym c.clone.ensures.same.0) l.lends.1),
+        subst (λ (z : Me _ Acting). all_below z.0.sizes.slots (row_slots rows.items) ≡ true) (sym all) (ap (all_below d.sizes.slots) c.clone.ensures.same.1 ∙ l.lends.2),
+      );
+      shut = λ e. ((l.shut e).0, ap (λ (z : Me _ Acting). z.0.leases) all ∙ (l.shut e).1);
+      alive = l.alive;
+      leaves = (ap (λ (z : Me _ Acting). z.0.left) all ∙ l.leaves.0, l.leaves.1, subst (λ (z : Me _ Acting). z.0.sizes.slots ≤ vec_capacity l.bag) (sym all) l.leaves.2);
+      phase = ap (λ (z : Me _ Acting). z.0.known.phase) all ∙ l.phase;
+      found = ap (λ (z : Me _ Acting). z.0.known.found) all ∙ l.found;
+      noted = l.noted;
+      fills = (ap (λ (z : Me _ Acting). z.0.filling) all ∙ l.fills.0, l.fills.1, subst (λ (z : Me _ Acting). l.number < z.0.sizes.participants) (sym all) l.fills.2);
+      waits = (subst (λ (z : Me _ Acting). Waits z.0.waits l.bags.slots.items (ages l.bags.current l.bags.previous l.bags.next l.bags.due)) (sym all) l.waits.0, l.waits.1, l.waits.2 ∙ sym (ap (λ (z : Me _ Acting). z.0.sizes.slots) all));
+    }
