@@ -37,3 +37,17 @@ invariant_of-self-2 g c =
       history_longer g.K.Ord.cmp c.raise.new.book.total t kept.2 reads told (λ e. c.requires.can.not_last (ap (λ (b : BookState _ _). length b.history) (sym c.self.view_is) ∙ e ∙ ap (λ (b : BookState _ _). b.last) c.self.view_is)) c.raise.ensures.total,
       kept.3,
     )
+
+-- a refusal leaves all as it was, but what the participant missed
+pub invariant_of-self : goal.invariant_of-self
+invariant_of-self g c = rw c.reserve.ensures.items c.self.invariant
+
+pub invariant_of-self-in-Err-Memory : goal.invariant_of-self-in-Err-Memory
+invariant_of-self-in-Err-Memory g c =
+    let kept = c.self.invariant in
+    rw (c.in-Err-Memory.ensures.refused, c.reserve.ensures.items) (still_at_rest kept.0 c.install.ensures.same c.install.ensures.hand, kept.1, kept.2, kept.3)
+
+pub invariant_of-self-in-Err-NoSlot : goal.invariant_of-self-in-Err-NoSlot
+invariant_of-self-in-Err-NoSlot g c =
+    let kept = c.self.invariant in
+    rw (c.in-Err-NoSlot.ensures.refused, c.reserve.ensures.items) (still_at_rest kept.0 c.install.ensures.same c.install.ensures.hand, kept.1, kept.2, kept.3)
