@@ -1,5 +1,5 @@
-use Rattle.std.proofs.Common.{List, sym, ◌∙◌, subst, lit<, arith}
-use Rattle.shared_index.specs.Books.{CanCommit, CanRefuse}
+use Rattle.std.proofs.Common.{List, [], ◌∷◌, ◌++◌, sym, ap, ◌∙◌, subst, lit<, arith}
+use Rattle.shared_index.specs.Books.{CanCommit, CanRefuse, next_transaction}
 use Rattle.shared_index.proofs.book.Book.commit.Goals as goal
 
 pub returns-in-Some-clause-cause : goal.returns-in-Some-clause-cause
@@ -20,3 +20,30 @@ add-requires g c =
 pub returns-in-Err-clause-cause : goal.returns-in-Err-clause-cause
 returns-in-Err-clause-cause g c =
     subst (λ (rs : List _). CanRefuse g.K.Ord.cmp c.args.self.now rs c.in-Err.refused.cause) (c.in-Ok.ensures.reads ∙ c.as_slice-reads.ensures) c.in-Err.ensures.cause
+
+pub returns-in-Ok-add-clause-can : goal.returns-in-Ok-add-clause-can
+returns-in-Ok-add-clause-can g c = subst (λ (rs : List _). CanCommit g.K.Ord.cmp c.args.self.now rs) c.as_slice-reads.ensures c.in_default.ensures.none
+
+pub returns-in-Ok-add-clause-added : goal.returns-in-Ok-add-clause-added
+returns-in-Ok-add-clause-added g c =
+    let old = c.args.self.now in
+    let added = λ (rs : List _). record old { history = old.history ++ next_transaction g.K.Ord.cmp old rs c.args.writes.items ∷ [] } in
+    c.in-Ok-add.ensures.added ∙ ap added (c.in-Ok.ensures.reads ∙ c.as_slice-reads.ensures)
+
+pub returns-in-Ok-add-clause-replies : goal.returns-in-Ok-add-clause-replies
+returns-in-Ok-add-clause-replies g c = c.in-Ok-add.ensures.told
+
+pub returns-in-Ok-add-clause-counted : goal.returns-in-Ok-add-clause-counted
+returns-in-Ok-add-clause-counted g c = c.in-Ok-add.ensures.counted
+
+pub returns-in-Err-clause-missed : goal.returns-in-Err-clause-missed
+returns-in-Err-clause-missed g c = c.in-Err.ensures.missed
+
+pub returns-in-Err-clause-back : goal.returns-in-Err-clause-back
+returns-in-Err-clause-back g c = c.in-Err.ensures.back
+
+pub returns-in-Err-clause-err : goal.returns-in-Err-clause-err
+returns-in-Err-clause-err g c = c.in-Err.ensures.err
+
+pub returns-in-Err-clause-uncounted : goal.returns-in-Err-clause-uncounted
+returns-in-Err-clause-uncounted g c = c.in-Err.ensures.uncounted
