@@ -54,8 +54,8 @@ pub(crate) fn take_back<T: Holds>(mut item: T, domain: &Domain<T>, local: &mut L
     item.end();
 }
 
-/// Releases an owner of a node: where it was the last one, the node waits to be reclaimed. Other calls of `Shared::release`
-/// go by this one, since its proof at a node takes as long as theirs.
+/// Releases an owner of a node: where it was the last one, the node waits to be reclaimed. Other functions release owners by
+/// this one, since the proof of a call of `Shared::release` at a node takes longer than all else that they do.
 pub(crate) fn let_go<K: Ord + Drop, V: Drop>(
     owner: Shared<Node<K, V>>,
     domain: &Domain<Node<K, V>>,
