@@ -1,6 +1,8 @@
-//! Steps as plain numbers, for lists of steps in tests.
+//! Steps as plain numbers, and tables of them.
 
-use sdd_steps::{Seq, State, Step, apply};
+ghost use Rattle.std.specs.Prelude.{◌≤◌};
+
+use sdd_steps::{Cell, ItemState, Seq, State, Step, apply};
 use std::alloc::{AllocError, Global};
 use std::process::Abort;
 
@@ -91,22 +93,98 @@ pub(crate) fn after<R: Abort>(rt: &R, alloc: Global, state: &State, one: Move) -
     apply(alloc, state, step).expect(rt, "memory")
 }
 
-/// What the moves of a list leave, each of which has to be enabled.
-pub(crate) fn play<R: Abort>(rt: &R, alloc: Global, state: State, moves: &[Move]) -> State {
-    let mut state = state;
+/// Takes the moves of a list, as far as they are enabled, and tells whether all are.
+pub(crate) fn takes<R: Abort>(rt: &R, alloc: Global, state: &mut State, moves: &[Move]) -> bool {
     for one in moves {
-        state = after(rt, alloc, &state, *one).expect(rt, "a step that is enabled");
+        match after(rt, alloc, state, *one) {
+            Some(next) => *state = next,
+            None => return false,
+        }
     }
-    state
+    true
 }
 
 pub(crate) fn is_enabled<R: Abort>(rt: &R, alloc: Global, state: &State, one: Move) -> bool {
     after(rt, alloc, state, one).is_some()
 }
 
-/// Each move of a list has to be refused.
-pub(crate) fn all_refused<R: Abort>(rt: &R, alloc: Global, state: &State, moves: &[Move]) {
+/// Whether each move of a list is refused.
+pub(crate) fn refuses<R: Abort>(rt: &R, alloc: Global, state: &State, moves: &[Move]) -> bool {
     for one in moves {
-        assert!(rt; !is_enabled(rt, alloc, state, *one));
+        if is_enabled(rt, alloc, state, *one) {
+            return false;
+        }
     }
+    true
+}
+
+/// A row of a table: what is done, or what is so then.
+#[derive(Clone, Copy)]
+pub(crate) enum Row {
+    /// These moves are taken, one after the other.
+    Does(&'static [Move]),
+    /// Each of these is refused.
+    Refuses(&'static [Move]),
+    /// This one is enabled, and isn't taken.
+    Allows(Move),
+    /// The count.
+    Count(u64),
+    /// An item and its state.
+    Item(usize, ItemState),
+    /// How many owners of an item are in hand.
+    InHand(usize, u64),
+    /// A cell and what it is.
+    Cell(usize, Cell),
+    /// How many participants, cells and items there are.
+    Sizes(usize, usize, usize),
+}
+
+fn sizes(state: &State) -> (usize, usize, usize) {
+    (
+        state.participants().len(),
+        state.cells().len(),
+        state.items().len(),
+    )
+}
+
+fn state_of(state: &State, i: usize) -> Option<ItemState> {
+    state.items().get(i).map(|item| item.state)
+}
+
+fn in_hand(state: &State, i: usize) -> Option<u64> {
+    state.items().get(i).map(|item| item.hand)
+}
+
+/// Whether a row comes out right.
+fn is_right<R: Abort>(rt: &R, alloc: Global, state: &mut State, row: Row) -> bool {
+    match row {
+        Row::Does(moves) => takes(rt, alloc, state, moves),
+        Row::Refuses(moves) => refuses(rt, alloc, state, moves),
+        Row::Allows(one) => is_enabled(rt, alloc, state, one),
+        Row::Count(count) => state.count() == count,
+        Row::Item(i, wanted) => state_of(state, i) == Some(wanted),
+        Row::InHand(i, wanted) => in_hand(state, i) == Some(wanted),
+        Row::Cell(c, wanted) => state.cells().get(c).copied() == Some(wanted),
+        Row::Sizes(participants, cells, items) => sizes(state) == (participants, cells, items),
+    }
+}
+
+/// Plays a table from a state on: each row has to come out right.
+pub(crate) fn plays<R: Abort>(rt: &R, alloc: Global, start: State, rows: &[Row]) {
+    let mut state = start;
+    let mut right = 0usize;
+    for at in 0..rows.len() {
+        if right == at && is_right(rt, alloc, &mut state, rows[at]) {
+            right = right.saturating_add(1);
+        }
+    }
+    assert!(rt; right == rows.len(), "row {right}");
+}
+
+/// A place at its start.
+pub(crate) fn started<R: Abort>(rt: &R, alloc: Global, participants: usize, cells: usize) -> State
+    requires participants { (1 ≤ participants) × (participants ≤ 1000) }
+    requires cells { (1 ≤ cells) × (cells ≤ 1000) }
+{
+    State::start(alloc, participants, cells).expect(rt, "memory")
 }

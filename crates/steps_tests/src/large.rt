@@ -1,51 +1,49 @@
 //! A state of many participants, cells and items, and the texts of its parts.
 
-use crate::common::{Move, all_refused, play};
-use sdd_steps::{Cell, ItemState, State};
+use crate::common::{Move, Row, plays, started, takes};
+use sdd_steps::{Cell, ItemState};
 use std::test::Fail;
 
 const MANY: usize = 1_000;
 
+const LAST: usize = MANY / 4 - 1;
+
+const AT_THE_ENDS: [Row; 4] = [
+    Row::Sizes(MANY, MANY, MANY / 4),
+    Row::Does(&[
+        Move::SwapCell(LAST, 0, Some(LAST)),
+        Move::ReadEpoch(MANY - 1),
+        Move::Publish(MANY - 1),
+        Move::LoadCell(MANY - 1, 0),
+    ]),
+    Row::Cell(
+        0,
+        Cell {
+            holder: None,
+            names: Some(LAST),
+        },
+    ),
+    Row::Refuses(&[
+        Move::LoadCell(MANY - 1, MANY),
+        Move::ReadEpoch(MANY),
+        Move::Release(0, MANY),
+    ]),
+];
+
 #[test]
-fn a_state_of_many_parts_takes_steps(rt: HostRuntime) -> Result<(), Fail> {
-    let alloc = rt.alloc();
-    let mut state = State::start(alloc, MANY, MANY).expect(&rt, "memory");
-    for p in 0..MANY / 4 {
-        state = play(&rt, alloc, state, &[Move::Place(p, 7, None, None)]);
+fn a_state_of_many_parts_takes_steps(rt: HostRuntime) {
+    let mut state = started(&rt, rt.alloc(), MANY, MANY);
+    let mut placed = true;
+    for p in 0..=LAST {
+        placed = takes(
+            &rt,
+            rt.alloc(),
+            &mut state,
+            &[Move::Place(p, 7, None, None)],
+        ) && placed;
     }
-    assert_eq!(rt; state.participants().len(), MANY);
-    assert_eq!(rt; state.items().len(), MANY / 4);
-    let last = MANY / 4 - 1;
-    state = play(
-        &rt,
-        alloc,
-        state,
-        &[
-            Move::SwapCell(last, 0, Some(last)),
-            Move::ReadEpoch(MANY - 1),
-            Move::Publish(MANY - 1),
-            Move::LoadCell(MANY - 1, 0),
-        ],
-    );
-    assert_eq!(rt; state.cells().len(), MANY);
-    assert!(rt;
-        state.cells().first().copied()
-            == Some(Cell {
-                holder: None,
-                names: Some(last)
-            })
-    );
-    all_refused(
-        &rt,
-        alloc,
-        &state,
-        &[
-            Move::LoadCell(MANY - 1, MANY),
-            Move::ReadEpoch(MANY),
-            Move::Release(0, MANY),
-        ],
-    );
-    Ok(())
+    assert!(rt; placed);
+    plays(&rt, rt.alloc(), state, &AT_THE_ENDS);
 }
 
 #[test]

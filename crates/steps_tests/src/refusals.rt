@@ -1,7 +1,7 @@
 //! Runs in which any one allocation may be refused. A script has each refused in turn: whatever is refused, the state
 //! is as it was, and the same step then succeeds.
 
-use crate::common::{Move, step};
+use crate::common::{Move, Row, plays, step};
 use sdd_steps::{Cell, ItemState, State, Step, apply};
 use std::alloc::{AllocError, Global};
 use std::process::Abort;
@@ -58,9 +58,26 @@ fn taken<R: Abort>(rt: &R, alloc: Global, state: &State, one: Move, met: &mut bo
     }
 }
 
-fn state_of(state: &State, i: usize) -> Option<ItemState> {
-    state.items().get(i).map(|item| item.state)
-}
+const TAKEN: [Row; 6] = [
+    Row::Count(1),
+    Row::Sizes(2, 2, 2),
+    Row::Item(0, ItemState::Live),
+    Row::Item(1, ItemState::Retired(0, 0)),
+    Row::Cell(
+        0,
+        Cell {
+            holder: None,
+            names: None,
+        },
+    ),
+    Row::Cell(
+        1,
+        Cell {
+            holder: Some(1),
+            names: None,
+        },
+    ),
+];
 
 // Whether an allocation was refused while the steps were taken.
 fn takes_steps<R: Abort>(rt: &R, alloc: Global) -> bool {
@@ -69,25 +86,7 @@ fn takes_steps<R: Abort>(rt: &R, alloc: Global) -> bool {
     for one in MOVES {
         state = taken(rt, alloc, &state, one, &mut met);
     }
-    assert!(rt; state.count() == 1);
-    assert!(rt; state.participants().len() == 2);
-    assert!(rt; state.items().len() == 2);
-    assert!(rt; state_of(&state, 0) == Some(ItemState::Live));
-    assert!(rt; state_of(&state, 1) == Some(ItemState::Retired(0, 0)));
-    assert!(rt;
-        state.cells().first().copied()
-            == Some(Cell {
-                holder: None,
-                names: None
-            })
-    );
-    assert!(rt;
-        state.cells().get(1).copied()
-            == Some(Cell {
-                holder: Some(1),
-                names: None
-            })
-    );
+    plays(rt, alloc, state, &TAKEN);
     met
 }
 

@@ -1,6 +1,6 @@
 //! Where each step is refused, and the promise over random lists of steps.
 
-use crate::common::{Move, after, all_refused, is_enabled, play};
+use crate::common::{Move, Row, after, is_enabled, plays, started, takes};
 use sdd_steps::{Cell, Item, ItemState, Loaded, Participant, Phase, Seen, Seq, State};
 use std::alloc::Global;
 use std::process::Abort;
@@ -35,41 +35,37 @@ const GUARD: [Move; 6] = [
     Move::Close(0),
 ];
 
-// One with another step under it.
-fn guard_over<R: Abort>(rt: &R, alloc: Global, state: State, one: Move) -> State {
-    let state = play(
-        rt,
-        alloc,
-        state,
-        &[Move::ReadEpoch(0), Move::Publish(0), Move::Rotate(0), one],
-    );
-    play(
-        rt,
-        alloc,
-        state,
-        &[Move::Look(0, 1), Move::Raise(0), Move::Close(0)],
-    )
-}
-
-fn prepared<R: Abort>(rt: &R, alloc: Global) -> State {
-    let mut state = State::start(alloc, 2, 3).expect(rt, "memory");
-    state = play(rt, alloc, state, &PLACED);
-    state = play(rt, alloc, state, &[Move::Release(0, 4), Move::Retire(0, 4)]);
+// Steps that leave items of each state.
+const PREPARED: [&[Move]; 12] = [
+    &PLACED,
+    &[Move::Release(0, 4), Move::Retire(0, 4)],
     // The first guard finds the count 0, so no rotation is due.
-    state = play(
-        rt,
-        alloc,
-        state,
-        &[Move::ReadEpoch(0), Move::Publish(0), Move::Look(0, 1)],
-    );
-    state = play(rt, alloc, state, &[Move::Raise(0), Move::Close(0)]);
-    state = play(rt, alloc, state, &GUARD);
-    state = play(rt, alloc, state, &[Move::Release(0, 3), Move::Retire(0, 3)]);
-    state = play(rt, alloc, state, &GUARD);
-    state = play(rt, alloc, state, &[Move::Release(0, 6), Move::Retire(0, 6)]);
-    state = guard_over(rt, alloc, state, Move::Reclaim(0, 4));
-    state = play(rt, alloc, state, &GUARD);
-    play(rt, alloc, state, &[Move::Release(0, 2)])
+    &[
+        Move::ReadEpoch(0),
+        Move::Publish(0),
+        Move::Look(0, 1),
+        Move::Raise(0),
+        Move::Close(0),
+    ],
+    &GUARD,
+    &[Move::Release(0, 3), Move::Retire(0, 3)],
+    &GUARD,
+    &[Move::Release(0, 6), Move::Retire(0, 6)],
+    // A guard under which the first of them is reclaimed.
+    &[Move::ReadEpoch(0), Move::Publish(0), Move::Rotate(0)],
+    &[Move::Reclaim(0, 4)],
+    &[Move::Look(0, 1), Move::Raise(0), Move::Close(0)],
+    &GUARD,
+    &[Move::Release(0, 2)],
+];
+
+// The place in which items of each state are.
+fn prepared<R: Abort>(rt: &R, alloc: Global) -> State {
+    let mut state = started(rt, alloc, 2, 3);
+    for moves in PREPARED {
+        assert!(rt; takes(rt, alloc, &mut state, moves));
+    }
+    state
 }
 
 // In which phases of participant 0 a step of it is enabled in the prepared state: without a guard, after reading,
@@ -105,96 +101,93 @@ const STEPS: [(Move, [bool; 5]); 22] = [
     (Move::End(0), [false, false, false, false, false]),
 ];
 
-fn are_as_said<R: Abort>(rt: &R, alloc: Global, state: &State, phase: usize) {
-    for (one, enabled) in STEPS {
-        assert!(rt; enabled.get(phase).copied() == Some(is_enabled(rt, alloc, state, one)));
+// Whether steps are enabled and refused in a phase as a table says.
+fn are_as_said<R: Abort>(
+    rt: &R,
+    alloc: Global,
+    state: &State,
+    phase: usize,
+    steps: &[(Move, [bool; 5])],
+) -> bool {
+    for (one, enabled) in steps {
+        if enabled.get(phase).copied() != Some(is_enabled(rt, alloc, state, *one)) {
+            return false;
+        }
     }
+    true
 }
+
+// What leads from each phase to the next one.
+const PHASES: [&[Move]; 5] = [
+    &[],
+    &[Move::ReadEpoch(0)],
+    &[Move::Publish(0)],
+    &[Move::Rotate(0)],
+    &[Move::Reread(0), Move::Look(0, 1), Move::LoadCell(0, 0)],
+];
+
+// A close takes away what the guard had.
+const CLOSED: [Row; 2] = [
+    Row::Does(&[Move::Close(0), Move::ReadEpoch(0), Move::Publish(0)]),
+    Row::Refuses(&[
+        Move::Raise(0),
+        Move::Collect(0, 2),
+        Move::ReadSegment(0, 1, 0),
+    ]),
+];
 
 #[test]
 fn each_step_is_refused_in_each_phase_where_it_isnt_enabled(rt: HostRuntime) {
-    let alloc = rt.alloc();
-    let mut state = prepared(&rt, alloc);
-    are_as_said(&rt, alloc, &state, 0);
-    state = play(&rt, alloc, state, &[Move::ReadEpoch(0)]);
-    are_as_said(&rt, alloc, &state, 1);
-    state = play(&rt, alloc, state, &[Move::Publish(0)]);
-    are_as_said(&rt, alloc, &state, 2);
-    state = play(&rt, alloc, state, &[Move::Rotate(0)]);
-    are_as_said(&rt, alloc, &state, 3);
-    state = play(
-        &rt,
-        alloc,
-        state,
-        &[Move::Reread(0), Move::Look(0, 1), Move::LoadCell(0, 0)],
-    );
-    are_as_said(&rt, alloc, &state, 4);
-    // A close takes away what the guard had.
-    state = play(
-        &rt,
-        alloc,
-        state,
-        &[Move::Close(0), Move::ReadEpoch(0), Move::Publish(0)],
-    );
-    all_refused(
-        &rt,
-        alloc,
-        &state,
-        &[
-            Move::Raise(0),
-            Move::Collect(0, 2),
-            Move::ReadSegment(0, 1, 0),
-        ],
-    );
+    let mut state = prepared(&rt, rt.alloc());
+    for (phase, moves) in PHASES.iter().enumerate() {
+        let moved = takes(&rt, rt.alloc(), &mut state, moves);
+        let right = are_as_said(&rt, rt.alloc(), &state, phase, &STEPS);
+        assert!(rt; moved && right, "phase {phase}");
+    }
+    plays(&rt, rt.alloc(), state, &CLOSED);
 }
 
-const NOWHERE: [Move; 16] = [
-    Move::ReadEpoch(2),
-    Move::Release(2, 0),
-    Move::End(2),
-    Move::RaiseOwners(2, 0),
-    Move::SwapCell(2, 0, None),
-    Move::SwapCell(0, 3, None),
-    Move::SwapCell(0, 0, Some(7)),
-    Move::Release(0, 7),
-    Move::Retire(0, 7),
-    Move::Reclaim(0, 7),
-    Move::GiveUp(0, 7, 0),
-    Move::GiveUpCell(0, 3),
-    Move::RaiseOwners(0, 7),
-    Move::TakeOver(0, 7),
-    Move::Place(0, 9, Some(7), None),
-    Move::Place(0, 9, None, Some(3)),
-];
-
-const NOWHERE_UNDER: [Move; 5] = [
-    Move::LoadCell(0, 3),
-    Move::LoadInHand(0, 7),
-    Move::Collect(0, 7),
-    Move::Look(0, 2),
-    Move::ReadSegment(0, 7, 0),
+const NOWHERE: [Row; 3] = [
+    Row::Refuses(&[
+        Move::ReadEpoch(2),
+        Move::Release(2, 0),
+        Move::End(2),
+        Move::RaiseOwners(2, 0),
+        Move::SwapCell(2, 0, None),
+        Move::SwapCell(0, 3, None),
+        Move::SwapCell(0, 0, Some(7)),
+        Move::Release(0, 7),
+        Move::Retire(0, 7),
+        Move::Reclaim(0, 7),
+        Move::GiveUp(0, 7, 0),
+        Move::GiveUpCell(0, 3),
+        Move::RaiseOwners(0, 7),
+        Move::TakeOver(0, 7),
+        Move::Place(0, 9, Some(7), None),
+        Move::Place(0, 9, None, Some(3)),
+    ]),
+    Row::Does(&[
+        Move::ReadEpoch(0),
+        Move::Publish(0),
+        Move::Rotate(0),
+        Move::Reread(0),
+    ]),
+    Row::Refuses(&[
+        Move::LoadCell(0, 3),
+        Move::LoadInHand(0, 7),
+        Move::Collect(0, 7),
+        Move::Look(0, 2),
+        Move::ReadSegment(0, 7, 0),
+    ]),
 ];
 
 #[test]
 fn items_cells_and_participants_that_arent_there_are_refused(rt: HostRuntime) {
-    let alloc = rt.alloc();
-    let mut state = prepared(&rt, alloc);
-    all_refused(&rt, alloc, &state, &NOWHERE);
-    state = play(
-        &rt,
-        alloc,
-        state,
-        &[
-            Move::ReadEpoch(0),
-            Move::Publish(0),
-            Move::Rotate(0),
-            Move::Reread(0),
-        ],
-    );
-    all_refused(&rt, alloc, &state, &NOWHERE_UNDER);
+    let state = prepared(&rt, rt.alloc());
+    plays(&rt, rt.alloc(), state, &NOWHERE);
 }
 
-const OF_ANOTHER_FATE: [Move; 33] = [
+const OF_ANOTHER_FATE: [Row; 1] = [Row::Refuses(&[
     // Not in hand: the version is in the root. One owner of the segment is in hand, and no more.
     Move::Release(0, 1),
     Move::SwapCell(0, 0, Some(1)),
@@ -238,201 +231,154 @@ const OF_ANOTHER_FATE: [Move; 33] = [
     // Something is due; a guard isn't open.
     Move::End(0),
     Move::Raise(1),
-];
+])];
 
 #[test]
 fn steps_on_items_in_another_state_are_refused(rt: HostRuntime) {
-    let alloc = rt.alloc();
-    let state = prepared(&rt, alloc);
-    all_refused(&rt, alloc, &state, &OF_ANOTHER_FATE);
+    let state = prepared(&rt, rt.alloc());
+    plays(&rt, rt.alloc(), state, &OF_ANOTHER_FATE);
 }
+
+// Item 0 is in cell 1, which item 1 holds; item 1 is in hand.
+const HELD_CELL: [Row; 9] = [
+    Row::Does(&[
+        Move::Place(0, 1, None, None),
+        Move::Place(0, 2, None, Some(1)),
+        Move::SwapCell(0, 1, Some(0)),
+        Move::ReadEpoch(1),
+        Move::Publish(1),
+    ]),
+    Row::Allows(Move::LoadCell(1, 1)),
+    Row::Refuses(&[Move::LoadCell(1, 0)]),
+    Row::Does(&[Move::SwapCell(0, 0, Some(1))]),
+    Row::Refuses(&[
+        Move::LoadCell(1, 1),
+        Move::SwapCell(1, 1, None),
+        Move::LoadInHand(1, 1),
+    ]),
+    Row::Does(&[Move::LoadCell(1, 0), Move::LoadCell(1, 1)]),
+    Row::Does(&[Move::SwapCell(1, 1, None)]),
+    Row::Cell(
+        1,
+        Cell {
+            holder: Some(1),
+            names: None,
+        },
+    ),
+    Row::Refuses(&[Move::LoadCell(1, 1)]),
+];
 
 #[test]
 fn a_held_cell_is_reached_by_its_holder_alone(rt: HostRuntime) {
-    let alloc = rt.alloc();
-    let mut state = State::start(alloc, 2, 2).expect(&rt, "memory");
-    // Item 0 is in cell 1, which item 1 holds; item 1 is in hand.
-    state = play(
-        &rt,
-        alloc,
-        state,
-        &[
-            Move::Place(0, 1, None, None),
-            Move::Place(0, 2, None, Some(1)),
-        ],
-    );
-    state = play(
-        &rt,
-        alloc,
-        state,
-        &[
-            Move::SwapCell(0, 1, Some(0)),
-            Move::ReadEpoch(1),
-            Move::Publish(1),
-        ],
-    );
-    assert!(rt; is_enabled(&rt, alloc, &state, Move::LoadCell(1, 1)));
-    all_refused(&rt, alloc, &state, &[Move::LoadCell(1, 0)]);
-    state = play(&rt, alloc, state, &[Move::SwapCell(0, 0, Some(1))]);
-    all_refused(
-        &rt,
-        alloc,
-        &state,
-        &[
-            Move::LoadCell(1, 1),
-            Move::SwapCell(1, 1, None),
-            Move::LoadInHand(1, 1),
-        ],
-    );
-    state = play(
-        &rt,
-        alloc,
-        state,
-        &[
-            Move::LoadCell(1, 0),
-            Move::LoadCell(1, 1),
-            Move::SwapCell(1, 1, None),
-        ],
-    );
-    assert!(rt;
-        state.cells().get(1).copied()
-            == Some(Cell {
-                holder: Some(1),
-                names: None
-            })
-    );
-    all_refused(&rt, alloc, &state, &[Move::LoadCell(1, 1)]);
+    let start = started(&rt, rt.alloc(), 2, 2);
+    plays(&rt, rt.alloc(), start, &HELD_CELL);
 }
+
+const RAISES: [Row; 7] = [
+    Row::Does(&[
+        Move::ReadEpoch(0),
+        Move::Publish(0),
+        Move::ReadEpoch(2),
+        Move::Publish(2),
+        Move::Look(0, 1),
+    ]),
+    Row::Refuses(&[Move::Raise(0), Move::Look(0, 0)]),
+    Row::Does(&[Move::Look(0, 2), Move::Raise(0)]),
+    Row::Count(1),
+    // The guards that are open published 0, so nobody raises the count again before they close.
+    Row::Refuses(&[Move::Raise(0), Move::Look(0, 2), Move::Look(2, 0)]),
+    Row::Does(&[Move::Look(0, 1), Move::Look(2, 1)]),
+    Row::Refuses(&[Move::Raise(0), Move::Raise(2)]),
+];
 
 #[test]
 fn a_raise_is_refused_until_all_others_were_looked_at(rt: HostRuntime) {
-    let alloc = rt.alloc();
-    let mut state = State::start(alloc, 3, 1).expect(&rt, "memory");
-    state = play(
-        &rt,
-        alloc,
-        state,
-        &[Move::ReadEpoch(0), Move::Publish(0), Move::ReadEpoch(2)],
-    );
-    state = play(&rt, alloc, state, &[Move::Publish(2), Move::Look(0, 1)]);
-    all_refused(&rt, alloc, &state, &[Move::Raise(0), Move::Look(0, 0)]);
-    state = play(&rt, alloc, state, &[Move::Look(0, 2), Move::Raise(0)]);
-    assert!(rt; state.count() == 1);
-    // The guards that are open published 0, so nobody raises the count again before they close.
-    all_refused(
-        &rt,
-        alloc,
-        &state,
-        &[Move::Raise(0), Move::Look(0, 2), Move::Look(2, 0)],
-    );
-    state = play(&rt, alloc, state, &[Move::Look(0, 1), Move::Look(2, 1)]);
-    all_refused(&rt, alloc, &state, &[Move::Raise(0), Move::Raise(2)]);
+    let start = started(&rt, rt.alloc(), 3, 1);
+    plays(&rt, rt.alloc(), start, &RAISES);
 }
 
-fn state_of(state: &State, i: usize) -> Option<ItemState> {
-    state.items().get(i).map(|item| item.state)
-}
+const NOTED_GUARD: Row = Row::Does(&[
+    Move::ReadEpoch(0),
+    Move::Publish(0),
+    Move::Rotate(0),
+    Move::Reread(0),
+]);
+
+const RAISED: Row = Row::Does(&[Move::Look(0, 1), Move::Raise(0), Move::Close(0)]);
+
+const NOTED: [Row; 15] = [
+    Row::Does(&[
+        Move::Place(0, 1, None, None),
+        Move::ReadEpoch(0),
+        Move::Publish(0),
+        Move::Reread(0),
+        Move::Release(0, 0),
+        Move::Collect(0, 0),
+    ]),
+    RAISED,
+    Row::Item(0, ItemState::Collected(0)),
+    NOTED_GUARD,
+    Row::Count(1),
+    Row::Refuses(&[Move::Reclaim(0, 0)]),
+    RAISED,
+    NOTED_GUARD,
+    Row::Count(2),
+    Row::Refuses(&[Move::Reclaim(0, 0)]),
+    RAISED,
+    // The count that was published isn't one that was read again.
+    Row::Does(&[Move::ReadEpoch(0), Move::Publish(0), Move::Rotate(0)]),
+    Row::Refuses(&[Move::Reclaim(0, 0)]),
+    Row::Does(&[Move::Reread(0), Move::Reclaim(0, 0)]),
+    Row::Item(0, ItemState::Reclaimed(0)),
+];
 
 #[test]
 fn an_item_of_a_private_bag_is_reclaimed_three_counts_above_its_note(rt: HostRuntime) {
-    let alloc = rt.alloc();
-    let mut state = State::start(alloc, 2, 1).expect(&rt, "memory");
-    state = play(
-        &rt,
-        alloc,
-        state,
-        &[
-            Move::Place(0, 1, None, None),
-            Move::ReadEpoch(0),
-            Move::Publish(0),
-        ],
-    );
-    state = play(
-        &rt,
-        alloc,
-        state,
-        &[Move::Reread(0), Move::Release(0, 0), Move::Collect(0, 0)],
-    );
-    state = play(
-        &rt,
-        alloc,
-        state,
-        &[Move::Look(0, 1), Move::Raise(0), Move::Close(0)],
-    );
-    assert!(rt; state_of(&state, 0) == Some(ItemState::Collected(0)));
-    for count in 1..3 {
-        state = play(
-            &rt,
-            alloc,
-            state,
-            &[
-                Move::ReadEpoch(0),
-                Move::Publish(0),
-                Move::Rotate(0),
-                Move::Reread(0),
-            ],
-        );
-        assert!(rt; state.count() == count);
-        all_refused(&rt, alloc, &state, &[Move::Reclaim(0, 0)]);
-        state = play(
-            &rt,
-            alloc,
-            state,
-            &[Move::Look(0, 1), Move::Raise(0), Move::Close(0)],
-        );
-    }
-    // The count that was published isn't one that was read again.
-    state = play(
-        &rt,
-        alloc,
-        state,
-        &[Move::ReadEpoch(0), Move::Publish(0), Move::Rotate(0)],
-    );
-    all_refused(&rt, alloc, &state, &[Move::Reclaim(0, 0)]);
-    state = play(&rt, alloc, state, &[Move::Reread(0), Move::Reclaim(0, 0)]);
-    assert!(rt; state_of(&state, 0) == Some(ItemState::Reclaimed(0)));
+    let start = started(&rt, rt.alloc(), 2, 1);
+    plays(&rt, rt.alloc(), start, &NOTED);
 }
+
+const TAKEN_OVER: [Row; 4] = [
+    Row::Does(&[
+        Move::Place(0, 1, None, None),
+        Move::Release(0, 0),
+        Move::Retire(0, 0),
+        Move::End(0),
+    ]),
+    Row::Item(0, ItemState::Waiting),
+    Row::Does(&[Move::TakeOver(1, 0)]),
+    Row::Item(0, ItemState::Retired(1, 0)),
+];
 
 #[test]
 fn a_participant_that_ended_leaves_its_items_to_another(rt: HostRuntime) {
-    let alloc = rt.alloc();
-    let mut state = State::start(alloc, 2, 1).expect(&rt, "memory");
-    state = play(
-        &rt,
-        alloc,
-        state,
-        &[
-            Move::Place(0, 1, None, None),
-            Move::Release(0, 0),
-            Move::Retire(0, 0),
-        ],
-    );
-    state = play(&rt, alloc, state, &[Move::End(0)]);
-    assert!(rt; state_of(&state, 0) == Some(ItemState::Waiting));
-    state = play(&rt, alloc, state, &[Move::TakeOver(1, 0)]);
-    assert!(rt; state_of(&state, 0) == Some(ItemState::Retired(1, 0)));
+    let start = started(&rt, rt.alloc(), 2, 1);
+    plays(&rt, rt.alloc(), start, &TAKEN_OVER);
 }
+
+const EMPTIED: [Row; 4] = [
+    Row::Cell(
+        1,
+        Cell {
+            holder: Some(4),
+            names: Some(0),
+        },
+    ),
+    Row::Does(&[Move::GiveUpCell(0, 1)]),
+    Row::Cell(
+        1,
+        Cell {
+            holder: None,
+            names: None,
+        },
+    ),
+    Row::InHand(0, 2),
+];
 
 #[test]
 fn a_cell_of_a_reclaimed_item_stands_by_itself_when_it_is_empty(rt: HostRuntime) {
-    let alloc = rt.alloc();
-    let mut state = prepared(&rt, alloc);
-    assert!(rt;
-        state.cells().get(1).copied()
-            == Some(Cell {
-                holder: Some(4),
-                names: Some(0)
-            })
-    );
-    state = play(&rt, alloc, state, &[Move::GiveUpCell(0, 1)]);
-    assert!(rt;
-        state.cells().get(1).copied()
-            == Some(Cell {
-                holder: None,
-                names: None
-            })
-    );
-    assert!(rt; state.items().first().map(|item| item.hand) == Some(2));
+    let state = prepared(&rt, rt.alloc());
+    plays(&rt, rt.alloc(), state, &EMPTIED);
 }
 
 // Whether a loaded item is as it was when it was loaded.
@@ -506,29 +452,31 @@ impl Dice {
 
 // A step of any kind, on one of two participants, three cells and the items so far.
 fn any_move(dice: &mut Dice, items: usize) -> Move {
-    let p = dice.number(2);
-    let i = dice.number(items as u64);
+    let (p, q) = (dice.number(2), dice.number(2));
+    let (i, k) = (dice.number(items as u64), dice.number(items as u64));
     let c = dice.number(3);
+    let value = dice.below(100);
+    let some = if value % 2 == 0 { Some(i) } else { None };
     match dice.below(26) {
         0 => Move::ReadEpoch(p),
         1 => Move::Publish(p),
         2 => Move::Rotate(p),
         3 | 4 => Move::LoadCell(p, c),
         5 => Move::LoadInHand(p, i),
-        6 => Move::ReadSegment(p, i, dice.number(items as u64)),
-        7 | 8 => Move::SwapCell(p, c, if dice.below(2) == 0 { Some(i) } else { None }),
+        6 => Move::ReadSegment(p, i, k),
+        7 | 8 => Move::SwapCell(p, c, some),
         9 | 10 => Move::Release(p, i),
         11 => Move::Retire(p, i),
         12 => Move::Collect(p, i),
-        13 => Move::Look(p, dice.number(2)),
+        13 => Move::Look(p, q),
         14 => Move::Raise(p),
         15 => Move::Reclaim(p, i),
-        16 => Move::GiveUp(p, i, dice.number(items as u64)),
+        16 => Move::GiveUp(p, i, k),
         17 => Move::GiveUpCell(p, c),
         18 => Move::Close(p),
-        19 if items < 20 => Move::Place(p, dice.below(100), Some(i), None),
-        20 if items < 20 => Move::Place(p, dice.below(100), None, Some(c)),
-        21 if items < 20 => Move::Place(p, dice.below(100), None, None),
+        19 if items < 20 => Move::Place(p, value, Some(i), None),
+        20 if items < 20 => Move::Place(p, value, None, Some(c)),
+        21 if items < 20 => Move::Place(p, value, None, None),
         22 => Move::RaiseOwners(p, i),
         23 => Move::Reread(p),
         24 => Move::End(p),
@@ -540,7 +488,7 @@ fn any_move(dice: &mut Dice, items: usize) -> Move {
 // were reclaimed.
 fn random_steps<R: Abort>(rt: &R, alloc: Global, seed: u64, n: u32) -> (u32, usize) {
     let mut dice = Dice { seed };
-    let mut state = State::start(alloc, 2, 3).expect(rt, "memory");
+    let mut state = started(rt, alloc, 2, 3);
     let mut taken: u32 = 0;
     for _i in 0..n {
         let one = any_move(&mut dice, state.items().len());

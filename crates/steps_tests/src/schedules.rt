@@ -1,6 +1,6 @@
 //! Two schedules of a reader and a writer, as lists of steps, with what is left after each list.
 
-use crate::common::{Move, all_refused, play};
+use crate::common::{Move, refuses, takes};
 use sdd_steps::{ItemState, State};
 use std::alloc::Global;
 use std::process::Abort;
@@ -19,6 +19,13 @@ const VERSION: usize = 1;
 const OTHER_SEGMENT: usize = 2;
 
 const OTHER_VERSION: usize = 3;
+
+// What the moves of a list leave, each of which has to be enabled.
+fn play<R: Abort>(rt: &R, alloc: Global, state: State, moves: &[Move]) -> State {
+    let mut state = state;
+    assert!(rt; takes(rt, alloc, &mut state, moves));
+    state
+}
 
 fn is_left(state: &State, i: usize) -> bool {
     match state.items().get(i) {
@@ -97,12 +104,8 @@ fn guard<R: Abort>(rt: &R, alloc: Global, state: State, turns: bool) -> State {
 // One that can't raise it while the reader's guard is open with an older one.
 fn held_guard<R: Abort>(rt: &R, alloc: Global, state: State, turns: bool) -> State {
     let state = open(rt, alloc, state, turns);
-    all_refused(
-        rt,
-        alloc,
-        &state,
-        &[Move::Look(WRITER, READER), Move::Raise(WRITER)],
-    );
+    let looks = [Move::Look(WRITER, READER), Move::Raise(WRITER)];
+    assert!(rt; refuses(rt, alloc, &state, &looks));
     play(rt, alloc, state, &[Move::Close(WRITER)])
 }
 
