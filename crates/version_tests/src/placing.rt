@@ -1,10 +1,13 @@
 //! Placing versions, publishing them, and the slots that they take.
 
-ghost use Rattle.std.specs.Prelude.{◌≡◌, ◌<◌, List, length, Ok};
+ghost use Rattle.std.specs.Prelude.{◌≡◌, ◌<◌, ◌≤◌, ◌∷◌, [], List, length, Ok};
 ghost use Rattle.sdd_base.specs.Counting.{Counted};
-ghost use Rattle.sdd_base.specs.Holding.{Hold};
+ghost use Rattle.sdd_base.specs.Holding.{Hold, SharedItem};
+ghost use Rattle.sdd_base.specs.Place.{IsShared};
 ghost use Rattle.sdd_base.specs.State.{value_at};
+ghost use Rattle.sdd_base.specs.Tokens.{shared_slot};
 ghost use Rattle.std.specs.Ordering.{nat_cmp};
+ghost use Rattle.version_drafts.specs.Placing.{IsPlaceable};
 ghost use Rattle.version_views.specs.Items.{held_by};
 ghost use Rattle.version_views.specs.Versions.{IsVersion};
 
@@ -14,7 +17,6 @@ use sdd_base::sizes::Sizes;
 use sdd_base::world::{World, atomic_shared, guard, shared};
 use std::alloc::{AllocError, Global};
 use std::process::Abort;
-use std::test::Fail;
 use versions::{
     Built, Directory, Item, Reply, Write, build, len, look_up, place, publish, version,
 };
@@ -87,21 +89,53 @@ fn found(w: &World<Two, NoJob>, dir: &Directory<u64, Kept>) -> (usize, [Option<u
     (len(w, dir), [one, three, five, six])
 }
 
-#[test]
-fn a_version_takes_a_slot_for_each_segment_and_one(rt: HostRuntime) -> Result<(), Fail> {
-    let alloc = rt.alloc();
-    let writes = upserts(alloc, &[1, 2, 3, 4, 5])?;
-    let mut w: World<Two, NoJob> = match World::new(alloc, sizes(16)) {
+// A place with the empty version, and one of five pairs that is built on it and isn't placed yet.
+struct Begun {
+    w: World<Two, NoJob>,
+    first: Shared<Two>,
+    built: Built<u64, u64, 2>,
+    replies: Vec<Reply>,
+    // the slots in use before, and the pairs of the empty version
+    empty: (usize, usize),
+}
+
+fn begin<R: Abort>(rt: &R, alloc: Global, slots: usize) -> Begun
+    requires { slots ≤ 1000 }
+    ensures participants { length result.w.participants ≡ 1 }
+    ensures shared { IsShared result.w (shared_slot result.first) }
+    ensures placeable { IsPlaceable nat_cmp result.w result.built }
+    ensures counted { Counted held_by (SharedItem (shared_slot result.first) ∷ []) result.w }
+{
+    let mut w: World<Two, NoJob> = match World::new(alloc, sizes(slots)) {
         Ok(w) => w,
         Err(_) => panic!(rt; "no room for a place"),
     };
-    let first = placed(&rt, place(&mut w, Built::empty(alloc)));
+    let first = placed(rt, place(&mut w, Built::empty(alloc)));
     let empty = (w.slots_in_use(), len(&w, version(&w, &first)));
+    let writes = upserts(alloc, &[1, 2, 3, 4, 5]).expect(rt, "no memory for writes");
     w.laws();
     let (built, replies) = match build(alloc, &w, version(&w, &first), writes.as_slice()) {
         Ok(made) => made,
         Err(_) => panic!(rt; "no room for a version"),
     };
+    Begun {
+        w,
+        first,
+        built,
+        replies,
+        empty,
+    }
+}
+
+#[test]
+fn a_version_takes_a_slot_for_each_segment_and_one(rt: HostRuntime) {
+    let Begun {
+        mut w,
+        first,
+        built,
+        replies,
+        empty,
+    } = begin(&rt, rt.alloc(), 16);
     let takes = built.slots();
     let second = placed(&rt, place(&mut w, built));
     let root = match atomic_shared::from(&mut w, first) {
@@ -109,8 +143,7 @@ fn a_version_takes_a_slot_for_each_segment_and_one(rt: HostRuntime) -> Result<()
         Err(_) => panic!(rt; "no cell for the root"),
     };
     let rooted = w.slots_in_use();
-    let dir = version(&w, &second);
-    let pairs = found(&w, dir);
+    let pairs = found(&w, version(&w, &second));
     publish(&mut w, &root, second, 0);
     let published = w.slots_in_use();
     passes(&mut w, 8);
@@ -125,23 +158,17 @@ fn a_version_takes_a_slot_for_each_segment_and_one(rt: HostRuntime) -> Result<()
         ((1, 0), 4, (5, [Some(101), Some(103), Some(105), None]))
     );
     assert_eq!(rt; (rooted, published, reclaimed, left), (5, 5, 4, 0));
-    Ok(())
 }
 
 #[test]
-fn a_version_that_finds_no_room_comes_back(rt: HostRuntime) -> Result<(), Fail> {
-    let alloc = rt.alloc();
-    let writes = upserts(alloc, &[1, 2, 3, 4, 5])?;
-    let mut w: World<Two, NoJob> = match World::new(alloc, sizes(4)) {
-        Ok(w) => w,
-        Err(_) => panic!(rt; "no room for a place"),
-    };
-    let first = placed(&rt, place(&mut w, Built::empty(alloc)));
-    w.laws();
-    let (built, _) = match build(alloc, &w, version(&w, &first), writes.as_slice()) {
-        Ok(made) => made,
-        Err(_) => panic!(rt; "no room for a version"),
-    };
+fn a_version_that_finds_no_room_comes_back(rt: HostRuntime) {
+    let Begun {
+        mut w,
+        first,
+        built,
+        replies: _,
+        empty: _,
+    } = begin(&rt, rt.alloc(), 4);
     let back = match place(&mut w, built) {
         Ok(_) => panic!(rt; "there is room for it"),
         Err(back) => back.slots(),
@@ -152,5 +179,4 @@ fn a_version_that_finds_no_room_comes_back(rt: HostRuntime) -> Result<(), Fail> 
     let after = w.slots_in_use();
     end(&rt, w);
     assert_eq!(rt; (back, before, is_last, after), (4, 1, true, 0));
-    Ok(())
 }

@@ -86,13 +86,42 @@ const ROUND: Turn = Turn {
     raises: true,
 };
 
-fn round_without(gone: &'static [usize]) -> Turn {
-    Turn {
-        rotates: true,
-        gone,
-        raises: true,
-    }
-}
+// The turns in which items go.
+const EMPTY_GOES: Turn = Turn {
+    rotates: true,
+    gone: &[EMPTY],
+    raises: true,
+};
+
+const FIRST_GOES: Turn = Turn {
+    rotates: true,
+    gone: &[FIRST],
+    raises: true,
+};
+
+const SEGMENT_GOES: Turn = Turn {
+    rotates: true,
+    gone: &[2],
+    raises: true,
+};
+
+// The count is raised five times; the writer's last opening finds 4.
+const LIFTS: [Turn; 5] = [LIFT, ROUND, ROUND, EMPTY_GOES, ROUND];
+
+// Two rotations, one raise.
+const HELD_UP: [Turn; 8] = [ROUND, ROTATION, STILL, STILL, STILL, STILL, STILL, STILL];
+
+// The taken segment stays, which is the second version's too.
+const FREED: [Turn; 8] = [
+    LIFT,
+    FIRST_GOES,
+    ROUND,
+    ROUND,
+    SEGMENT_GOES,
+    ROUND,
+    ROUND,
+    ROUND,
+];
 
 // What a step leaves, which has to be enabled.
 fn after<R: Abort>(rt: &R, alloc: Global, state: State, step: Step) -> State {
@@ -417,6 +446,81 @@ fn read(w: &World<Two, NoJob>, at: &Ptr<'static, Two>) -> Option<(u64, usize)> {
     Some((dir.number(), dir.segments()))
 }
 
+// The reader's guard opens and finds 5, the root is loaded, and the second version takes the place of the first one.
+fn read_first<R: Abort>(
+    rt: &R,
+    w: &mut World<Two, NoJob>,
+    root: &AtomicShared<Two>,
+    second: Shared<Two>,
+) -> (WorldGuard, Known, bool)
+    requires participants { 1 < length w.old.participants }
+    requires counted { Counted held_by (SharedIn (shared_cell root.now) ∷ SharedItem (shared_slot second) ∷ []) w.old }
+    ensures participants { 1 < length w.new.participants }
+    ensures reader { IsOpen w.new 0 }
+    ensures guard { guard_participant result.0 ≡ 0 }
+    ensures counted { Counted held_by (SharedIn (shared_cell root.now) ∷ []) w.new }
+{
+    let (reading, first) = begin_reading(rt, w, root);
+    let opened = guard::epoch(w, &reading) == Epoch::of_count(5);
+    let second = replace(w, root, second, &reading);
+    (reading, Known { first, second }, opened)
+}
+
+fn read_beside<R: Abort>(rt: &R, alloc: Global, state: State) -> State {
+    let state = open(rt, alloc, state, READER, true);
+    let state = after(rt, alloc, state, Step::LoadCell(READER, ROOT));
+    replace_beside(rt, alloc, state)
+}
+
+// The count of the steps, the slots in use, and what the first version reads as.
+type Found = (u64, usize, Option<(u64, usize)>);
+
+fn found(w: &World<Two, NoJob>, state: &State, known: &Known) -> Found {
+    (state.count(), w.slots_in_use(), read(w, &known.first))
+}
+
+// The writer's guards go on while the reader's is open, which closes then: what was found before, and whether the reader's
+// guard stayed at 6.
+fn hold_up<R: Abort>(
+    rt: &R,
+    alloc: Global,
+    w: &mut World<Two, NoJob>,
+    start: State,
+    reading: WorldGuard,
+    known: &Known,
+) -> (State, Found, bool)
+    requires participants { 1 < length w.old.participants }
+    requires reader { IsOpen w.old 0 }
+    requires guard { guard_participant reading ≡ 0 }
+    ensures participants { 1 < length w.new.participants }
+    ensures counted { (hand : List Hold) → Counted held_by hand w.old → Counted held_by hand w.new }
+{
+    let state = play(rt, alloc, w, start, &HELD_UP, Some(known));
+    let stays = guard::epoch(w, &reading) == Epoch::of_count(6);
+    let held = found(w, &state, known);
+    let state = after(rt, alloc, state, Step::ReadSegment(READER, FIRST, 1));
+    end_reading(w, reading);
+    (after(rt, alloc, state, Step::Close(READER)), held, stays)
+}
+
+// What the present version reads as, and whether the reader's guard finds 14.
+fn read_present<R: Abort>(
+    rt: &R,
+    w: &mut World<Two, NoJob>,
+    root: &AtomicShared<Two>,
+) -> (Option<(u64, usize)>, bool)
+    requires participants { 1 < length w.old.participants }
+    requires root { (hand : List Hold) × Counted held_by (SharedIn (shared_cell root.now) ∷ hand) w.old }
+    ensures participants { 1 < length w.new.participants }
+    ensures counted { (hand : List Hold) → Counted held_by hand w.old → Counted held_by hand w.new }
+{
+    let (reading, at) = begin_reading(rt, w, root);
+    let reopened = guard::epoch(w, &reading) == Epoch::of_count(14);
+    let present = read(w, &at);
+    end_reading(w, reading);
+    (present, reopened)
+}
+
 // Ends the place.
 fn end<R: Abort>(rt: &R, mut w: World<Two, NoJob>, root: AtomicShared<Two>)
     requires participants { 1 < length w.participants }
@@ -439,44 +543,15 @@ fn a_place_goes_as_the_single_steps_say(rt: HostRuntime) {
     } = begin(&rt, alloc);
     let mut state = begin_beside(&rt, alloc);
     let begun = (w.slots_in_use(), left(&state));
-    // The count is raised five times; the writer's last opening found 4.
-    let lifts = [LIFT, ROUND, ROUND, round_without(&[EMPTY]), ROUND];
-    state = play(&rt, alloc, &mut w, state, &lifts, None);
+    state = play(&rt, alloc, &mut w, state, &LIFTS, None);
     let lifted = (state.count(), w.slots_in_use());
-    // The reader publishes 5, rotates and loads the first version, and another one takes its place.
-    let (reading, at) = begin_reading(&rt, &mut w, &root);
-    let opened = guard::epoch(&w, &reading) == Epoch::of_count(5);
-    state = open(&rt, alloc, state, READER, true);
-    state = after(&rt, alloc, state, Step::LoadCell(READER, ROOT));
-    let second = replace(&mut w, &root, second, &reading);
-    let known = Known { first: at, second };
-    state = replace_beside(&rt, alloc, state);
+    let (reading, known, opened) = read_first(&rt, &mut w, &root, second);
+    state = read_beside(&rt, alloc, state);
     let replaced = (w.slots_in_use(), left(&state));
-    // Two rotations, one raise.
-    let held_up = [ROUND, ROTATION, STILL, STILL, STILL, STILL, STILL, STILL];
-    state = play(&rt, alloc, &mut w, state, &held_up, Some(&known));
-    let stays = guard::epoch(&w, &reading) == Epoch::of_count(6);
-    let held = (state.count(), w.slots_in_use(), read(&w, &known.first));
-    state = after(&rt, alloc, state, Step::ReadSegment(READER, FIRST, 1));
-    end_reading(&mut w, reading);
-    state = after(&rt, alloc, state, Step::Close(READER));
-    let freed = [
-        LIFT,
-        round_without(&[FIRST]),
-        ROUND,
-        ROUND,
-        // the other segment is the second version's too
-        round_without(&[2]),
-        ROUND,
-        ROUND,
-        ROUND,
-    ];
-    state = play(&rt, alloc, &mut w, state, &freed, Some(&known));
-    let left = (state.count(), w.slots_in_use(), read(&w, &known.first));
-    let (reading, at) = begin_reading(&rt, &mut w, &root);
-    let reopened = guard::epoch(&w, &reading) == Epoch::of_count(14);
-    let present = read(&w, &at);
-    end_reading(&mut w, reading);
+    let (held_state, held, stays) = hold_up(&rt, alloc, &mut w, state, reading, &known);
+    state = play(&rt, alloc, &mut w, held_state, &FREED, Some(&known));
+    let left = found(&w, &state, &known);
+    let (present, reopened) = read_present(&rt, &mut w, &root);
     end(&rt, w, root);
     assert!(rt; opened && stays && reopened);
     assert_eq!(rt; (begun, lifted, replaced), ((6, 6), (5, 5), (5, 5)));

@@ -18,53 +18,30 @@ use Rattle.version_tests.proofs.Settled.{Settled, counted_first, settled_fresh, 
 use Rattle.version_tests.proofs.placing.a_version_takes_a_slot_for_each_segment_and_one.Goals as goal
 
 pub place-requires : goal.place-requires
-place-requires g c = rw c.empty.ensures (omega arith, (omega arith, empty_placeable nat_cmp c.in-Ok.w))
-
-pub build-requires : goal.build-requires
-build-requires g c =
-    let made = rw c.placed-first.ensures at c.place.ensures.placed in
-    let number = (c.version-2.ensures.is _ _ made.version).1 in
-    let none = ap (λ p. p.number) c.empty.ensures in
-    let one : 1 ≤ 2 = omega arith in
-    let two : 2 ≤ 225 = omega arith in
-    (omega arith, (omega arith, (c.version-2.ensures.version, ((one, two), (omega (arith, number, none), ((λ x y e. e), (λ x y e. e)))))))
-
-pub place-requires-2 : goal.place-requires-2
-place-requires-2 g c =
-    let sizes = c.sizes.result in
-    let n : ℕ = sizes.slots + sizes.jobs + sizes.cells in
-    let few = ap (λ (x : Sizes). x.slots + x.jobs + x.cells) c.sizes.ensures in
-    let first = shared_slot c.placed-first.result in
-    let made = rw c.placed-first.ensures at c.place.ensures.placed in
-    let new : Settled [] n c.in-Ok.w = subst (λ (w : State (Item ℕ ℕ 2)). Settled [] n w) (sym (rw c.in-Ok.is at c.new.ensures)) (settled_fresh sizes) in
-    let one = settled_placed nat_cmp [] n _ first c.in-Ok.w c.place.new.w new made in
-    (omega arith, (omega arith, c.in-Ok-build.ensures.placeable (settled_shared nat_cmp (SharedItem first ∷ []) n c.place.new.w one c.laws.ensures (omega (arith, few)) first c.version-2.result.now c.version-2.ensures.stands)))
+place-requires g c = (omega arith, (omega arith, c.begin-w.ensures.placeable))
 
 -- the cell of the root leaves the version and its owner
-pub version-dir-requires : goal.version-dir-requires
-version-dir-requires g c =
+pub version-requires : goal.version-requires
+version-requires g c =
     let second = shared_slot c.placed-second.result in
-    let placed-second = rw c.placed-second.ensures at c.place-2.ensures.placed in
-    let rooted = rw c.in-Ok-from.is at c.from.ensures.made in
+    let placed-second = rw c.placed-second.ensures at c.place.ensures.placed in
+    let rooted = rw c.in-Ok.is at c.from.ensures.made in
     let sh = placed-second.shared in
     let owned : IsShared c.from.new.w second = subst (λ w. IsShared w second) (sym rooted.1) (record { inside = sh.inside; owners = sh.owners; is = sh.is }) in
-    let there = version_with_cell nat_cmp _ _ second _ _ c.place-2.new.w c.from.new.w rooted.1 placed-second.version in
+    let there = version_with_cell nat_cmp _ _ second _ _ c.place.new.w c.from.new.w rooted.1 placed-second.version in
     (omega arith, (owned, (_, _, there)))
 
 pub publish-requires : goal.publish-requires
 publish-requires g c =
-    let first = shared_slot c.placed-first.result in
-    let root = shared_cell c.in-Ok-from.root in
-    let placed-first = rw c.placed-first.ensures at c.place.ensures.placed in
-    let placed-second = rw c.placed-second.ensures at c.place-2.ensures.placed in
-    let rooted = rw c.in-Ok-from.is at c.from.ensures.made in
-    let participants = ap (λ w. length w.participants) rooted.1 ∙ ap length placed-second.adds.participants ∙ ap length placed-first.adds.participants ∙ ap (λ w. length w.participants) (rw c.in-Ok.is at c.new.ensures) in
-    let one = length-replicate c.sizes.result.participants nobody in
-    let sized = ap (λ n. n.participants) c.sizes.ensures in
-    let kept : cell_at c.from.new.w root ≡ cell.OfShared (Some first) tag.None = ap (λ w. cell_at w root) rooted.1 ∙ get_or-set_same c.place-2.new.w.cells root (cell.OfShared (Some first) tag.None) cell.Free rooted.0.0 in
-    let sh = placed-second.adds.owned first placed-first.shared in
+    let first = shared_slot c.begin-w.result.first in
+    let root = shared_cell c.in-Ok.root in
+    let placed-second = rw c.placed-second.ensures at c.place.ensures.placed in
+    let rooted = rw c.in-Ok.is at c.from.ensures.made in
+    let participants = ap (λ w. length w.participants) rooted.1 ∙ ap length placed-second.adds.participants ∙ c.begin-w.ensures.participants in
+    let kept : cell_at c.from.new.w root ≡ cell.OfShared (Some first) tag.None = ap (λ w. cell_at w root) rooted.1 ∙ get_or-set_same c.place.new.w.cells root (cell.OfShared (Some first) tag.None) cell.Free rooted.0.0 in
+    let sh = placed-second.adds.owned first c.begin-w.ensures.shared in
     let owned : IsShared c.from.new.w first = subst (λ w. IsShared w first) (sym rooted.1) (record { inside = sh.inside; owners = sh.owners; is = sh.is }) in
-    (omega arith, (omega (arith, participants, one, sized), (rw c.in-Ok-from.is at c.from.ensures.used, λ i t e. subst (λ j. IsShared c.from.new.w j) (slot_same first i tag.None t (sym kept ∙ e)) owned)))
+    (omega arith, (omega (arith, participants), (rw c.in-Ok.is at c.from.ensures.used, λ i t e. subst (λ j. IsShared c.from.new.w j) (slot_same first i tag.None t (sym kept ∙ e)) owned)))
   where
     slot_same : (i j : ℕ) (s t : Tag) → cell.OfShared (Some i) s ≡ cell.OfShared (Some j) t → i ≡ j
     slot_same i j s t e = cc
@@ -74,20 +51,18 @@ pub retire-requires-clause-cell : goal.retire-requires-clause-cell
 retire-requires-clause-cell g c =
     let owners : OwnersAreCounted {T = Item ℕ ℕ 2} held_by = owners_are_counted held_by in
     let Is : List Hold → State (Item ℕ ℕ 2) → Type 0 = λ hand w. Counted held_by hand w in
-    let first = shared_slot c.placed-first.result in
+    let first = shared_slot c.begin-w.result.first in
     let second = shared_slot c.placed-second.result in
-    let root = shared_cell c.in-Ok-from.root in
+    let root = shared_cell c.in-Ok.root in
     let hand : List Hold = SharedIn root ∷ [] in
-    let placed-first = rw c.placed-first.ensures at c.place.ensures.placed in
-    let placed-second = rw c.placed-second.ensures at c.place-2.ensures.placed in
-    let made = rw c.in-Ok.is at c.new.ensures in
-    let rooted = rw c.in-Ok-from.is at c.from.ensures.made in
-    let used = rw c.in-Ok-from.is at c.from.ensures.used in
-    let kept : cell_at c.from.new.w root ≡ cell.OfShared (Some first) tag.None = ap (λ w. cell_at w root) rooted.1 ∙ get_or-set_same c.place-2.new.w.cells root (cell.OfShared (Some first) tag.None) cell.Free rooted.0.0 in
-    let one : Is (SharedItem first ∷ []) c.place.new.w = placed-first.counted [] (subst (Is []) (sym made) (owners.fresh c.sizes.result)) in
-    let two : Is (SharedItem second ∷ SharedItem first ∷ []) c.place-2.new.w = placed-second.counted (SharedItem first ∷ []) one in
-    let three : Is (SharedItem first ∷ SharedItem second ∷ []) c.place-2.new.w = counted_first (SharedItem second ∷ []) (SharedItem first) [] c.place-2.new.w two in
-    let four : Is (SharedIn root ∷ SharedItem second ∷ []) c.from.new.w = subst (Is (SharedIn root ∷ SharedItem second ∷ [])) (sym rooted.1) (owners.cell_made root (Some first) tag.None (SharedItem second ∷ []) c.place-2.new.w rooted.0 three) in
+    let placed-second = rw c.placed-second.ensures at c.place.ensures.placed in
+    let rooted = rw c.in-Ok.is at c.from.ensures.made in
+    let used = rw c.in-Ok.is at c.from.ensures.used in
+    let kept : cell_at c.from.new.w root ≡ cell.OfShared (Some first) tag.None = ap (λ w. cell_at w root) rooted.1 ∙ get_or-set_same c.place.new.w.cells root (cell.OfShared (Some first) tag.None) cell.Free rooted.0.0 in
+    let one : Is (SharedItem first ∷ []) c.begin-w.result.w = c.begin-w.ensures.counted in
+    let two : Is (SharedItem second ∷ SharedItem first ∷ []) c.place.new.w = placed-second.counted (SharedItem first ∷ []) one in
+    let three : Is (SharedItem first ∷ SharedItem second ∷ []) c.place.new.w = counted_first (SharedItem second ∷ []) (SharedItem first) [] c.place.new.w two in
+    let four : Is (SharedIn root ∷ SharedItem second ∷ []) c.from.new.w = subst (Is (SharedIn root ∷ SharedItem second ∷ [])) (sym rooted.1) (owners.cell_made root (Some first) tag.None (SharedItem second ∷ []) c.place.new.w rooted.0 three) in
     let five : Is (SharedItem second ∷ hand) c.from.new.w = counted_first hand (SharedItem second) [] c.from.new.w four in
     let six = owners.cell_swapped root (Some first) (Some second) tag.None tag.None hand c.from.new.w used.inside kept five in
     let seven : Is hand c.publish.new.w = subst (Is hand) (sym (c.publish.ensures.published (Some first) tag.None kept)) (owners.given 0 (SharedItem first) hand (with_cell root (cell.OfShared (Some second) tag.None) c.from.new.w) six) in
