@@ -65,26 +65,41 @@ fn has_all(scene: &Scene<225>, label: u64, count: u64) -> bool {
     in_order && next == count && scene.index.len(session) as u64 == count
 }
 
-// Commits many writes on many reads; looks at the list; and audits what is there at the present number, and what holds no
-// more.
-fn committed(alloc: Global, scene: &mut Scene<225>) -> Result<[bool; 6], AllocError> {
+// Whether many writes are committed on many reads.
+fn is_committed(alloc: Global, scene: &mut Scene<225>) -> Result<bool, AllocError> {
     let absent = look_ups(alloc, 0, READS, false)?;
-    let there = look_ups(alloc, 1, READS, true)?;
-    let commit = DeskCall::Commit(absent.clone()?, inserts(alloc, WRITES)?);
-    Ok([
-        is_answered(scene, commit, All(1, WRITES as usize, Reply::Inserted))?,
+    let commit = DeskCall::Commit(absent, inserts(alloc, WRITES)?);
+    is_answered(scene, commit, All(1, WRITES as usize, Reply::Inserted))
+}
+
+// Whether look-ups of a list are right at its number.
+fn is_right(
+    alloc: Global,
+    scene: &mut Scene<225>,
+    number: u64,
+    found: bool,
+) -> Result<bool, AllocError> {
+    let reads = look_ups(alloc, number, READS, found)?;
+    is_answered(scene, DeskCall::Audit(reads), Audited(Audit::Yes))
+}
+
+// Opens a session, looks at its list, and closes it.
+fn is_read(scene: &mut Scene<225>) -> [bool; 3] {
+    [
         scene.answers(Open(1), Opened(1)),
         has_all(scene, 1, WRITES),
         scene.answers(Close(1), Closed(1, &[])),
-        is_answered(scene, DeskCall::Audit(there), Audited(Audit::Yes))?,
-        is_answered(scene, DeskCall::Audit(absent), Audited(Audit::Yes))?,
-    ])
+    ]
 }
 
 #[test]
 fn many_writes_are_committed_on_many_reads(rt: HostRuntime) {
-    let mut scene = Scene::<225>::new(&rt, rt.alloc(), 1, 2_000, u64::MAX);
-    let found = committed(rt.alloc(), &mut scene);
+    let alloc = rt.alloc();
+    let mut scene = Scene::<225>::new(&rt, alloc, 1, 2_000, u64::MAX);
+    let committed = is_committed(alloc, &mut scene);
+    let read = is_read(&mut scene);
+    let present = is_right(alloc, &mut scene, 1, true);
+    let before = is_right(alloc, &mut scene, 0, false);
     scene.end(&rt);
-    assert!(rt; found == Ok([true; 6]));
+    assert!(rt; [committed, present, before] == [Ok(true); 3] && read == [true; 3]);
 }
