@@ -37,8 +37,8 @@ impl<'r, R: Abort, J: Deferred> Stage<'r, R, J> {
                 Ok(shared) => (at, (Thing::Shared(shared), Found::Done)),
                 Err(value) => (at, (Thing::Nothing, Found::Back(value))),
             },
-            Step::OwnWith(at, value) => (at, self.own_with(value)),
-            Step::ShareWith(at, value) => (at, self.share_with(value)),
+            Step::OwnWith(at, value) => (at, self.make_with(false, value)),
+            Step::ShareWith(at, value) => (at, self.make_with(true, value)),
             Step::Keep(at, value) => (at, self.keep(value)),
             _ => return self.of_owned(step),
         };
@@ -46,27 +46,27 @@ impl<'r, R: Abort, J: Deferred> Stage<'r, R, J> {
         found
     }
 
-    fn own_with(&mut self, value: u64) -> (Thing, Found) {
+    /// A new item of what a closure gives, whose owners are counted or not.
+    fn make_with(&mut self, counts: bool, value: u64) -> (Thing, Found) {
         let mut asked = 0u32;
-        let made = world::owned::new_with(&mut self.w, || {
+        let give = || {
             asked = asked.saturating_add(1);
             value
-        });
+        };
+        let made = if counts {
+            match world::shared::new_with(&mut self.w, give) {
+                Ok(shared) => Some(Thing::Shared(shared)),
+                Err(_) => None,
+            }
+        } else {
+            match world::owned::new_with(&mut self.w, give) {
+                Ok(owned) => Some(Thing::Owned(owned)),
+                Err(_) => None,
+            }
+        };
         match made {
-            Ok(owned) => (Thing::Owned(owned), Found::Done),
-            Err(_) => not_made(asked),
-        }
-    }
-
-    fn share_with(&mut self, value: u64) -> (Thing, Found) {
-        let mut asked = 0u32;
-        let made = world::shared::new_with(&mut self.w, || {
-            asked = asked.saturating_add(1);
-            value
-        });
-        match made {
-            Ok(shared) => (Thing::Shared(shared), Found::Done),
-            Err(_) => not_made(asked),
+            Some(thing) => (thing, Found::Done),
+            None => not_made(asked),
         }
     }
 
