@@ -5,11 +5,14 @@ ghost use Rattle.sdd_base.specs.Place.{IsOpen};
 ghost use Rattle.sdd.specs.Bags.{IsLength, IsSomeBag, bag_cells, into_cells};
 
 use crate::bags::Call::{IsEmpty, Len, Pop, Push, TryPush};
-use crate::bags::Reply::{Back, Count, Done, Is, Value};
+use crate::filled::{bag_of, lacking, some_bag};
 use crate::places::{end, give, new_bag, place_of};
+use crate::random_calls::next;
+use crate::replies::Reply::{Back, Count, Done, Is, Value};
+use crate::replies::{Reply, told};
 use sdd::bag::{Bag, IntoIter};
 use sdd::linked_entry::LinkedEntry;
-use sdd::refusal::{FromIterRefused, NotMade};
+use sdd::refusal::NotMade;
 use sdd::world;
 use sdd_base::owner::Shared;
 use sdd_base::world as place;
@@ -35,32 +38,34 @@ pub(crate) fn pop<const N: usize>(w: &mut World<LinkedEntry<u64>>, bag: &Bag<u64
     }
 }
 
+/// The values that six pops give, one after the other.
+pub(crate) fn six_pops<const N: usize>(
+    w: &mut World<LinkedEntry<u64>>,
+    bag: &Bag<u64, N>,
+) -> [Option<u64>; 6]
+    requires participant { 0 < length w.old.participants }
+    requires list { IsSomeBag N w.old (bag_cells bag.now) }
+    ensures participant { 0 < length w.new.participants }
+    ensures list { IsSomeBag N w.new (bag_cells bag.now) }
+{
+    [
+        pop(w, bag),
+        pop(w, bag),
+        pop(w, bag),
+        pop(w, bag),
+        pop(w, bag),
+        pop(w, bag),
+    ]
+}
+
 /// A call of a bag.
 #[derive(Clone, Copy)]
-enum Call {
+pub(crate) enum Call {
     Push(u64),
     TryPush(u64),
     Pop,
     Len,
     IsEmpty,
-}
-
-/// What a call returns.
-#[derive(Clone, Copy, PartialEq, Eq)]
-enum Reply {
-    Done,
-    Back(u64),
-    Value(Option<u64>),
-    Is(bool),
-    Count(usize),
-}
-
-/// Whether a value was put into a bag, or came back.
-fn told(pushed: Result<(), u64>) -> Reply {
-    match pushed {
-        Ok(()) => Done,
-        Err(value) => Back(value),
-    }
 }
 
 /// Makes a call.
@@ -79,22 +84,25 @@ fn make<const N: usize>(w: &mut World<LinkedEntry<u64>>, bag: &Bag<u64, N>, call
     }
 }
 
-/// Makes the calls of a table, in order, and compares what they return.
-fn play<R: Abort, const N: usize>(
-    rt: &R,
+/// Makes the calls of a table, in order: how many return what they should before the first that doesn't.
+pub(crate) fn play<const N: usize>(
     w: &mut World<LinkedEntry<u64>>,
     bag: &Bag<u64, N>,
     rows: &[(Call, Reply)],
-)
+) -> usize
     requires participant { 0 < length w.old.participants }
     requires list { IsSomeBag N w.old (bag_cells bag.now) }
     ensures participant { 0 < length w.new.participants }
     ensures list { IsSomeBag N w.new (bag_cells bag.now) }
 {
-    for row in rows {
-        let (call, wanted) = *row;
-        assert!(rt; make(w, bag, call) == wanted);
+    let mut right = 0usize;
+    for at in 0..rows.len() {
+        let (call, wanted) = rows[at];
+        if make(w, bag, call) == wanted && right == at {
+            right = right.saturating_add(1);
+        }
     }
+    right
 }
 
 /// Takes all entries of a bag, ends it, and gives their owners back; tells how many there were.
@@ -149,9 +157,10 @@ fn on_a_bag<R: Abort, const N: usize>(
     let (slots, cells) = sizes;
     let mut w = place_of(rt, alloc, slots, cells);
     let bag = new_bag::<_, N>(rt, alloc, &mut w);
-    play(rt, &mut w, &bag, rows);
+    let right = play(&mut w, &bag, rows);
     let folded = fold(rt, alloc, &mut w, bag);
     end(rt, w);
+    assert_eq!(rt; right, rows.len(), "rows before one that isn't right");
     folded
 }
 
@@ -239,12 +248,6 @@ fn a_bag_is_taken_apart(rt: HostRuntime) {
     assert!(rt; [first, second, third] == [Some(2), Some(1), None]);
 }
 
-/// The next of a run of numbers, each far from the one before.
-fn next(seed: u64) -> u64 {
-    seed.wrapping_mul(6364136223846793005)
-        .wrapping_add(1442695040888963407)
-}
-
 /// Takes a number out of a list, and answers whether it was there.
 fn remove(list: &mut Vec<u64>, value: u64) -> bool {
     for at in 0..list.len() {
@@ -256,167 +259,117 @@ fn remove(list: &mut Vec<u64>, value: u64) -> bool {
     false
 }
 
-/// Puts `seed` into the primary of a bag, and does the same to a multiset.
-fn try_call<R: Abort>(
-    rt: &R,
-    w: &mut World<LinkedEntry<u64>>,
-    bag: &Bag<u64, 3>,
-    primary: &mut Vec<u64>,
-    room: &mut u64,
-    seed: u64,
-)
-    requires participant { 0 < length w.old.participants }
-    requires list { IsSomeBag 3 w.old (bag_cells bag.now) }
-    ensures participant { 0 < length w.new.participants }
-    ensures list { IsSomeBag 3 w.new (bag_cells bag.now) }
-{
-    match world::bag::try_push(w, bag, seed) {
-        Ok(()) => {
-            assert!(rt; *room > 0 && primary.len() < 3);
-            *room = room.saturating_sub(1);
-            primary.push(seed).expect(rt, "memory");
+/// What a bag of three should have: the values of the primary and of the overflow, and how many slots are free.
+#[derive(Drop)]
+struct Plain {
+    primary: Vec<u64>,
+    overflow: Vec<u64>,
+    room: u64,
+}
+
+impl Plain {
+    /// Puts a value into the primary, and else, where that may be, into the overflow; or it comes back.
+    fn push(&mut self, value: u64, may_overflow: bool) -> Result<(), u64> {
+        let full = self.primary.len() >= 3;
+        if self.room == 0 || full && !may_overflow {
+            return Err(value);
         }
-        Err(back) => assert!(rt; back == seed && (*room == 0 || primary.len() == 3)),
+        self.room = self.room.saturating_sub(1);
+        let part = if full {
+            &mut self.overflow
+        } else {
+            &mut self.primary
+        };
+        let _kept = part.push(value);
+        Ok(())
     }
-}
 
-/// Puts `seed` into a bag, and does the same to two multisets.
-fn push_call<R: Abort>(
-    rt: &R,
-    w: &mut World<LinkedEntry<u64>>,
-    bag: &Bag<u64, 3>,
-    primary: &mut Vec<u64>,
-    overflow: &mut Vec<u64>,
-    room: &mut u64,
-    seed: u64,
-)
-    requires participant { 0 < length w.old.participants }
-    requires list { IsSomeBag 3 w.old (bag_cells bag.now) }
-    ensures participant { 0 < length w.new.participants }
-    ensures list { IsSomeBag 3 w.new (bag_cells bag.now) }
-{
-    match world::bag::push(w, bag, seed) {
-        Ok(()) => {
-            assert!(rt; *room > 0);
-            *room = room.saturating_sub(1);
-            let part = if primary.len() < 3 { primary } else { overflow };
-            part.push(seed).expect(rt, "memory");
+    /// Takes out what a pop gave, which is of the overflow where that has any: whether it was there.
+    fn pop(&mut self, popped: Option<u64>) -> bool {
+        let last = self.overflow.is_empty();
+        let part = if last {
+            &mut self.primary
+        } else {
+            &mut self.overflow
+        };
+        match popped {
+            None => last && part.is_empty(),
+            Some(value) => remove(part, value),
         }
-        Err(back) => assert!(rt; back == seed && *room == 0),
+    }
+
+    fn len(&self) -> usize {
+        self.primary.len().saturating_add(self.overflow.len())
     }
 }
 
-/// Takes a value out of a bag, and the same out of two multisets.
-fn pop_call<R: Abort>(
-    rt: &R,
+/// One call of a bag of three, as `seed` says, and the same of two multisets: whether both answer alike.
+fn bag_call(
     w: &mut World<LinkedEntry<u64>>,
     bag: &Bag<u64, 3>,
-    primary: &mut Vec<u64>,
-    overflow: &mut Vec<u64>,
-)
-    requires participant { 0 < length w.old.participants }
-    requires list { IsSomeBag 3 w.old (bag_cells bag.now) }
-    ensures participant { 0 < length w.new.participants }
-    ensures list { IsSomeBag 3 w.new (bag_cells bag.now) }
-{
-    let last = overflow.is_empty();
-    match pop(w, bag) {
-        None => assert!(rt; primary.is_empty() && last),
-        Some(value) => assert!(rt;
-            if last {
-                remove(primary, value)
-            } else {
-                remove(overflow, value)
-            }
-        ),
-    }
-}
-
-/// One call of a bag of three and the overflow, as `seed` says, and the same of two multisets.
-fn bag_call<R: Abort>(
-    rt: &R,
-    w: &mut World<LinkedEntry<u64>>,
-    bag: &Bag<u64, 3>,
-    primary: &mut Vec<u64>,
-    overflow: &mut Vec<u64>,
-    room: &mut u64,
+    plain: &mut Plain,
     seed: u64,
-)
+) -> bool
     requires participant { 0 < length w.old.participants }
     requires list { IsSomeBag 3 w.old (bag_cells bag.now) }
     ensures participant { 0 < length w.new.participants }
     ensures list { IsSomeBag 3 w.new (bag_cells bag.now) }
 {
-    let choice = seed >> 60;
-    if choice < 4 {
-        try_call(rt, w, bag, primary, room, seed);
-    } else if choice < 9 {
-        push_call(rt, w, bag, primary, overflow, room, seed);
-    } else {
-        pop_call(rt, w, bag, primary, overflow);
-    }
-    let empty = primary.is_empty() && overflow.is_empty();
-    let alike = world::bag::len(w, bag) == primary.len().saturating_add(overflow.len());
-    assert!(rt; alike && world::bag::is_empty(w, bag) == empty);
+    let alike = match seed >> 60 {
+        0..=3 => world::bag::try_push(w, bag, seed) == plain.push(seed, false),
+        4..=8 => world::bag::push(w, bag, seed) == plain.push(seed, true),
+        _ => plain.pop(pop(w, bag)),
+    };
+    let found = (world::bag::len(w, bag), world::bag::is_empty(w, bag));
+    alike && found == (plain.len(), plain.len() == 0)
 }
 
 #[test]
 fn a_bag_is_two_multisets(rt: HostRuntime) {
     let mut w = place_of(&rt, rt.alloc(), 300, 304);
-    let mut primary = Vec::new(rt.alloc());
-    let mut overflow = Vec::new(rt.alloc());
-    let mut room = 300;
+    let mut plain = Plain {
+        primary: Vec::new(rt.alloc()),
+        overflow: Vec::new(rt.alloc()),
+        room: 300,
+    };
     let mut seed = 3;
+    let mut right = true;
     let bag = new_bag::<_, 3>(&rt, rt.alloc(), &mut w);
     for _step in 0..900 {
         seed = next(seed);
-        bag_call(
-            &rt,
-            &mut w,
-            &bag,
-            &mut primary,
-            &mut overflow,
-            &mut room,
-            seed,
-        );
+        right = bag_call(&mut w, &bag, &mut plain, seed) && right;
     }
     world::bag::retire(&mut w, bag, 0);
     end(&rt, w);
-    assert!(rt; room == 0);
+    assert!(rt; right && plain.room == 0);
 }
 
 #[test]
 fn values_become_a_bag(rt: HostRuntime) {
     let mut w = place_of(&rt, rt.alloc(), 5, 9);
-    let bag = match world::bag::from_iter::<u64, _, 2, _>(rt.alloc(), &mut w, 1..6) {
-        Ok(bag) => bag,
-        _ => panic!(rt; "there is room"),
-    };
+    let bag = bag_of::<_, 2>(&rt, rt.alloc(), &mut w, 1..6);
     let len = world::bag::len(&w, &bag);
-    let third = pop(&mut w, &bag);
-    let fourth = pop(&mut w, &bag);
-    let fifth = pop(&mut w, &bag);
-    let first = pop(&mut w, &bag);
-    let second = pop(&mut w, &bag);
-    let none = pop(&mut w, &bag);
+    let popped = six_pops(&mut w, &bag);
     world::bag::retire(&mut w, bag, 0);
     end(&rt, w);
-    assert!(rt; len == 5 && third.is_some() && fourth.is_some() && fifth.is_some());
+    let [one, other, third, first, second, none] = popped;
+    assert!(rt; len == 5 && one.is_some() && other.is_some() && third.is_some());
     assert!(rt; [first, second, none] == [Some(1), Some(2), None]);
 }
 
 #[test]
 fn a_bag_without_room_hands_back_what_was_built(rt: HostRuntime) {
     let mut w = place_of(&rt, rt.alloc(), 3, 9);
-    let found = match world::bag::from_iter::<u64, _, 2, _>(rt.alloc(), &mut w, 1..6) {
-        Err(FromIterRefused::NoSlot(bag, value)) => {
+    let (made, lack) = some_bag::<2>(rt.alloc(), &mut w, 1..6);
+    let found = match made {
+        Some(bag) => {
             let len = world::bag::len(&w, &bag);
             let last = pop(&mut w, &bag);
             world::bag::retire(&mut w, bag, 0);
-            (value, len, last)
+            (lacking(lack), len, last)
         }
-        _ => panic!(rt; "three slots are free"),
+        None => panic!(rt; "three cells are free"),
     };
     end(&rt, w);
-    assert!(rt; found == (4, 3, Some(3)));
+    assert!(rt; found == (Some(4), 3, Some(3)));
 }

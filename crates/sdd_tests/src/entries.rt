@@ -29,7 +29,7 @@ fn write(entry: &mut LinkedEntry<u64>, value: u64)
 }
 
 /// Gives an entry to the place, which ends it.
-fn retire<R: Abort>(rt: &R, w: &mut World<LinkedEntry<u64>>, entry: LinkedEntry<u64>)
+pub(crate) fn retire<R: Abort>(rt: &R, w: &mut World<LinkedEntry<u64>>, entry: LinkedEntry<u64>)
     requires { 0 < length w.old.participants }
     ensures { 0 < length w.new.participants }
 {
@@ -162,12 +162,7 @@ fn an_entry_is_made_where_a_cell_is_free(rt: HostRuntime) {
         Ok(_) => panic!(rt; "the cell is taken"),
         Err(back) => back,
     };
-    match place::shared::new(&mut w, entry) {
-        Ok(owner) => {
-            place::shared::release(&mut w, owner, 0);
-        }
-        Err(_) => panic!(rt; "a slot is free"),
-    }
+    retire(&rt, &mut w, entry);
     end(&rt, w);
     assert!(rt; (value, back) == (5, 6));
 }

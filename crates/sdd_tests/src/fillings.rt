@@ -7,13 +7,15 @@ ghost use Rattle.sdd.specs.Entries.{entry_link};
 ghost use Rattle.sdd.specs.Stacks.{IsSomeStack, stack_cell};
 ghost use Rattle.sdd.specs.Queues.{IsSomeQueue, oldest_cell, newest_cell};
 
+use crate::filled::{Lack, lacking, queue_of, some_bag, some_queue, some_stack, stack_of};
 use crate::places::{close, end, guarded, place_of, sizes};
 use crate::queues::{append, take};
-use crate::stacks::{delete, pop, push};
+use crate::stacks::Change::Delete;
+use crate::stacks::{change_first, pop, push};
 use crate::walks::{three_of_queue, three_of_stack};
 use sdd::linked_entry::LinkedEntry;
 use sdd::queue::Queue;
-use sdd::refusal::{CloneRefused, FromIterRefused, NotMade};
+use sdd::refusal::{CloneRefused, NotMade};
 use sdd::stack::Stack;
 use sdd::world;
 use sdd_base::world::World;
@@ -99,10 +101,7 @@ fn queue_round<R: Abort>(rt: &R, w: &mut World<LinkedEntry<u64>>, n: u64)
     requires { 0 < length w.old.participants }
     ensures { 0 < length w.new.participants }
 {
-    let queue = match world::queue::from_iter(w, 0..n) {
-        Ok(queue) => queue,
-        _ => panic!(rt; "there is room"),
-    };
+    let queue = queue_of(rt, w, 0..n);
     for number in 0..n {
         assert!(rt; take(w, &queue) == Some(number));
     }
@@ -115,10 +114,7 @@ fn stack_round<R: Abort>(rt: &R, w: &mut World<LinkedEntry<u64>>, n: u64)
     requires { 0 < length w.old.participants }
     ensures { 0 < length w.new.participants }
 {
-    let stack = match world::stack::from_iter(w, 0..n) {
-        Ok(stack) => stack,
-        _ => panic!(rt; "there is room"),
-    };
+    let stack = stack_of(rt, w, 0..n);
     for number in (0..n).rev() {
         assert!(rt; pop(w, &stack) == Some(number));
     }
@@ -129,10 +125,7 @@ fn stack_round<R: Abort>(rt: &R, w: &mut World<LinkedEntry<u64>>, n: u64)
 #[test]
 fn values_become_a_queue(rt: HostRuntime) {
     let mut w = place_of(&rt, rt.alloc(), 400, 402);
-    let queue = match world::queue::from_iter(&mut w, 1..4) {
-        Ok(queue) => queue,
-        _ => panic!(rt; "there is room"),
-    };
+    let queue = queue_of(&rt, &mut w, 1..4);
     let three = three_of_queue(&w, &queue);
     let appended = append(&mut w, &queue, 4);
     let len = world::queue::len(&w, &queue);
@@ -148,10 +141,7 @@ fn values_become_a_queue(rt: HostRuntime) {
 #[test]
 fn values_become_a_stack(rt: HostRuntime) {
     let mut w = place_of(&rt, rt.alloc(), 400, 402);
-    let stack = match world::stack::from_iter(&mut w, 1..4) {
-        Ok(stack) => stack,
-        _ => panic!(rt; "there is room"),
-    };
+    let stack = stack_of(&rt, &mut w, 1..4);
     let three = three_of_stack(&w, &stack);
     let pushed = push(&mut w, &stack, 4);
     let len = world::stack::len(&w, &stack);
@@ -168,32 +158,32 @@ fn values_become_a_stack(rt: HostRuntime) {
 type Three = (Option<u64>, Option<u64>, Option<u64>);
 
 /// The value that a queue of 1 to 4 has no slot for, and what was built of it.
-fn built_queue<R: Abort>(rt: &R, alloc: Global) -> (u64, Three) {
+fn built_queue<R: Abort>(rt: &R, alloc: Global) -> (Option<u64>, Three) {
     let mut w = place_of(rt, alloc, 2, 5);
-    let found = match world::queue::from_iter(&mut w, 1..5) {
-        Err(FromIterRefused::NoSlot(queue, value)) => {
+    let (made, lack) = some_queue(&mut w, 1..5);
+    let found = match made {
+        Some(queue) => {
             let three = three_of_queue(&w, &queue);
             world::queue::retire(&mut w, queue, 0);
-            (value, three)
+            (lacking(lack), three)
         }
-        Err(FromIterRefused::Unmade(_, _)) => panic!(rt; "two cells are free"),
-        Ok(_) => panic!(rt; "two slots are free"),
+        None => panic!(rt; "two cells are free"),
     };
     end(rt, w);
     found
 }
 
 /// The value that a stack of 1 to 4 has no cell for, and what was built of it.
-fn built_stack<R: Abort>(rt: &R, alloc: Global) -> (u64, Three) {
+fn built_stack<R: Abort>(rt: &R, alloc: Global) -> (Option<u64>, Three) {
     let mut w = place_of(rt, alloc, 5, 3);
-    let found = match world::stack::from_iter(&mut w, 1..5) {
-        Err(FromIterRefused::NoSlot(stack, value)) => {
+    let (made, lack) = some_stack(&mut w, 1..5);
+    let found = match made {
+        Some(stack) => {
             let three = three_of_stack(&w, &stack);
             world::stack::retire(&mut w, stack, 0);
-            (value, three)
+            (lacking(lack), three)
         }
-        Err(FromIterRefused::Unmade(_, _)) => panic!(rt; "a cell is free"),
-        Ok(_) => panic!(rt; "two cells are free for entries"),
+        None => panic!(rt; "a cell is free"),
     };
     end(rt, w);
     found
@@ -203,19 +193,21 @@ fn built_stack<R: Abort>(rt: &R, alloc: Global) -> (u64, Three) {
 fn values_without_room_hand_back_what_was_built(rt: HostRuntime) {
     let queue = built_queue(&rt, rt.alloc());
     let stack = built_stack(&rt, rt.alloc());
-    assert!(rt; queue == (3, (Some(1), Some(2), None)));
-    assert!(rt; stack == (3, (Some(2), Some(1), None)));
+    assert!(rt; queue == (Some(3), (Some(1), Some(2), None)));
+    assert!(rt; stack == (Some(3), (Some(2), Some(1), None)));
 }
 
 #[test]
 fn values_come_back_where_nothing_is_made(rt: HostRuntime) {
     let mut w = place_of(&rt, rt.alloc(), 2, 1);
-    let queue = match world::queue::from_iter(&mut w, 1..5) {
-        Err(FromIterRefused::Unmade(refused, values)) => (refused, values.count()),
+    let (made, lack) = some_queue(&mut w, 1..5);
+    let queue = match (made, lack) {
+        (None, Some(Lack::Unmade(refused, count))) => (refused, count),
         _ => panic!(rt; "one cell is free"),
     };
-    let bag = match world::bag::from_iter::<u64, _, 1, _>(rt.alloc(), &mut w, 1..5) {
-        Err(FromIterRefused::Unmade(refused, values)) => (refused, values.count()),
+    let (made, lack) = some_bag::<1>(rt.alloc(), &mut w, 1..5);
+    let bag = match (made, lack) {
+        (None, Some(Lack::Unmade(refused, count))) => (refused, count),
         _ => panic!(rt; "one cell is free"),
     };
     end(&rt, w);
@@ -227,8 +219,9 @@ fn values_come_back_where_nothing_is_made(rt: HostRuntime) {
 /// Why a stack isn't made where no cell is free, and how many values come back.
 fn unmade_stack<R: Abort>(rt: &R, alloc: Global) -> (NotMade, usize) {
     let mut w = place_of(rt, alloc, 2, 0);
-    let found = match world::stack::from_iter(&mut w, 1..5) {
-        Err(FromIterRefused::Unmade(refused, values)) => (refused, values.count()),
+    let (made, lack) = some_stack(&mut w, 1..5);
+    let found = match (made, lack) {
+        (None, Some(Lack::Unmade(refused, count))) => (refused, count),
         _ => panic!(rt; "no cell is free"),
     };
     end(rt, w);
@@ -239,11 +232,8 @@ fn unmade_stack<R: Abort>(rt: &R, alloc: Global) -> (NotMade, usize) {
 fn a_clone_of_a_stack_outlasts_it(rt: HostRuntime) {
     let mut w = place_of(&rt, rt.alloc(), 8, 10);
     let guard = guarded(&rt, &mut w);
-    let stack = match world::stack::from_iter(&mut w, 1..4) {
-        Ok(stack) => stack,
-        _ => panic!(rt; "there is room"),
-    };
-    let deleted = delete(&mut w, &stack, &guard);
+    let stack = stack_of(&rt, &mut w, 1..4);
+    let deleted = change_first(&mut w, &stack, &guard, Delete);
     let pushed = push(&mut w, &stack, 4);
     let copy = match copied_stack(&mut w, stack) {
         (Some(copy), None) => copy,
@@ -260,10 +250,7 @@ fn a_clone_of_a_stack_outlasts_it(rt: HostRuntime) {
 /// What a clone of a queue of 1 to 3 has for which two slots are free.
 fn partly_cloned_queue<R: Abort>(rt: &R, alloc: Global) -> Three {
     let mut w = place_of(rt, alloc, 5, 10);
-    let queue = match world::queue::from_iter(&mut w, 1..4) {
-        Ok(queue) => queue,
-        _ => panic!(rt; "there is room"),
-    };
+    let queue = queue_of(rt, &mut w, 1..4);
     let copy = match copied_queue(&mut w, queue) {
         (Some(copy), Some(NotMade::NoSlot)) => copy,
         _ => panic!(rt; "two slots are free"),
@@ -277,10 +264,7 @@ fn partly_cloned_queue<R: Abort>(rt: &R, alloc: Global) -> Three {
 /// What a clone of a stack of 1 to 3 has for which two cells are free.
 fn partly_cloned_stack<R: Abort>(rt: &R, alloc: Global) -> Three {
     let mut w = place_of(rt, alloc, 8, 6);
-    let stack = match world::stack::from_iter(&mut w, 1..4) {
-        Ok(stack) => stack,
-        _ => panic!(rt; "there is room"),
-    };
+    let stack = stack_of(rt, &mut w, 1..4);
     let copy = match copied_stack(&mut w, stack) {
         (Some(copy), Some(NotMade::NoSlot)) => copy,
         _ => panic!(rt; "two cells are free"),

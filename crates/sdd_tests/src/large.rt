@@ -2,9 +2,9 @@
 
 ghost use Rattle.std.specs.Prelude.{◌≤◌, ◌<◌, length};
 
+use crate::filled::{bag_of, lacking, queue_of, some_stack, stack_of};
 use crate::places::{end, sizes};
 use sdd::linked_entry::LinkedEntry;
-use sdd::refusal::FromIterRefused;
 use sdd::world;
 use sdd_base::world::World;
 use std::alloc::Global;
@@ -26,29 +26,26 @@ fn large<R: Abort>(rt: &R, alloc: Global, more: usize) -> World<LinkedEntry<u64>
 #[test]
 fn a_stack_of_a_hundred_thousand_values(rt: HostRuntime) {
     let mut w = large(&rt, rt.alloc(), 2);
-    let stack = match world::stack::from_iter(&mut w, 0..MANY) {
-        Ok(stack) => stack,
-        Err(_) => panic!(rt; "slots and cells are free"),
-    };
+    let stack = stack_of(&rt, &mut w, 0..MANY);
     let len = world::stack::len(&w, &stack);
     world::stack::retire(&mut w, stack, 0);
-    let (full, value) = match world::stack::from_iter(&mut w, 0..MANY) {
-        Err(FromIterRefused::NoSlot(full, value)) => (full, value),
-        Err(FromIterRefused::Unmade(_, _)) => panic!(rt; "a cell is free"),
-        Ok(_) => panic!(rt; "all slots wait"),
+    let (made, lack) = some_stack(&mut w, 0..MANY);
+    let full = match made {
+        Some(full) => full,
+        None => panic!(rt; "a cell is free"),
     };
     world::stack::retire(&mut w, full, 0);
     end(&rt, w);
-    assert!(rt; (len, value) == (100_000, 0));
+    assert!(rt;
+        (len, lacking(lack)) == (100_000, Some(0)),
+        "all slots wait"
+    );
 }
 
 #[test]
 fn a_queue_of_a_hundred_thousand_values(rt: HostRuntime) {
     let mut w = large(&rt, rt.alloc(), 2);
-    let queue = match world::queue::from_iter(&mut w, 0..MANY) {
-        Ok(queue) => queue,
-        Err(_) => panic!(rt; "slots and cells are free"),
-    };
+    let queue = queue_of(&rt, &mut w, 0..MANY);
     let len = world::queue::len(&w, &queue);
     world::queue::retire(&mut w, queue, 0);
     end(&rt, w);
@@ -58,10 +55,7 @@ fn a_queue_of_a_hundred_thousand_values(rt: HostRuntime) {
 #[test]
 fn a_bag_of_a_hundred_thousand_values(rt: HostRuntime) {
     let mut w = large(&rt, rt.alloc(), 33);
-    let bag = match world::bag::from_iter::<u64, _, 32, _>(rt.alloc(), &mut w, 0..MANY) {
-        Ok(bag) => bag,
-        Err(_) => panic!(rt; "slots and cells are free"),
-    };
+    let bag = bag_of::<_, 32>(&rt, rt.alloc(), &mut w, 0..MANY);
     let len = world::bag::len(&w, &bag);
     let seven = world::bag::try_push(&mut w, &bag, 7);
     let eight = world::bag::push(&mut w, &bag, 8);

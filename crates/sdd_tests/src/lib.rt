@@ -6,6 +6,8 @@ mod bags;
 #[cfg(test)]
 mod entries;
 #[cfg(test)]
+mod filled;
+#[cfg(test)]
 mod fillings;
 #[cfg(test)]
 mod large;
@@ -17,6 +19,8 @@ mod places;
 mod queues;
 #[cfg(test)]
 mod random_calls;
+#[cfg(test)]
+mod replies;
 #[cfg(test)]
 mod stacks;
 #[cfg(test)]

@@ -2,7 +2,8 @@
 
 use crate::places::{close, end, guarded, new_queue, new_stack, place_of};
 use crate::queues::append;
-use crate::stacks::{delete, push};
+use crate::stacks::Change::Delete;
+use crate::stacks::{change_first, push};
 use sdd::linked_entry::LinkedEntry;
 use sdd::world;
 use sdd_base::tag::Tag;
@@ -16,15 +17,15 @@ fn a_function_is_called_once_at_the_first_undeleted_entry(rt: HostRuntime) {
     let pushed_6 = push(&mut w, &stack, 6);
     let pushed_7 = push(&mut w, &stack, 7);
     let clear = world::stack::peek(&w, &stack, &guard).tag();
-    let deleted_7 = delete(&mut w, &stack, &guard);
-    let deleted_6 = delete(&mut w, &stack, &guard);
+    let deleted_7 = change_first(&mut w, &stack, &guard, Delete);
+    let deleted_6 = change_first(&mut w, &stack, &guard, Delete);
     let mut asked = 0u32;
     let seen = world::stack::peek_with(&w, &stack, |first: Option<&LinkedEntry<u64>>| {
         asked += 1;
         first.map(|entry: &LinkedEntry<u64>| *entry.as_ref())
     });
     let behind = world::stack::peek(&w, &stack, &guard).tag();
-    let deleted_5 = delete(&mut w, &stack, &guard);
+    let deleted_5 = change_first(&mut w, &stack, &guard, Delete);
     let none = world::stack::peek_with(&w, &stack, |first: Option<&LinkedEntry<u64>>| {
         first.is_none()
     });

@@ -9,7 +9,8 @@ use crate::places::{close, end, guarded, new_queue, new_stack, place_of};
 use crate::queues::Call::{
     Append, AppendMore, Front, IsEmpty, Len, Oldest, RefusedTake, Take, Three,
 };
-use crate::queues::Reply::{Back, Count, Done, Is, Listed, Value};
+use crate::replies::Reply::{Back, Count, Done, Is, Listed, Value};
+use crate::replies::{Reply, told, value_of};
 use crate::stacks::push;
 use crate::walks::three_of_queue;
 use sdd::linked_entry::LinkedEntry;
@@ -33,17 +34,6 @@ enum Call {
     Three,
     Len,
     IsEmpty,
-}
-
-/// What a call returns.
-#[derive(Clone, Copy, PartialEq, Eq)]
-enum Reply {
-    Done,
-    Back(u64),
-    Value(Option<u64>),
-    Listed(Option<u64>, Option<u64>, Option<u64>),
-    Is(bool),
-    Count(usize),
 }
 
 /// Puts a value behind all others and gives the owner back.
@@ -137,14 +127,6 @@ fn refused_oldest(w: &mut World<LinkedEntry<u64>>, queue: &Queue<u64>) -> Option
     }
 }
 
-/// The value of an entry, if there is one.
-fn value_of(entry: Option<&LinkedEntry<u64>>) -> Option<u64> {
-    match entry {
-        None => None,
-        Some(entry) => Some(*entry.as_ref()),
-    }
-}
-
 /// Makes a call.
 fn make(
     w: &mut World<LinkedEntry<u64>>,
@@ -159,10 +141,7 @@ fn make(
     ensures list { IsSomeQueue entry_link w.new (oldest_cell queue.now) (newest_cell queue.now) }
 {
     match call {
-        Append(value) => match append(w, queue, value) {
-            Ok(()) => Done,
-            Err(value) => Back(value),
-        },
+        Append(value) => told(append(w, queue, value)),
         AppendMore(value) => Is(append_more(w, queue, value)),
         Take => Value(take(w, queue)),
         RefusedTake => Value(refused_oldest(w, queue)),
@@ -186,24 +165,27 @@ fn look(w: &World<LinkedEntry<u64>>, queue: &Queue<u64>, guard: &WorldGuard, cal
     }
 }
 
-/// Makes the calls of a table, in order, and compares what they return.
-fn play<R: Abort>(
-    rt: &R,
+/// Makes the calls of a table, in order: how many return what they should before the first that doesn't.
+fn play(
     w: &mut World<LinkedEntry<u64>>,
     queue: &Queue<u64>,
     guard: &WorldGuard,
     rows: &[(Call, Reply)],
-)
+) -> usize
     requires participant { 0 < length w.old.participants }
     requires list { IsSomeQueue entry_link w.old (oldest_cell queue.now) (newest_cell queue.now) }
     ensures participant { 0 < length w.new.participants }
     ensures open { IsOpen w.old 0 → IsOpen w.new 0 }
     ensures list { IsSomeQueue entry_link w.new (oldest_cell queue.now) (newest_cell queue.now) }
 {
-    for row in rows {
-        let (call, wanted) = *row;
-        assert!(rt; make(w, queue, guard, call) == wanted);
+    let mut right = 0usize;
+    for at in 0..rows.len() {
+        let (call, wanted) = rows[at];
+        if make(w, queue, guard, call) == wanted && right == at {
+            right = right.saturating_add(1);
+        }
     }
+    right
 }
 
 /// Makes the calls of a table on a new queue, under a guard, and ends both.
@@ -212,10 +194,11 @@ fn on_a_queue<R: Abort>(rt: &R, alloc: Global, sizes: (usize, usize), rows: &[(C
     let mut w = place_of(rt, alloc, slots, cells);
     let guard = guarded(rt, &mut w);
     let queue = new_queue(rt, &mut w);
-    play(rt, &mut w, &queue, &guard, rows);
+    let right = play(&mut w, &queue, &guard, rows);
     world::queue::retire(&mut w, queue, 0);
     close(rt, &mut w, guard);
     end(rt, w);
+    assert_eq!(rt; right, rows.len(), "rows before one that isn't right");
 }
 
 #[test]

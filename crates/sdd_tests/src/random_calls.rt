@@ -5,6 +5,7 @@ ghost use Rattle.sdd.specs.Entries.{entry_link};
 ghost use Rattle.sdd.specs.Stacks.{IsSomeStack, stack_cell};
 ghost use Rattle.sdd.specs.Queues.{IsSomeQueue, oldest_cell, newest_cell};
 
+use crate::filled::{queue_of, stack_of};
 use crate::fillings::{copied_queue, copied_stack};
 use crate::places::{end, new_queue, new_stack, place_of};
 use crate::queues::{append, take};
@@ -14,109 +15,143 @@ use sdd::queue::Queue;
 use sdd::stack::Stack;
 use sdd::world;
 use sdd_base::world::World;
+use std::alloc::Global;
 use std::process::Abort;
 
 /// The next of a run of numbers, each far from the one before.
-fn next(seed: u64) -> u64 {
+pub(crate) fn next(seed: u64) -> u64 {
     seed.wrapping_mul(6364136223846793005)
         .wrapping_add(1442695040888963407)
 }
 
-/// One call of a stack, as `seed` says, and the same of a list. `room` slots are free.
-fn stack_call<R: Abort>(
-    rt: &R,
+/// What a stack or a queue should have: its values, and how many slots are free.
+#[derive(Drop)]
+struct List {
+    values: Vec<u64>,
+    room: u64,
+}
+
+impl List {
+    fn push(&mut self, value: u64) -> Result<(), u64> {
+        if self.room == 0 {
+            return Err(value);
+        }
+        self.room = self.room.saturating_sub(1);
+        let _kept = self.values.push(value);
+        Ok(())
+    }
+
+    /// The oldest value, which is taken out.
+    fn oldest(&mut self) -> Option<u64> {
+        if self.values.is_empty() {
+            return None;
+        }
+        Some(self.values.remove(0))
+    }
+
+    /// A clone takes as many slots as there are values.
+    fn cloned(&mut self) {
+        self.room = self.room.saturating_sub(self.values.len() as u64);
+    }
+
+    /// Whether so many values are there, and whether none is.
+    fn agrees(&self, found: (usize, bool)) -> bool {
+        found == (self.values.len(), self.values.is_empty())
+    }
+}
+
+/// A list of nothing with room for so many values, and one of the values below 20.
+fn list_of_none(alloc: Global, room: u64) -> List {
+    List {
+        values: Vec::new(alloc),
+        room,
+    }
+}
+
+fn list_of_twenty(alloc: Global) -> List {
+    let mut list = list_of_none(alloc, 3000);
+    for value in 0..20 {
+        let _kept = list.push(value);
+    }
+    list
+}
+
+/// One call of a stack, as `seed` says, and the same of a list: whether both answer alike.
+fn stack_call(
     w: &mut World<LinkedEntry<u64>>,
     stack: &Stack<u64>,
-    list: &mut Vec<u64>,
-    room: &mut u64,
+    list: &mut List,
     seed: u64,
-)
+) -> bool
     requires participant { 0 < length w.old.participants }
     requires list { IsSomeStack w.old (stack_cell stack.now) }
     ensures participant { 0 < length w.new.participants }
     ensures list { IsSomeStack w.new (stack_cell stack.now) }
 {
-    if seed >> 60 < 9 {
-        match push(w, stack, seed) {
-            Ok(()) => {
-                assert!(rt; *room > 0);
-                *room = room.saturating_sub(1);
-                list.push(seed).expect(rt, "memory");
-            }
-            Err(back) => assert!(rt; back == seed && *room == 0),
-        }
+    let alike = if seed >> 60 < 9 {
+        push(w, stack, seed) == list.push(seed)
     } else {
-        assert!(rt; pop(w, stack) == list.pop());
-    }
-    let len = world::stack::len(w, stack);
-    assert!(rt; len == list.len() && world::stack::is_empty(w, stack) == list.is_empty());
+        pop(w, stack) == list.values.pop()
+    };
+    list.agrees((
+        world::stack::len(w, stack),
+        world::stack::is_empty(w, stack),
+    )) && alike
 }
 
-/// One call of a queue, as `seed` says, and the same of a list. `room` slots are free.
-fn queue_call<R: Abort>(
-    rt: &R,
+/// One call of a queue, as `seed` says, and the same of a list: whether both answer alike.
+fn queue_call(
     w: &mut World<LinkedEntry<u64>>,
     queue: &Queue<u64>,
-    list: &mut Vec<u64>,
-    room: &mut u64,
+    list: &mut List,
     seed: u64,
-)
+) -> bool
     requires participant { 0 < length w.old.participants }
     requires list { IsSomeQueue entry_link w.old (oldest_cell queue.now) (newest_cell queue.now) }
     ensures participant { 0 < length w.new.participants }
     ensures list { IsSomeQueue entry_link w.new (oldest_cell queue.now) (newest_cell queue.now) }
 {
-    if seed >> 60 < 9 {
-        match append(w, queue, seed) {
-            Ok(()) => {
-                assert!(rt; *room > 0);
-                *room = room.saturating_sub(1);
-                list.push(seed).expect(rt, "memory");
-            }
-            Err(back) => assert!(rt; back == seed && *room == 0),
-        }
+    let alike = if seed >> 60 < 9 {
+        append(w, queue, seed) == list.push(seed)
     } else {
-        let oldest = if list.is_empty() {
-            None
-        } else {
-            Some(list.remove(0))
-        };
-        assert!(rt; take(w, queue) == oldest);
-    }
-    let len = world::queue::len(w, queue);
-    assert!(rt; len == list.len() && world::queue::is_empty(w, queue) == list.is_empty());
+        take(w, queue) == list.oldest()
+    };
+    list.agrees((
+        world::queue::len(w, queue),
+        world::queue::is_empty(w, queue),
+    )) && alike
 }
 
 #[test]
 fn a_stack_is_a_list_whose_end_comes_first(rt: HostRuntime) {
     let mut w = place_of(&rt, rt.alloc(), 400, 401);
-    let mut list = Vec::new(rt.alloc());
-    let mut room = 400;
+    let mut list = list_of_none(rt.alloc(), 400);
     let mut seed = 1;
+    let mut right = true;
     let stack = new_stack(&rt, &mut w);
     for _step in 0..1000 {
         seed = next(seed);
-        stack_call(&rt, &mut w, &stack, &mut list, &mut room, seed);
+        right = stack_call(&mut w, &stack, &mut list, seed) && right;
     }
     world::stack::retire(&mut w, stack, 0);
     end(&rt, w);
-    assert!(rt; room == 0);
+    assert!(rt; right && list.room == 0);
 }
 
 #[test]
 fn a_queue_is_a_list(rt: HostRuntime) {
     let mut w = place_of(&rt, rt.alloc(), 400, 402);
-    let mut list = Vec::new(rt.alloc());
-    let mut room = 400;
+    let mut list = list_of_none(rt.alloc(), 400);
     let mut seed = 2;
+    let mut right = true;
     let queue = new_queue(&rt, &mut w);
     for _step in 0..1000 {
         seed = next(seed);
-        queue_call(&rt, &mut w, &queue, &mut list, &mut room, seed);
+        right = queue_call(&mut w, &queue, &mut list, seed) && right;
     }
     world::queue::retire(&mut w, queue, 0);
     end(&rt, w);
-    assert!(rt; room == 0);
+    assert!(rt; right && list.room == 0);
 }
 
 /// As `stack_call`, or the stack's clone in its place, as `seed` says.
@@ -124,26 +159,25 @@ fn stack_turn<R: Abort>(
     rt: &R,
     w: &mut World<LinkedEntry<u64>>,
     stack: Stack<u64>,
-    list: &mut Vec<u64>,
-    room: &mut u64,
+    list: &mut List,
     seed: u64,
-) -> Stack<u64>
+) -> (Stack<u64>, bool)
     requires participant { 0 < length w.old.participants }
     requires list { IsSomeStack w.old (stack_cell stack) }
     ensures participant { 0 < length w.new.participants }
-    ensures list { IsSomeStack w.new (stack_cell result) }
+    ensures list { IsSomeStack w.new (stack_cell result.0) }
 {
     if seed >> 60 != 8 {
-        stack_call(rt, w, &stack, list, room, seed);
-        return stack;
+        let alike = stack_call(w, &stack, list, seed);
+        return (stack, alike);
     }
     let copy = match copied_stack(w, stack) {
         (Some(copy), None) => copy,
         _ => panic!(rt; "there is room"),
     };
-    *room = room.saturating_sub(list.len() as u64);
-    assert!(rt; world::stack::len(w, &copy) == list.len());
-    copy
+    list.cloned();
+    let len = world::stack::len(w, &copy);
+    (copy, len == list.values.len())
 }
 
 /// As `queue_call`, or the queue's clone in its place, as `seed` says.
@@ -151,66 +185,59 @@ fn queue_turn<R: Abort>(
     rt: &R,
     w: &mut World<LinkedEntry<u64>>,
     queue: Queue<u64>,
-    list: &mut Vec<u64>,
-    room: &mut u64,
+    list: &mut List,
     seed: u64,
-) -> Queue<u64>
+) -> (Queue<u64>, bool)
     requires participant { 0 < length w.old.participants }
     requires list { IsSomeQueue entry_link w.old (oldest_cell queue) (newest_cell queue) }
     ensures participant { 0 < length w.new.participants }
-    ensures list { IsSomeQueue entry_link w.new (oldest_cell result) (newest_cell result) }
+    ensures list { IsSomeQueue entry_link w.new (oldest_cell result.0) (newest_cell result.0) }
 {
     if seed >> 60 != 8 {
-        queue_call(rt, w, &queue, list, room, seed);
-        return queue;
+        let alike = queue_call(w, &queue, list, seed);
+        return (queue, alike);
     }
     let copy = match copied_queue(w, queue) {
         (Some(copy), None) => copy,
         _ => panic!(rt; "there is room"),
     };
-    *room = room.saturating_sub(list.len() as u64);
-    assert!(rt; world::queue::len(w, &copy) == list.len());
-    copy
+    list.cloned();
+    let len = world::queue::len(w, &copy);
+    (copy, len == list.values.len())
 }
 
 #[test]
 fn a_stack_of_values_and_its_clones_are_a_list(rt: HostRuntime) {
     let mut w = place_of(&rt, rt.alloc(), 3000, 3002);
-    let mut list = Vec::new(rt.alloc());
-    for value in 0..20 {
-        list.push(value).expect(&rt, "memory");
-    }
-    let mut room = 2980;
+    let mut list = list_of_twenty(rt.alloc());
     let mut seed = 3;
-    let mut stack = match world::stack::from_iter(&mut w, 0..20) {
-        Ok(stack) => stack,
-        _ => panic!(rt; "there is room"),
-    };
+    let mut stack = stack_of(&rt, &mut w, 0..20);
+    let mut right = true;
     for _step in 0..500 {
         seed = next(seed);
-        stack = stack_turn(&rt, &mut w, stack, &mut list, &mut room, seed);
+        let (left, alike) = stack_turn(&rt, &mut w, stack, &mut list, seed);
+        stack = left;
+        right = right && alike;
     }
     world::stack::retire(&mut w, stack, 0);
     end(&rt, w);
+    assert!(rt; right);
 }
 
 #[test]
 fn a_queue_of_values_and_its_clones_are_a_list(rt: HostRuntime) {
     let mut w = place_of(&rt, rt.alloc(), 3000, 3004);
-    let mut list = Vec::new(rt.alloc());
-    for value in 0..20 {
-        list.push(value).expect(&rt, "memory");
-    }
-    let mut room = 2980;
+    let mut list = list_of_twenty(rt.alloc());
     let mut seed = 4;
-    let mut queue = match world::queue::from_iter(&mut w, 0..20) {
-        Ok(queue) => queue,
-        _ => panic!(rt; "there is room"),
-    };
+    let mut queue = queue_of(&rt, &mut w, 0..20);
+    let mut right = true;
     for _step in 0..500 {
         seed = next(seed);
-        queue = queue_turn(&rt, &mut w, queue, &mut list, &mut room, seed);
+        let (left, alike) = queue_turn(&rt, &mut w, queue, &mut list, seed);
+        queue = left;
+        right = right && alike;
     }
     world::queue::retire(&mut w, queue, 0);
     end(&rt, w);
+    assert!(rt; right);
 }

@@ -5,11 +5,13 @@ ghost use Rattle.sdd_base.specs.Place.{IsOpen};
 ghost use Rattle.sdd.specs.Stacks.{IsSomeStack, stack_cell};
 
 use crate::places::{close, end, give, guarded, new_stack, place_of};
+use crate::replies::Reply::{Back, Count, Done, Is, Listed, Value};
+use crate::replies::{Reply, told, value_of};
 use crate::stacks::Call::{
-    Delete, Front, IsClear, IsDeleted, IsEmpty, IsMarked, Len, Mark, Pop, Push, PushFirst,
-    RefusedPop, Second, SecondOwned, Three, Unmark,
+    Front, IsClear, IsDeleted, IsEmpty, IsMarked, Len, Make, Pop, Push, PushFirst, RefusedPop,
+    Second, SecondOwned, Three,
 };
-use crate::stacks::Reply::{Back, Count, Done, Is, Listed, Value};
+use crate::stacks::Change::{Delete, Mark, Unmark};
 use crate::walks::three_of_stack;
 use sdd::linked_entry::LinkedEntry;
 use sdd::stack::Stack;
@@ -27,9 +29,8 @@ enum Call {
     PushFirst(u64),
     Pop,
     RefusedPop,
-    Delete,
-    Mark,
-    Unmark,
+    /// A change of the first undeleted entry.
+    Make(Change),
     IsClear,
     IsMarked,
     IsDeleted,
@@ -39,17 +40,6 @@ enum Call {
     Three,
     Len,
     IsEmpty,
-}
-
-/// What a call returns.
-#[derive(Clone, Copy, PartialEq, Eq)]
-enum Reply {
-    Done,
-    Back(u64),
-    Value(Option<u64>),
-    Listed(Option<u64>, Option<u64>, Option<u64>),
-    Is(bool),
-    Count(usize),
 }
 
 /// Puts a value in front and gives the owner back.
@@ -91,11 +81,20 @@ pub(crate) fn pop(w: &mut World<LinkedEntry<u64>>, stack: &Stack<u64>) -> Option
     }
 }
 
-/// Deletes the first undeleted entry, which stays linked.
-pub(crate) fn delete(
+/// What becomes of an entry, which stays linked.
+#[derive(Clone, Copy)]
+pub(crate) enum Change {
+    Delete,
+    Mark,
+    Unmark,
+}
+
+/// Deletes, marks or clears the first undeleted entry: whether it wasn't so before.
+pub(crate) fn change_first(
     w: &mut World<LinkedEntry<u64>>,
     stack: &Stack<u64>,
     guard: &WorldGuard,
+    change: Change,
 ) -> bool
     requires participant { 0 < length w.old.participants }
     requires list { IsSomeStack w.old (stack_cell stack.now) }
@@ -108,7 +107,11 @@ pub(crate) fn delete(
         None => return false,
         Some(_) => {}
     }
-    world::linked_list::delete_self(w, first)
+    match change {
+        Delete => world::linked_list::delete_self(w, first),
+        Mark => world::linked_list::mark(w, first),
+        Unmark => world::linked_list::unmark(w, first),
+    }
 }
 
 /// Moves all entries to another stack, and ends the old one.
@@ -127,40 +130,13 @@ fn moved(w: &mut World<LinkedEntry<u64>>, stack: Stack<u64>) -> Result<Stack<u64
     }
 }
 
-/// Marks the first undeleted entry.
-fn mark(w: &mut World<LinkedEntry<u64>>, stack: &Stack<u64>, guard: &WorldGuard) -> bool
-    requires participant { 0 < length w.old.participants }
-    requires list { IsSomeStack w.old (stack_cell stack.now) }
-    ensures participant { 0 < length w.new.participants }
-    ensures open { IsOpen w.old 0 → IsOpen w.new 0 }
-    ensures list { IsSomeStack w.new (stack_cell stack.now) }
-{
-    let first = world::stack::peek(w, stack, guard);
-    match w.read(&first) {
-        None => return false,
-        Some(_) => {}
-    }
-    world::linked_list::mark(w, first)
-}
-
-/// Clears the first undeleted entry.
-fn unmark(w: &mut World<LinkedEntry<u64>>, stack: &Stack<u64>, guard: &WorldGuard) -> bool
-    requires participant { 0 < length w.old.participants }
-    requires list { IsSomeStack w.old (stack_cell stack.now) }
-    ensures participant { 0 < length w.new.participants }
-    ensures open { IsOpen w.old 0 → IsOpen w.new 0 }
-    ensures list { IsSomeStack w.new (stack_cell stack.now) }
-{
-    let first = world::stack::peek(w, stack, guard);
-    match w.read(&first) {
-        None => return false,
-        Some(_) => {}
-    }
-    world::linked_list::unmark(w, first)
-}
-
-/// Whether the first undeleted entry is clear.
-fn is_clear(w: &World<LinkedEntry<u64>>, stack: &Stack<u64>, guard: &WorldGuard) -> bool
+/// Whether the first undeleted entry is clear, marked or deleted, as the call asks.
+fn is_tagged(
+    w: &World<LinkedEntry<u64>>,
+    stack: &Stack<u64>,
+    guard: &WorldGuard,
+    call: Call,
+) -> bool
     requires { IsSomeStack w.now (stack_cell stack.now) }
 {
     let first = world::stack::peek(w, stack, guard);
@@ -168,31 +144,11 @@ fn is_clear(w: &World<LinkedEntry<u64>>, stack: &Stack<u64>, guard: &WorldGuard)
         None => return false,
         Some(_) => {}
     }
-    world::linked_list::is_clear(w, first)
-}
-
-/// Whether the first undeleted entry is marked.
-fn is_marked(w: &World<LinkedEntry<u64>>, stack: &Stack<u64>, guard: &WorldGuard) -> bool
-    requires { IsSomeStack w.now (stack_cell stack.now) }
-{
-    let first = world::stack::peek(w, stack, guard);
-    match w.read(&first) {
-        None => return false,
-        Some(_) => {}
+    match call {
+        IsClear => world::linked_list::is_clear(w, first),
+        IsMarked => world::linked_list::is_marked(w, first),
+        _ => world::linked_list::is_deleted(w, first),
     }
-    world::linked_list::is_marked(w, first)
-}
-
-/// Whether the first undeleted entry is deleted.
-fn is_deleted(w: &World<LinkedEntry<u64>>, stack: &Stack<u64>, guard: &WorldGuard) -> bool
-    requires { IsSomeStack w.now (stack_cell stack.now) }
-{
-    let first = world::stack::peek(w, stack, guard);
-    match w.read(&first) {
-        None => return false,
-        Some(_) => {}
-    }
-    world::linked_list::is_deleted(w, first)
 }
 
 /// Puts a value in front if there is none yet, and gives the owner back.
@@ -224,14 +180,6 @@ fn second(w: &World<LinkedEntry<u64>>, stack: &Stack<u64>, guard: &WorldGuard) -
     }
     let next = world::linked_list::next_ptr(w, first, guard);
     match w.read(&next) {
-        None => None,
-        Some(entry) => Some(*entry.as_ref()),
-    }
-}
-
-/// The value of an entry, if there is one.
-fn value_of(entry: Option<&LinkedEntry<u64>>) -> Option<u64> {
-    match entry {
         None => None,
         Some(entry) => Some(*entry.as_ref()),
     }
@@ -301,16 +249,11 @@ fn make(
     ensures list { IsSomeStack w.new (stack_cell stack.now) }
 {
     match call {
-        Push(value) => match push(w, stack, value) {
-            Ok(()) => Done,
-            Err(value) => Back(value),
-        },
+        Push(value) => told(push(w, stack, value)),
         PushFirst(value) => Is(push_first(w, stack, value)),
         Pop => Value(pop(w, stack)),
         RefusedPop => Value(refused(w, stack)),
-        Delete => Is(delete(w, stack, guard)),
-        Mark => Is(mark(w, stack, guard)),
-        Unmark => Is(unmark(w, stack, guard)),
+        Make(change) => Is(change_first(w, stack, guard, change)),
         SecondOwned => Value(second_owned(w, stack, guard)),
         read => look(w, stack, guard, read),
     }
@@ -321,9 +264,7 @@ fn look(w: &World<LinkedEntry<u64>>, stack: &Stack<u64>, guard: &WorldGuard, cal
     requires { IsSomeStack w.now (stack_cell stack.now) }
 {
     match call {
-        IsClear => Is(is_clear(w, stack, guard)),
-        IsMarked => Is(is_marked(w, stack, guard)),
-        IsDeleted => Is(is_deleted(w, stack, guard)),
+        IsClear | IsMarked | IsDeleted => Is(is_tagged(w, stack, guard, call)),
         Front => Value(world::stack::peek_with(w, stack, value_of)),
         Second => Value(second(w, stack, guard)),
         Three => {
@@ -335,24 +276,27 @@ fn look(w: &World<LinkedEntry<u64>>, stack: &Stack<u64>, guard: &WorldGuard, cal
     }
 }
 
-/// Makes the calls of a table, in order, and compares what they return.
-fn play<R: Abort>(
-    rt: &R,
+/// Makes the calls of a table, in order: how many return what they should before the first that doesn't.
+fn play(
     w: &mut World<LinkedEntry<u64>>,
     stack: &Stack<u64>,
     guard: &WorldGuard,
     rows: &[(Call, Reply)],
-)
+) -> usize
     requires participant { 0 < length w.old.participants }
     requires list { IsSomeStack w.old (stack_cell stack.now) }
     ensures participant { 0 < length w.new.participants }
     ensures open { IsOpen w.old 0 → IsOpen w.new 0 }
     ensures list { IsSomeStack w.new (stack_cell stack.now) }
 {
-    for row in rows {
-        let (call, wanted) = *row;
-        assert!(rt; make(w, stack, guard, call) == wanted);
+    let mut right = 0usize;
+    for at in 0..rows.len() {
+        let (call, wanted) = rows[at];
+        if make(w, stack, guard, call) == wanted && right == at {
+            right = right.saturating_add(1);
+        }
     }
+    right
 }
 
 /// Makes the calls of a table on a new stack, under a guard, and ends both.
@@ -361,10 +305,11 @@ fn on_a_stack<R: Abort>(rt: &R, alloc: Global, sizes: (usize, usize), rows: &[(C
     let mut w = place_of(rt, alloc, slots, cells);
     let guard = guarded(rt, &mut w);
     let stack = new_stack(rt, &mut w);
-    play(rt, &mut w, &stack, &guard, rows);
+    let right = play(&mut w, &stack, &guard, rows);
     world::stack::retire(&mut w, stack, 0);
     close(rt, &mut w, guard);
     end(rt, w);
+    assert_eq!(rt; right, rows.len(), "rows before one that isn't right");
 }
 
 #[test]
@@ -394,12 +339,12 @@ fn deleted_entries_are_passed_over(rt: HostRuntime) {
         rt.alloc(),
         (4, 8),
         &[
-            (Delete, Is(false)),
+            (Make(Delete), Is(false)),
             (Push(1), Done),
             (Push(2), Done),
             (Push(3), Done),
-            (Delete, Is(true)),
-            (Delete, Is(true)),
+            (Make(Delete), Is(true)),
+            (Make(Delete), Is(true)),
             (Len, Count(1)),
             (Push(4), Done),
             (Pop, Value(Some(4))),
@@ -418,18 +363,18 @@ fn an_entry_has_one_tag_at_a_time(rt: HostRuntime) {
         &[
             (Push(1), Done),
             (IsClear, Is(true)),
-            (Unmark, Is(false)),
-            (Mark, Is(true)),
-            (Mark, Is(false)),
+            (Make(Unmark), Is(false)),
+            (Make(Mark), Is(true)),
+            (Make(Mark), Is(false)),
             (IsMarked, Is(true)),
             (IsClear, Is(false)),
-            (Unmark, Is(true)),
+            (Make(Unmark), Is(true)),
             (IsClear, Is(true)),
             (IsMarked, Is(false)),
             (IsDeleted, Is(false)),
-            (Mark, Is(true)),
+            (Make(Mark), Is(true)),
             (Len, Count(1)),
-            (Delete, Is(true)),
+            (Make(Delete), Is(true)),
             (IsEmpty, Is(true)),
         ],
     );
@@ -447,7 +392,7 @@ fn functions_see_the_first_undeleted_entry(rt: HostRuntime) {
             (Front, Value(Some(5))),
             (Push(6), Done),
             (Front, Value(Some(6))),
-            (Delete, Is(true)),
+            (Make(Delete), Is(true)),
             (Front, Value(Some(5))),
         ],
     );
@@ -502,7 +447,7 @@ fn the_next_entry_is_one_that_is_not_deleted(rt: HostRuntime) {
             (Second, Value(None)),
             (Push(2), Done),
             (Second, Value(Some(1))),
-            (Delete, Is(true)),
+            (Make(Delete), Is(true)),
             (Push(3), Done),
             (Second, Value(Some(1))),
         ],
@@ -521,7 +466,7 @@ fn an_owner_of_the_next_entry_comes_back(rt: HostRuntime) {
             (SecondOwned, Value(None)),
             (Push(2), Done),
             (SecondOwned, Value(Some(1))),
-            (Delete, Is(true)),
+            (Make(Delete), Is(true)),
             (Push(3), Done),
             (SecondOwned, Value(Some(1))),
             (SecondOwned, Value(Some(1))),
@@ -557,7 +502,7 @@ fn a_walk_passes_deleted_entries(rt: HostRuntime) {
         &[
             (Push(1), Done),
             (Push(2), Done),
-            (Delete, Is(true)),
+            (Make(Delete), Is(true)),
             (Push(3), Done),
             (Three, Listed(Some(3), Some(1), None)),
         ],

@@ -6,6 +6,7 @@ ghost use Rattle.sdd.specs.Entries.{entry_link};
 ghost use Rattle.sdd.specs.Stacks.{IsSomeStack, stack_cell};
 ghost use Rattle.sdd.specs.Queues.{IsSomeQueue, oldest_cell, newest_cell};
 
+use crate::entries::retire;
 use crate::places::{close, end, give, guarded, new_queue, new_stack, place_of};
 use crate::queues::append;
 use crate::stacks::push;
@@ -15,7 +16,6 @@ use sdd::stack::Stack;
 use sdd::world;
 use sdd_base::guard::WorldGuard;
 use sdd_base::owner::Shared;
-use sdd_base::world as place;
 use sdd_base::world::World;
 use std::alloc::Global;
 use std::process::Abort;
@@ -107,18 +107,8 @@ fn entries_are_equal_by_value(rt: HostRuntime) {
         panic!(rt; "a cell is free");
     };
     let (equal, written) = (one == two, are_written(rt.alloc(), &one, &two));
-    match place::shared::new(&mut w, one) {
-        Ok(owner) => {
-            place::shared::release(&mut w, owner, 0);
-        }
-        Err(_) => panic!(rt; "a slot is free"),
-    }
-    match place::shared::new(&mut w, two) {
-        Ok(owner) => {
-            place::shared::release(&mut w, owner, 0);
-        }
-        Err(_) => panic!(rt; "a slot is free"),
-    }
+    retire(&rt, &mut w, one);
+    retire(&rt, &mut w, two);
     end(&rt, w);
     assert!(rt; equal && written);
 }

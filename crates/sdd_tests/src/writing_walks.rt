@@ -4,8 +4,11 @@ ghost use Rattle.std.specs.Prelude.{◌<◌, length};
 ghost use Rattle.sdd_base.specs.Place.{IsOpen};
 ghost use Rattle.sdd.specs.Bags.{IsSomeBag, bag_cells};
 
-use crate::bags::pop;
+use crate::bags::Call::{self, Push, TryPush};
+use crate::bags::{play, pop, six_pops};
+use crate::filled::bag_of;
 use crate::places::{close, end, guarded, new_bag, place_of};
+use crate::replies::Reply::{self, Done};
 use sdd::bag::Bag;
 use sdd::linked_entry::LinkedEntry;
 use sdd::world;
@@ -43,25 +46,21 @@ fn raise<R: Abort, const N: usize>(
     100
 }
 
+const THREE: [(Call, Reply); 3] = [(Push(1), Done), (Push(2), Done), (Push(3), Done)];
+
 #[test]
 fn each_value_is_written(rt: HostRuntime) {
     let mut w = place_of(&rt, rt.alloc(), 3, 5);
     let bag = new_bag::<_, 1>(&rt, rt.alloc(), &mut w);
-    let pushed_1 = world::bag::push(&mut w, &bag, 1);
-    let pushed_2 = world::bag::push(&mut w, &bag, 2);
-    let pushed_3 = world::bag::push(&mut w, &bag, 3);
+    let pushed = play(&mut w, &bag, &THREE);
     let mut seen = Vec::new(rt.alloc());
     let raised = raise(&rt, &mut w, &bag, 10, &mut seen);
     let len = world::bag::len(&w, &bag);
-    let first = pop(&mut w, &bag);
-    let second = pop(&mut w, &bag);
-    let third = pop(&mut w, &bag);
-    let none = pop(&mut w, &bag);
+    let [first, second, third, none, _, _] = six_pops(&mut w, &bag);
     world::bag::retire(&mut w, bag, 0);
     end(&rt, w);
     seen.sort_unstable();
-    assert!(rt; pushed_1.is_ok() && pushed_2.is_ok() && pushed_3.is_ok());
-    assert!(rt; (raised, len) == (3, 3) && seen.as_slice() == [1, 2, 3].as_slice());
+    assert!(rt; [pushed, raised, len] == [3; 3] && seen.as_slice() == [1, 2, 3].as_slice());
     assert!(rt; are_both(first, second, 12, 13) && (third, none) == (Some(11), None));
 }
 
@@ -123,10 +122,7 @@ fn an_empty_bag_lends_nothing(rt: HostRuntime) {
 #[test]
 fn a_full_primary_and_its_overflow_are_lent(rt: HostRuntime) {
     let mut w = place_of(&rt, rt.alloc(), 40, 73);
-    let bag = match world::bag::from_iter::<u64, _, 32, _>(rt.alloc(), &mut w, 0..40) {
-        Ok(bag) => bag,
-        _ => panic!(rt; "there is room"),
-    };
+    let bag = bag_of::<_, 32>(&rt, rt.alloc(), &mut w, 0..40);
     let mut before = Vec::new(rt.alloc());
     let first = raise(&rt, &mut w, &bag, 1000, &mut before);
     let mut after = Vec::new(rt.alloc());
@@ -149,20 +145,19 @@ fn are_forty(values: &[u64], first: u64) -> bool {
     as_said
 }
 
+const TWO: [(Call, Reply); 2] = [(TryPush(3), Done), (TryPush(4), Done)];
+
 #[test]
 fn a_bag_without_overflow_is_lent(rt: HostRuntime) {
     let mut w = place_of(&rt, rt.alloc(), 2, 35);
     let bag = new_bag::<_, 32>(&rt, rt.alloc(), &mut w);
-    let pushed_3 = world::bag::try_push(&mut w, &bag, 3);
-    let pushed_4 = world::bag::try_push(&mut w, &bag, 4);
+    let pushed = play(&mut w, &bag, &TWO);
     let mut seen = Vec::new(rt.alloc());
     let raised = raise(&rt, &mut w, &bag, 5, &mut seen);
-    let first = pop(&mut w, &bag);
-    let second = pop(&mut w, &bag);
+    let [first, second, none, _, _, _] = six_pops(&mut w, &bag);
     world::bag::retire(&mut w, bag, 0);
     end(&rt, w);
-    assert!(rt; pushed_3.is_ok() && pushed_4.is_ok() && raised == 2);
-    assert!(rt; are_both(first, second, 8, 9));
+    assert!(rt; [pushed, raised] == [2; 2] && are_both(first, second, 8, 9) && none == None);
 }
 
 /// Whether a walk is refused.

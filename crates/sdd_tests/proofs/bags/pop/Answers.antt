@@ -1,8 +1,23 @@
-use Rattle.std.proofs.Common.{sym, subst}
+use Rattle.std.proofs.Common.{sym, subst, ℕ}
+use Rattle.sdd_base.specs.Place.{IsShared}
 use Rattle.sdd_base.specs.State.{State}
 use Rattle.sdd.specs.Bags.{IsSomeBag, bag_cells}
+use Rattle.sdd.specs.Entries.{entry_link}
 use Rattle.sdd.proofs.BagLemmas.{released_bag}
+use Rattle.sdd.proofs.ChainLemmas.{item_shared}
 use Rattle.sdd_tests.proofs.bags.pop.Goals as goal
+
+pub as_ref-requires : goal.as_ref-requires
+as_ref-requires g c =
+    let b = c.requires.list in
+    let t = c.in-Some.ensures.popped b.primary b.overflow b.is in
+    subst (λ (i : ℕ). IsShared c.pop.new.w i) (sym t.at) (item_shared entry_link c.pop.new.w t.entry t.loose.item)
+
+pub release-requires-clause-live : goal.release-requires-clause-live
+release-requires-clause-live g c =
+    let b = c.requires.list in
+    let t = c.in-Some.ensures.popped b.primary b.overflow b.is in
+    subst (λ (i : ℕ). IsShared c.pop.new.w i) (sym t.at) (item_shared entry_link c.pop.new.w t.entry t.loose.item)
 
 pub returns-in-Some-clause-list : goal.returns-in-Some-clause-list
 returns-in-Some-clause-list g c =

@@ -4,8 +4,8 @@ use Rattle.sdd.specs.Entries.{entry_link}
 use Rattle.sdd.specs.Queues.{IsSomeQueue, oldest_cell, newest_cell}
 use Rattle.sdd_tests.proofs.queues.play.Given as goal
 
-abbrev pub invariant-loop-row : goal.invariant-loop-row
-invariant-loop-row g l = record {
+abbrev pub invariant-loop-at : goal.invariant-loop-at
+invariant-loop-at g l = record {
   participant : 0 < length l.w.participants;
   guarded : IsOpen l.fn.w 0 → IsOpen l.w 0;
   list : IsSomeQueue entry_link l.w (oldest_cell l.queue) (newest_cell l.queue);
