@@ -198,7 +198,7 @@ fn on_a_queue<R: Abort>(rt: &R, alloc: Global, sizes: (usize, usize), rows: &[(C
     world::queue::retire(&mut w, queue, 0);
     close(rt, &mut w, guard);
     end(rt, w);
-    assert_eq!(rt; right, rows.len(), "rows before one that isn't right");
+    assert!(rt; right == rows.len());
 }
 
 #[test]

@@ -309,7 +309,7 @@ fn on_a_stack<R: Abort>(rt: &R, alloc: Global, sizes: (usize, usize), rows: &[(C
     world::stack::retire(&mut w, stack, 0);
     close(rt, &mut w, guard);
     end(rt, w);
-    assert_eq!(rt; right, rows.len(), "rows before one that isn't right");
+    assert!(rt; right == rows.len());
 }
 
 #[test]
