@@ -1,7 +1,7 @@
 -- What insertions above all pairs leave of the places of a flat tree.
 use Rattle.std.proofs.Common.{◌≡◌, ◌≢◌, ◌≤◌, ◌<◌, ◌⊎◌, inl, inr, ℕ, zero, suc, ◌+◌, ◌*◌, ◌-◌, ◌==◌, Bool, true, false, cond, ◌&&◌, ◌||◌, IsSome, List, [], ◌∷◌, ◌++◌, length, Option, Some, None, refl, sym, ap, ◌∙◌, subst, arith}
 use Rattle.std.specs.Option.{option_map}
-use Rattle.std.specs.Prelude.{OnErr, Result, Ok, Err}
+use Rattle.std.specs.Prelude.{OnOk, OnErr, Result, Ok, Err}
 use Rattle.std.specs.declared.cmp.Ordering.{Ordering}
 use Rattle.std.specs.declared.cmp.Ordering.TheVariants.{Less, Equal, Greater}
 use Rattle.std.specs.Ordering.{is_le, is_lt, is_eq, match_ordering}
@@ -12,9 +12,10 @@ use Rattle.std.specs.BTreeMap.{insert_entry, is_at}
 use Rattle.slab.specs.Slab.{Slab, get, with_value, Updates}
 use Rattle.slab.proofs.SlabLemmas.{Updates-with_value}
 use Rattle.std.proofs.lemmas.Bool.Decides.{eqb_tells, leb_tells}
+use Rattle.std.proofs.lemmas.Bool.{false≢true}
 use Rattle.std.proofs.Math.Dec.{leb}
 use Rattle.leaf_array.specs.Edits.{upserted}
-use Rattle.leaf_array.specs.Results.{IsFull, given_back}
+use Rattle.leaf_array.specs.Results.{IsFull, IsDuplicate, given_back}
 use Rattle.leaf_array.specs.declared.result.InsertResult.{InsertResult}
 use Rattle.leaf_array.specs.declared.result.InsertResult.TheVariants.{Success, Duplicate, Full}
 use Rattle.tree_nodes.specs.declared.leaf.Leaf.{Leaf}
@@ -243,3 +244,20 @@ module _ {K V : Type 0} (cmp : K → K → Ordering) (o : IsTotalOrder cmp) (key
 pub on_err : {T E P : Type 0} (r : Result T E) → P → OnErr r P
 on_err (Ok x) p = tt
 on_err (Err e) p = p
+
+-- what an answer says, where it is good, may be said in other words
+pub on_ok : {T E P Q : Type 0} (r : Result T E) → (P → Q) → OnOk r P → OnOk r Q
+on_ok (Ok x) f p = f p
+on_ok (Err e) f p = tt
+
+-- a bound that holds where there is more than one place holds anyhow, where one more is allowed
+pub one_more : (h n : ℕ) → (1 < h → h ≤ n + 1) → h ≤ n + 1
+one_more zero n f = omega arith
+one_more (suc zero) n f = omega arith
+one_more (suc (suc h)) n f = f (omega arith)
+
+-- what is neither full nor a duplicate gives nothing back
+pub not_back : {K V : Type 0} (r : InsertResult K V) → (IsFull r → ⊥) → (IsDuplicate r → ⊥) → IsSome (given_back r) → ⊥
+not_back Success full there some = false≢true some
+not_back (Duplicate k v) full there some = there tt
+not_back (Full k v) full there some = full tt

@@ -1,6 +1,6 @@
 use Rattle.std.proofs.Common.{◌≡◌, ◌+◌, take, sym, ap, ◌∙◌, subst, arith}
 use Rattle.tree_nodes.specs.Content.{pairs_of}
-use Rattle.tree_nodes.specs.Copy.{place, IsPositionOrEnd}
+use Rattle.tree_nodes.specs.Copy.{place, IsPositionOrEnd, IsCopied}
 use Rattle.tree_nodes.specs.Depth.{IsAbove}
 use Rattle.tree_nodes.specs.Walk.{position, IsPosition}
 use Rattle.tree_nodes.proofs.SpotLemmas.{spot_pair}
@@ -48,3 +48,18 @@ loop-open-preserved g c =
       countable = c.push_at-open.ensures.countable;
       further = omega (arith, at, next, c.loop-open.invariant.further);
     }
+
+pub returns-clause-copied : goal.returns-clause-copied
+returns-clause-copied g c = c.loop-open.invariant.copied
+
+pub returns-in_default-next-clause-copied : goal.returns-in_default-next-clause-copied
+returns-in_default-next-clause-copied g c =
+    subst (IsCopied g.K.Ord.cmp c.args.source.now c.loop-open.self) c.in_default-next.is c.loop-open.invariant.copied
+
+pub behind-next-requires-clause-spot : goal.behind-next-requires-clause-spot
+behind-next-requires-clause-spot g c = subst (IsPositionOrEnd c.args.source.now) c.in-Some-next.is c.loop-open.invariant.copied.spot
+
+pub pair-requires : goal.pair-requires
+pair-requires g c =
+    let spot : IsPosition c.args.source.now c.in-Some-next.spot = subst (IsPositionOrEnd c.args.source.now) c.in-Some-next.is c.loop-open.invariant.copied.spot in
+    spot.within

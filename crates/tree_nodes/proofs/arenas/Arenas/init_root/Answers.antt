@@ -9,6 +9,9 @@ use Rattle.tree_nodes.specs.Content.{content}
 use Rattle.tree_nodes.proofs.ArenaLemmas.{bare_pairs}
 use Rattle.tree_nodes.proofs.NodeLemmas.{bare_of}
 use Rattle.tree_nodes.proofs.GrowLemmas.{one_node, one_pairs, one_order}
+use Rattle.slab.specs.Slab.{Slab}
+use Rattle.tree_nodes.proofs.NodeLemmas.{roomier_sound, roomier_pairs, roomier_ascents}
+use Rattle.tree_nodes.proofs.DepthLemmas.{on_err}
 use Rattle.tree_nodes.proofs.arenas.Arenas.init_root.Goals as goal
 
 pub returns-clause-sound : goal.returns-clause-sound
@@ -47,3 +50,25 @@ returns-clause-on g c =
     let n : b.node root ≡ Some (no_cells false, leaf) = ap (option_map (λ (n : InnerNode g.row.K.Denot). (n.children, n.last))) c.insert_reserved-self.ensures.updates.changed ∙ ap (λ (d : Cells g.row.K.Denot ℕ). Some (d, leaf)) c.new-2.ensures in
     let on : way g.K.Ord.cmp b c.args.key.now 1 root ≡ leaf = rw n refl in
     sym on
+
+pub returns-in_err-reserve-clause-sound : goal.returns-in_err-reserve-clause-sound
+returns-in_err-reserve-clause-sound g c =
+    roomier_sound g.K.Ord.cmp c.args.self.now c.reserve.new.self c.args.self.now.nodes (ap (λ (s : Slab (Leaf g.row.K.Denot g.row.V.Denot)). s.slots) c.reserve.ensures.rest_kept) refl c.requires.sound
+
+pub returns-in_err-reserve-2-clause-sound : goal.returns-in_err-reserve-2-clause-sound
+returns-in_err-reserve-2-clause-sound g c =
+    roomier_sound g.K.Ord.cmp c.args.self.now c.reserve.new.self c.reserve-2.new.self (ap (λ (s : Slab (Leaf g.row.K.Denot g.row.V.Denot)). s.slots) c.reserve.ensures.rest_kept) (ap (λ (s : Slab (InnerNode g.row.K.Denot)). s.slots) c.reserve-2.ensures.rest_kept) c.requires.sound
+
+pub returns-in_err-reserve-clause-pairs : goal.returns-in_err-reserve-clause-pairs
+returns-in_err-reserve-clause-pairs g c = roomier_pairs g.K.Ord.cmp c.args.self.now c.reserve.new.self c.args.self.now.nodes (ap (λ (s : Slab (Leaf g.row.K.Denot g.row.V.Denot)). s.slots) c.reserve.ensures.rest_kept) refl
+
+pub returns-in_err-reserve-2-clause-pairs : goal.returns-in_err-reserve-2-clause-pairs
+returns-in_err-reserve-2-clause-pairs g c = roomier_pairs g.K.Ord.cmp c.args.self.now c.reserve.new.self c.reserve-2.new.self (ap (λ (s : Slab (Leaf g.row.K.Denot g.row.V.Denot)). s.slots) c.reserve.ensures.rest_kept) (ap (λ (s : Slab (InnerNode g.row.K.Denot)). s.slots) c.reserve-2.ensures.rest_kept)
+
+pub returns-in_err-reserve-clause-ascending_headroom : goal.returns-in_err-reserve-clause-ascending_headroom
+returns-in_err-reserve-clause-ascending_headroom g c =
+    on_err c.from_residual.result (roomier_ascents g.K.Ord.cmp c.args.self.now c.reserve.new.self c.args.self.now.nodes (ap (λ (s : Slab (Leaf g.row.K.Denot g.row.V.Denot)). s.slots) c.reserve.ensures.rest_kept) refl)
+
+pub returns-in_err-reserve-2-clause-ascending_headroom : goal.returns-in_err-reserve-2-clause-ascending_headroom
+returns-in_err-reserve-2-clause-ascending_headroom g c =
+    on_err c.from_residual-in_err-reserve-2.result (roomier_ascents g.K.Ord.cmp c.args.self.now c.reserve.new.self c.reserve-2.new.self (ap (λ (s : Slab (Leaf g.row.K.Denot g.row.V.Denot)). s.slots) c.reserve.ensures.rest_kept) (ap (λ (s : Slab (InnerNode g.row.K.Denot)). s.slots) c.reserve-2.ensures.rest_kept))

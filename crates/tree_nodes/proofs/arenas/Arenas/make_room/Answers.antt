@@ -6,7 +6,7 @@ use Rattle.tree_nodes.proofs.NodeLemmas.{roomier_sound, roomier_ascents, roomier
 use Rattle.tree_nodes.specs.declared.arenas.Arenas.{Arenas}
 use Rattle.tree_nodes.specs.Content.{pairs_of, IsLeafFull}
 use Rattle.tree_nodes.specs.Depth.{IsAbove, ascending_headroom}
-use Rattle.tree_nodes.proofs.DepthLemmas.{flat_node, on_err}
+use Rattle.tree_nodes.proofs.DepthLemmas.{flat_node, on_err, on_ok}
 use Rattle.tree_nodes.proofs.RoomierLemmas.{roomier_split, roomier_way}
 use Rattle.tree_nodes.proofs.arenas.Arenas.make_room.Goals as goal
 
@@ -77,3 +77,12 @@ split_leaf-requires-clause-split_point g c =
 
 pub split_leaf-requires-clause-room : goal.split_leaf-requires-clause-room
 split_leaf-requires-clause-room g c = subst (λ (s : Slab (Leaf g.row.K.Denot g.row.V.Denot)). HasRoomFor s 1) (sym c.split_nodes-above.ensures.leaves) c.in_ok-reserve.ensures.room
+
+pub returns-then-self-eq0-clause-ascending : goal.returns-then-self-eq0-clause-ascending
+returns-then-self-eq0-clause-ascending g c = on_ok c.init_root.result (λ more above some. more) c.init_root.ensures.ascending
+
+pub split_leaf-requires-clause-parent : goal.split_leaf-requires-clause-parent
+split_leaf-requires-clause-parent g c = c.split_nodes-above.ensures.room
+
+pub split_leaf-requires-clause-lowest : goal.split_leaf-requires-clause-lowest
+split_leaf-requires-clause-lowest g c = c.split_nodes-above.ensures.lowest

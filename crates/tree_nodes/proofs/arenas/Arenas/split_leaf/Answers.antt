@@ -1,5 +1,6 @@
-use Rattle.std.proofs.Common.{◌≡◌, ℕ, cond, Option, Some, sym, ap, ◌∙◌, subst}
+use Rattle.std.proofs.Common.{◌≡◌, ◌<◌, ℕ, cond, Option, Some, sym, ap, ◌∙◌, subst}
 use Rattle.std.specs.Ordering.{is_lt}
+use Rattle.std.proofs.lemmas.Option.{none-some}
 use Rattle.slab.specs.Slab.{get}
 use Rattle.tree_nodes.specs.declared.leaf.Leaf.{Leaf}
 use Rattle.tree_nodes.specs.declared.node.InnerNode.{InnerNode}
@@ -135,3 +136,15 @@ returns-clause-on g c =
     let there : get a.nodes c.args.above ≡ Some old = sym c.in-Some-get_mut.ensures.value in
     let thawed = was_thawed cmp o key a c.requires.sound c.requires.planted c.args.above c.args.child c.requires.lowest c.requires.on whole upper low here split_point fits c.split-lower.ensures.rising in
     c.chosen.ensures ∙ ap (λ b. cond b c.args.child c.insert_reserved-fresh.result) c.is_lt-is_upper.ensures ∙ ap (λ r. cond (is_lt r) c.args.child c.insert_reserved-fresh.result) c.cmp.ensures ∙ done_on cmp o key a c.requires.sound c.requires.planted c.args.above c.args.child c.requires.lowest c.requires.on whole upper low here split_point fits c.split-lower.ensures.rising old there c.split-lower.ensures.lower c.split-lower.ensures.upper c.split-lower.ensures.lower_rising c.split-lower.ensures.upper_rising (c.split-lower.ensures.lower_thawed thawed) (c.split-lower.ensures.upper_thawed thawed) c.split-lower.ensures.lower_living c.split-lower.ensures.upper_living c.split-lower.ensures.lower_used c.split-lower.ensures.upper_used c.insert_reserved-fresh.new.self c.link.new.leaves c.insert_reserved-fresh.result c.insert_reserved-fresh.ensures.updates c.insert_reserved-fresh.ensures.was_vacant c.link.ensures.arrays (λ n. c.link.ensures.links n ∙ ap (λ (p : Option ℕ). linked_in c.insert_reserved-fresh.result p c.args.child (leaf_links c.insert_reserved-fresh.new.self) n) (c.split-lower.ensures.lower_prev ∙ sym c.split-lower.ensures.prev)) c.split-lower.ensures.prev c.split-lower.ensures.next (c.split-lower.ensures.lower_prev ∙ sym c.split-lower.ensures.prev) c.split-lower.ensures.lower_next c.insert.new.self c.insert.ensures.node c.insert.ensures.separators c.insert.ensures.last
+
+pub insert-requires-clause-room : goal.insert-requires-clause-room
+insert-requires-clause-room g c =
+    let parent = c.requires.parent in
+    let same : parent.node ≡ c.in-Some-get_mut.node.now = some_same (sym parent.there ∙ ap (get c.args.self.now.nodes) (sym c.requires.lowest) ∙ sym c.in-Some-get_mut.ensures.value) in
+    subst (λ (n : InnerNode g.row.K.Denot). n.children.used < 15) same parent.room
+
+pub unreachable-unreachable : goal.unreachable-unreachable
+unreachable-unreachable g c = none-some _ (c.in-None.ensures.value ∙ ap (get c.args.self.now.leaves) c.requires.on ∙ c.requires.split_point.there)
+
+pub unreachable-unreachable-in-None-get_mut : goal.unreachable-unreachable-in-None-get_mut
+unreachable-unreachable-in-None-get_mut g c = none-some _ (c.in-None-get_mut.ensures.value ∙ ap (get c.args.self.now.nodes) c.requires.lowest ∙ c.requires.parent.there)
