@@ -5,3 +5,4 @@ pub mod RotationLemmas
 pub mod PlaceLemmas
 pub mod SweepLemmas
 pub mod DropLemmas
+pub mod EndLemmas

@@ -1,4 +1,4 @@
-use Rattle.std.proofs.Common.{refl, ap, sym, ◌∙◌, arith, length, List, ◌++◌, ◌∷◌, []}
+use Rattle.std.proofs.Common.{◌≡◌, ℕ, refl, ap, sym, ◌∙◌, arith, length, replicate, List, ◌++◌, ◌∷◌, []}
 use Rattle.std.proofs.lemmas.List.{length-replicate}
 use Rattle.sdd_table.specs.State.{emptiness}
 use Rattle.sdd_table.specs.declared.status.Cell.{Cell}
@@ -19,3 +19,15 @@ loop-i-preserved c =
       room = omega (arith, h.room, other);
       free = rw (e, f) (lists_grow emptiness c.loop-i.cells.items cell.Free c.loop-i.free.items c.loop-i.i at refl h.free);
     }
+
+pub returns-clause-cells : goal.returns-clause-cells
+returns-clause-cells c =
+    let all : c.loop-i.i ≡ c.args.n = omega (arith, c.loop-i-test.false, c.loop-i.auto.i-end) in
+    c.loop-i.invariant.cells ∙ ap (λ (n : ℕ). replicate n cell.Free) all
+
+pub returns-clause-free : goal.returns-clause-free
+returns-clause-free c =
+    let h = c.loop-i.invariant in
+    let all : c.loop-i.i ≡ c.args.n = omega (arith, c.loop-i-test.false, c.loop-i.auto.i-end) in
+    let long = ap length h.cells ∙ length-replicate c.loop-i.i cell.Free in
+    record { lists = h.free; room = omega (arith, h.room, long, all) }

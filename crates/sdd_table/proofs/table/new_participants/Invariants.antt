@@ -5,4 +5,8 @@ use Rattle.sdd_table.specs.View.{participant_state, BagsHaveRoom, waiting}
 use Rattle.sdd_table.proofs.table.new_participants.Given as goal
 
 abbrev pub invariant-loop : goal.invariant-loop
-invariant-loop l = (map participant_state l.participants.items ≡ replicate l.counter nobody) × All (BagsHaveRoom l.places) l.participants.items × (sum_by waiting l.participants.items ≡ 0)
+invariant-loop l = record {
+  shown : map participant_state l.participants.items ≡ replicate l.counter nobody;
+  room : All (BagsHaveRoom l.places) l.participants.items;
+  waits : sum_by waiting l.participants.items ≡ 0;
+}

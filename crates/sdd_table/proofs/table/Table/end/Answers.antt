@@ -1,4 +1,5 @@
 use Rattle.std.proofs.Common.{◌≡◌, ◌∙◌, ap, sym, get_or, length, None, Option, List, ◌++◌, ◌∷◌, [], is_some, true, false}
+use Rattle.sdd_table.proofs.EndLemmas.{front_none}
 use Rattle.sdd_table.proofs.SlotLemmas.{value_there, unused_all, last_value}
 use Rattle.sdd_table.specs.State.{State, in_use}
 use Rattle.sdd_table.proofs.table.Table.end.Goals as goal
@@ -13,3 +14,10 @@ unreachable-requires g c =
     let i = c.in-Some.ensures.items in
     let f : is_some (get_or (ys ++ c.in-Some.value ∷ []) (length ys) None) ≡ false = ap (λ (xs : List (Option _)). is_some (get_or xs (length ys) None)) (sym i) ∙ c.loop-value.invariant (length ys) in
     cc
+
+pub loop-value-preserved : goal.loop-value-preserved
+loop-value-preserved g c =
+    front_none c.pop.new.self.items c.in-Some.value (λ k. ap (λ (xs : List (Option _)). is_some (get_or xs k None)) (sym c.in-Some.ensures.items) ∙ c.loop-value.invariant k)
+
+pub destroy_empty-requires : goal.destroy_empty-requires
+destroy_empty-requires g c = c.in_default.ensures.cases.1

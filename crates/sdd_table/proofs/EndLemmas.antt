@@ -1,0 +1,34 @@
+-- what the end of the store and the end of a private bag rest on
+use Rattle.std.proofs.Common.{◌≡◌, ◌<◌, ℕ, zero, suc, false, Option, None, List, [], ◌∷◌, ◌++◌, length, drop, get_or, is_some, refl, ap, arith}
+use Rattle.sdd_table.specs.State.{State}
+use Rattle.sdd_table.specs.Steps.{handed_over_as}
+use Rattle.sdd_table.specs.declared.status.Status.{Status}
+use Rattle.sdd_table.specs.declared.status.Status.TheVariants as status
+
+-- where no place of a list has a value, none of those in front of the last one has
+pub front_none : {T : Type 0} (ys : List (Option T)) (x : Option T) → ((k : ℕ) → is_some (get_or (ys ++ x ∷ []) k None) ≡ false) → (k : ℕ) → is_some (get_or ys k None) ≡ false
+front_none [] x h k = refl
+front_none (y ∷ ys) x h zero = h zero
+front_none (y ∷ ys) x h (suc k) = front_none ys x (λ j. h (suc j)) k
+
+-- what waits in no private bag isn't handed over
+pub kept_as : {T : Type 0} (s : Status) (p i : ℕ) (w : State T) → ((n : ℕ) → s ≡ status.Collected n → ⊥) → handed_over_as s p i w ≡ w
+kept_as status.Free p i w other = refl
+kept_as status.Owned p i w other = refl
+kept_as (status.Shared n) p i w other = refl
+kept_as status.Raw p i w other = refl
+kept_as (status.Collected n) p i w other = absurd (other n refl)
+kept_as status.Retired p i w other = refl
+kept_as status.Idle p i w other = refl
+kept_as status.Deferred p i w other = refl
+
+-- a slot whose item waits in a private bag is one of the store
+pub collected_inside : (xs : List Status) (i n : ℕ) → get_or xs i status.Free ≡ status.Collected n → i < length xs
+collected_inside [] i n e = absurd cc
+collected_inside (x ∷ xs) zero n e = omega arith
+collected_inside (x ∷ xs) (suc i) n e = omega (arith, collected_inside xs i n e)
+
+-- a list that is what is behind its first item has none
+pub no_first : {X : Type 0} (xs : List X) → xs ≡ drop 1 xs → xs ≡ []
+no_first [] e = refl
+no_first {X} (x ∷ xs) e = absurd (omega (arith, ap (λ (ys : List X). length ys) e))
