@@ -3,3 +3,4 @@ pub mod ListLemmas
 pub mod RemainingPairsLemmas
 pub mod NearbyLemmas
 pub mod ReplayLemmas
+pub mod StepLemmas

@@ -3,6 +3,7 @@ use Rattle.std.specs.List.{slice_get}
 use Rattle.serial_history.specs.RemainingPairs.{remaining_pairs}
 use Rattle.serial_history.proofs.ReplayLemmas.{gathered_more, left_whole}
 use Rattle.serial_history.proofs.RemainingPairsLemmas.{done_all}
+use Rattle.serial_history.proofs.StepLemmas.{fewer_left}
 use Rattle.serial_history.proofs.replay.gathered.Goals as goal
 
 pub gathering-init : goal.gathering-init
@@ -25,3 +26,8 @@ pub returns : goal.returns
 returns g c =
     let first : slice_get (remaining_pairs g.K.Ord.cmp (g.C.Steps.cursor c.gathering.cursor)) 0 ≡ None = sym c.in_default.ensures.first in
     done_all c.gathering.list.pairs (remaining_pairs g.K.Ord.cmp (g.C.Steps.cursor c.gathering.cursor)) _ c.gathering.invariant.given first
+
+pub gathering-smaller : goal.gathering-smaller
+gathering-smaller g c =
+    let left = remaining_pairs g.K.Ord.cmp (g.C.Steps.cursor c.gathering.cursor) in
+    fewer_left left _ (c.in-Some.key.now, c.in-Some.value.now) c.in-Some.ensures.first (c.in-Some.ensures.left refl)
