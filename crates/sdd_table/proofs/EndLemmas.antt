@@ -1,7 +1,7 @@
 -- what the end of the store and the end of a private bag rest on
-use Rattle.std.proofs.Common.{◌≡◌, ◌<◌, ℕ, zero, suc, false, Option, None, List, [], ◌∷◌, ◌++◌, length, drop, get_or, is_some, refl, ap, arith}
-use Rattle.sdd_table.specs.State.{State}
-use Rattle.sdd_table.specs.Steps.{handed_over_as}
+use Rattle.std.proofs.Common.{◌≡◌, ◌<◌, ℕ, zero, suc, false, Option, None, List, [], ◌∷◌, ◌++◌, length, drop, get_or, is_some, refl, sym, ap, ◌∙◌, arith}
+use Rattle.sdd_table.specs.State.{State, status_at}
+use Rattle.sdd_table.specs.Steps.{handed_over, handed_over_as}
 use Rattle.sdd_table.specs.declared.status.Status.{Status}
 use Rattle.sdd_table.specs.declared.status.Status.TheVariants as status
 
@@ -32,3 +32,7 @@ collected_inside (x ∷ xs) (suc i) n e = omega (arith, collected_inside xs i n 
 pub no_first : {X : Type 0} (xs : List X) → xs ≡ drop 1 xs → xs ≡ []
 no_first [] e = refl
 no_first {X} (x ∷ xs) e = absurd (omega (arith, ap (λ (ys : List X). length ys) e))
+
+-- what is left to hand over, once the first was
+pub handed_first : {T : Type 0} (p slot : ℕ) (is rest : List ℕ) (w next : State T) → is ≡ slot ∷ rest → next ≡ handed_over_as (status_at w slot) p slot w → handed_over p rest next ≡ handed_over p is w
+handed_first p slot is rest w next items first = ap (handed_over p rest) first ∙ ap (λ (js : List ℕ). handed_over p js w) (sym items)

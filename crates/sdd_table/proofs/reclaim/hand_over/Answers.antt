@@ -2,7 +2,7 @@ use Rattle.std.proofs.Common.{List, ℕ, length, length-set, sym, ap, ◌∙◌,
 use Rattle.sdd_table.specs.State.{State, is_used, weight, participant_at, put_participant}
 use Rattle.sdd_table.specs.Steps.{handed_over, handed_over_as}
 use Rattle.sdd_table.specs.declared.status.Status.{Status}
-use Rattle.sdd_table.proofs.EndLemmas.{kept_as, collected_inside, no_first}
+use Rattle.sdd_table.proofs.EndLemmas.{kept_as, handed_first, collected_inside, no_first}
 use Rattle.sdd_table.proofs.reclaim.hand_over.Goals as goal
 
 pub loop-slot-preserved : goal.loop-slot-preserved
@@ -14,7 +14,7 @@ loop-slot-preserved g c =
     let first = ap (λ (s : Status). handed_over_as s p c.in-Some.slot t) (sym c.status_of.ensures) ∙ same in
     record {
       known = i.known;
-      state = ap (handed_over p c.pop_front.new.self.items) (sym first) ∙ ap (λ is. handed_over p is t) (sym c.in-Some.ensures.items) ∙ i.state;
+      state = handed_first p c.in-Some.slot c.loop-slot.waiting.items _ t t c.in-Some.ensures.items (sym first) ∙ i.state;
     }
 
 pub loop-slot-preserved-in-Collected : goal.loop-slot-preserved-in-Collected
@@ -28,7 +28,7 @@ loop-slot-preserved-in-Collected g c =
     let long = ap (λ (w : State _). length w.participants) c.retire.ensures ∙ length-set t.participants p (put_participant slot (participant_at t p)) in
     record {
       known = omega (arith, i.known, long);
-      state = ap (handed_over p c.pop_front.new.self.items) first ∙ ap (λ is. handed_over p is t) (sym c.in-Some.ensures.items) ∙ i.state;
+      state = handed_first p slot c.loop-slot.waiting.items _ t c.retire.new.self c.in-Some.ensures.items first ∙ i.state;
     }
 
 pub loop-slot-smaller : goal.loop-slot-smaller
