@@ -142,7 +142,7 @@ const NOTHING_UNDER_A_GUARD: Table = Table {
     ])],
 };
 
-const TABLES: [Table; 10] = [
+const TABLES: &[Table] = &[
     ONE_OF_TWO_OWNERS,
     WAITS_ON,
     OWNED_UNDER_A_GUARD,
@@ -157,5 +157,5 @@ const TABLES: [Table; 10] = [
 
 #[test]
 fn items_are_written_and_dropped_in_place(rt: HostRuntime) {
-    plays::<_, Job>(&rt, rt.alloc(), &TABLES);
+    plays::<_, Job>(&rt, rt.alloc(), TABLES);
 }

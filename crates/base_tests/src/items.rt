@@ -115,7 +115,7 @@ const WITHOUT_JOBS: Table = Table {
     ])],
 };
 
-const TABLES: [Table; 7] = [
+const TABLES: &[Table] = &[
     THE_LAST_OF_TWO,
     GUARD_KEEPS,
     PARTICIPANT,
@@ -128,5 +128,5 @@ const TABLES: [Table; 7] = [
 #[test]
 fn owners_and_guards_keep_items(rt: HostRuntime) {
     plays::<_, NoJob>(&rt, rt.alloc(), &[WITHOUT_JOBS]);
-    plays::<_, Job>(&rt, rt.alloc(), &TABLES);
+    plays::<_, Job>(&rt, rt.alloc(), TABLES);
 }

@@ -157,7 +157,7 @@ const OF_RAW_POINTERS: Table = Table {
     ])],
 };
 
-const TABLES: [Table; 7] = [
+const TABLES: &[Table] = &[
     SWAPPED,
     OWNED_IS_COMPARED,
     TAG_IS_UPDATED,
@@ -169,5 +169,5 @@ const TABLES: [Table; 7] = [
 
 #[test]
 fn cells_keep_owners_and_name_raw_items(rt: HostRuntime) {
-    plays::<_, Job>(&rt, rt.alloc(), &TABLES);
+    plays::<_, Job>(&rt, rt.alloc(), TABLES);
 }

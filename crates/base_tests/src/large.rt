@@ -16,7 +16,7 @@ use sdd_base::NoJob;
 const MANY: usize = 1_000_000;
 
 /// Four items, one by each call that makes some.
-const FOUR_MORE: [Row; 4] = [
+const FOUR_MORE: &[Row] = &[
     (Own(END, 1), Done),
     (OwnWith(END, 2), Done),
     (Share(END, 3), Done),
@@ -24,7 +24,7 @@ const FOUR_MORE: [Row; 4] = [
 ];
 
 /// Each call that makes an item is refused.
-const NO_MORE: [Row; 6] = [
+const NO_MORE: &[Row] = &[
     (Own(A, 5), Back(5)),
     (OwnWith(A, 5), NoSlot),
     (Share(A, 5), Back(5)),
@@ -37,9 +37,9 @@ const SLOTS: Table = Table {
     about: "a million slots are taken",
     sizes: [3, MANY, MANY, MANY],
     parts: &[
-        Times(MANY / 4, &FOUR_MORE),
+        Times(MANY / 4, FOUR_MORE),
         Once(&[(Slots, Is(1_000_000)), (FreeSlots, Is(0))]),
-        Once(&NO_MORE),
+        Once(NO_MORE),
         Once(&[(GiveRest, Done)]),
     ],
 };
@@ -50,7 +50,7 @@ fn a_million_slots_are_taken(rt: HostRuntime) {
 }
 
 /// Ten cells, one by each call that makes some.
-const TEN_MORE: [Row; 14] = [
+const TEN_MORE: &[Row] = &[
     (NullOwnedCell(END), Done),
     (OwnedCell(END, 1), Done),
     (Own(A, 2), Done),
@@ -68,7 +68,7 @@ const TEN_MORE: [Row; 14] = [
 ];
 
 /// Each call that makes a cell is refused.
-const NO_CELL: [Row; 6] = [
+const NO_CELL: &[Row] = &[
     (NullOwnedCell(A), NoSlot),
     (OwnedCell(A, 5), Back(5)),
     (NullSharedCell(A), NoSlot),
@@ -82,8 +82,8 @@ const CELLS: Table = Table {
     sizes: [3, MANY, MANY, MANY],
     parts: &[
         Once(&[(Open(G, 2), Done)]),
-        Times(MANY / 10, &TEN_MORE),
-        Once(&NO_CELL),
+        Times(MANY / 10, TEN_MORE),
+        Once(NO_CELL),
         Once(&[(GiveRest, Done), (Close(G), Done)]),
     ],
 };

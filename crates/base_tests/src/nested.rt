@@ -269,7 +269,7 @@ fn right<R: Abort>(rt: &R, alloc: Global, rows: &[Row]) -> usize {
 }
 
 /// An item is reclaimed before what it held.
-const BEFORE_WHAT_IT_HELD: [Row; 10] = [
+const BEFORE_WHAT_IT_HELD: &[Row] = &[
     (Segment(A, 7), Done),
     (Directory(A), Done),
     (Release(A), Yes),
@@ -283,7 +283,7 @@ const BEFORE_WHAT_IT_HELD: [Row; 10] = [
 ];
 
 /// What only a dropped item held goes with it.
-const GOES_WITH_IT: [Row; 6] = [
+const GOES_WITH_IT: &[Row] = &[
     (Segment(A, 7), Done),
     (Directory(A), Done),
     (Directory(A), Done),
@@ -293,7 +293,7 @@ const GOES_WITH_IT: [Row; 6] = [
 ];
 
 /// What has another owner stays.
-const STAYS: [Row; 7] = [
+const STAYS: &[Row] = &[
     (Segment(A, 7), Done),
     (Clone(A, B), Done),
     (Directory(A), Done),
@@ -305,7 +305,7 @@ const STAYS: [Row; 7] = [
 
 /// A collect reclaims what is overdue first. The directory has the other owner of its segment. It is overdue when the segment
 /// is collected, and reclaimed first, so the owner that is collected then is the last one.
-const OVERDUE_FIRST: [Row; 7] = [
+const OVERDUE_FIRST: &[Row] = &[
     (Segment(A, 7), Done),
     (Clone(A, B), Done),
     (Directory(A), Done),
@@ -319,10 +319,10 @@ const OVERDUE_FIRST: [Row; 7] = [
 fn what_an_item_holds_is_reclaimed_behind_it(rt: HostRuntime) {
     let alloc = rt.alloc();
     let found = [
-        right(&rt, alloc, &BEFORE_WHAT_IT_HELD),
-        right(&rt, alloc, &GOES_WITH_IT),
-        right(&rt, alloc, &STAYS),
-        right(&rt, alloc, &OVERDUE_FIRST),
+        right(&rt, alloc, BEFORE_WHAT_IT_HELD),
+        right(&rt, alloc, GOES_WITH_IT),
+        right(&rt, alloc, STAYS),
+        right(&rt, alloc, OVERDUE_FIRST),
     ];
     assert_eq!(rt; found, [10, 6, 7, 7], "rows before one that isn't right");
 }

@@ -488,7 +488,7 @@ const PLACE: Table = Table {
 const START: [Row; 2] = [(Step::NullSharedCell(A), Done), (Step::Collector(B), Done)];
 
 /// Everything is given back.
-const END: [Row; 3] = [
+const END: &[Row] = &[
     (Step::GiveRest, Done),
     (Step::EndCell(A, 0), Done),
     (Step::HandOver(B, 0), Done),
@@ -503,7 +503,7 @@ fn right<R: Abort>(rt: &R, alloc: Global, start: Dice, calls: u64) -> u64 {
     let mut stage = Stage::new(rt, alloc, &PLACE);
     let started = are_right(&mut stage, &START);
     let right = played(&mut stage, &mut plain, &mut dice, calls);
-    let ended = are_right(&mut stage, &END);
+    let ended = are_right(&mut stage, END);
     stage.end();
     if started && ended { right } else { 0 }
 }

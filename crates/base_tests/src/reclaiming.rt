@@ -31,7 +31,7 @@ const HANDED_OVER: Table = Table {
 };
 
 /// Collects a new item under a guard, which is accelerated and closed behind a look at the slots.
-const COLLECTED: [Row; 3] = [
+const COLLECTED: &[Row] = &[
     (Open(G, 0), Done),
     (Share(B, 7), Done),
     (Collect(A, B, G), Yes),
@@ -44,19 +44,19 @@ const LATER: Table = Table {
     sizes: [2, 4, 0, 0],
     parts: &[
         Once(&[(Collector(A), Done)]),
-        Once(&COLLECTED),
+        Once(COLLECTED),
         Once(&[(Slots, Is(1))]),
         Once(&CLOSED),
-        Once(&COLLECTED),
+        Once(COLLECTED),
         Once(&[(Slots, Is(2))]),
         Once(&CLOSED),
-        Once(&COLLECTED),
+        Once(COLLECTED),
         Once(&[(Slots, Is(3))]),
         Once(&CLOSED),
-        Once(&COLLECTED),
+        Once(COLLECTED),
         Once(&[(Slots, Is(3))]),
         Once(&CLOSED),
-        Once(&COLLECTED),
+        Once(COLLECTED),
         Once(&[(Slots, Is(3))]),
         Once(&CLOSED),
         Once(&[(HandOver(A, 1), Done), (Pass(1, 4), Is(0))]),
@@ -86,11 +86,11 @@ const SIXTY_FOURTH: Table = Table {
     ],
 };
 
-const TABLES: [Table; 3] = [HANDED_OVER, LATER, SIXTY_FOURTH];
+const TABLES: &[Table] = &[HANDED_OVER, LATER, SIXTY_FOURTH];
 
 #[test]
 fn collectors_and_closings_reclaim(rt: HostRuntime) {
-    plays::<_, Job>(&rt, rt.alloc(), &TABLES);
+    plays::<_, Job>(&rt, rt.alloc(), TABLES);
 }
 
 /// Counts how often it runs.
@@ -120,7 +120,7 @@ const WITH_A_JOB: Table = Table {
     parts: &[],
 };
 
-const HURRIED: [Row; 3] = [(Accelerate(G), Done), (Close(G), Done), (Pass(0, 2), Is(0))];
+const HURRIED: &[Row] = &[(Accelerate(G), Done), (Close(G), Done), (Pass(0, 2), Is(0))];
 
 const FOURTH: [Row; 1] = [(Open(G, 0), Done)];
 
@@ -138,7 +138,7 @@ fn a_job_runs_once_when_the_fourth_guard_opens(rt: HostRuntime) {
     let opened = are_right(&mut stage, &FOURTH);
     let waits = (stage.defer(job), stage.defer(another));
     let at_once = other.load(Ordering::SeqCst);
-    let hurried = are_right(&mut stage, &HURRIED);
+    let hurried = are_right(&mut stage, HURRIED);
     let before = runs.load(Ordering::SeqCst);
     let fourth = are_right(&mut stage, &FOURTH);
     let once = runs.load(Ordering::SeqCst);

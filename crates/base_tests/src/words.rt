@@ -38,7 +38,7 @@ fn a_generation_is_three_epochs(rt: HostRuntime) {
     assert!(rt; alike == [true, true, false, false]);
 }
 
-const TAGS: [Tag; 4] = [Tag::None, Tag::First, Tag::Second, Tag::Both];
+const TAGS: &[Tag] = &[Tag::None, Tag::First, Tag::Second, Tag::Both];
 
 /// Counts of owners and of guards, and whether one is the last.
 const COUNTS: [(u32, bool); 4] = [

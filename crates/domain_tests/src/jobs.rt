@@ -230,7 +230,7 @@ fn threads<R: Threads + Sync>(rt: &R, domain: &Domain<Count>, runs: &Arc<AtomicU
 
 /// A job runs once as the fourth guard opens. What an ended participant deferred is run by the next one, or at the close. A job
 /// waits for an older guard of another participant. Each job of threads runs once.
-const ROWS: [Row; 4] = [
+const ROWS: &[Row] = &[
     (1, 1, Play::Once, (true, [0, 1, 1]), 1),
     (1, 1, Play::Behind, (true, [1, 1, 0]), 2),
     (2, 1, Play::Beside, (true, [0, 1, 0]), 1),
@@ -240,10 +240,11 @@ const ROWS: [Row; 4] = [
 #[test]
 fn jobs_run_once_when_nobody_is_in_their_way(rt: HostRuntime) {
     let mut right = 0usize;
-    for at in 0..ROWS.len() {
-        if right == at && is_right(&rt, rt.alloc(), &ROWS[at]) {
+    let rows = ROWS;
+    for at in 0..rows.len() {
+        if right == at && is_right(&rt, rt.alloc(), &rows[at]) {
             right = right.saturating_add(1);
         }
     }
-    assert_eq!(rt; right, ROWS.len(), "the first row that isn't right");
+    assert_eq!(rt; right, rows.len(), "the first row that isn't right");
 }

@@ -144,7 +144,7 @@ fn first_wrong<R: Threads + Abort + Sync>(
 }
 
 /// All tables, by what they are about: counts and guards, participants, items, owners, cells, private collectors, and tags.
-const TABLES: [Table; 50] = [
+const TABLES: &[Table] = &[
     guard::EACH_RAISES,
     guard::ONCE_BESIDE_A_GUARD,
     guard::NOT_REGISTERED,
@@ -199,5 +199,5 @@ const TABLES: [Table; 50] = [
 
 #[test]
 fn each_row_of_each_table_is_right(rt: HostRuntime) {
-    assert_eq!(rt; first_wrong(&rt, rt.alloc(), &TABLES), None);
+    assert_eq!(rt; first_wrong(&rt, rt.alloc(), TABLES), None);
 }

@@ -98,7 +98,7 @@ fn plays<R: Abort>(rt: &R, alloc: Global, rows: &[Row]) -> Result<usize, AllocEr
 }
 
 // Slots are used by commits and reclaimed.
-const USED_AND_RECLAIMED: [Row; 6] = [
+const USED_AND_RECLAIMED: &[Row] = &[
     (Slots, Told::Slots(1)),
     (Commit(&[Insert(1, 10)]), Accepted(1, &[Inserted])),
     (Commit(&[Insert(2, 20)]), Accepted(2, &[Inserted])),
@@ -109,11 +109,11 @@ const USED_AND_RECLAIMED: [Row; 6] = [
 
 #[test]
 fn a_list_of_calls_uses_slots_and_reclaims_them(rt: HostRuntime) {
-    assert_eq!(rt; plays(&rt, rt.alloc(), &USED_AND_RECLAIMED), Ok(6));
+    assert_eq!(rt; plays(&rt, rt.alloc(), USED_AND_RECLAIMED), Ok(6));
 }
 
 // Number and length are those of the session.
-const BY_SESSIONS: [Row; 10] = [
+const BY_SESSIONS: &[Row] = &[
     (Commit(&[Insert(1, 10)]), Accepted(1, &[Inserted])),
     (Open(7), Opened(1)),
     (Commit(&[Insert(2, 20)]), Accepted(2, &[Inserted])),
@@ -128,11 +128,11 @@ const BY_SESSIONS: [Row; 10] = [
 
 #[test]
 fn a_list_of_calls_asks_sessions_for_their_lists(rt: HostRuntime) {
-    assert_eq!(rt; plays(&rt, rt.alloc(), &BY_SESSIONS), Ok(10));
+    assert_eq!(rt; plays(&rt, rt.alloc(), BY_SESSIONS), Ok(10));
 }
 
 // Calls that meet each reply but those of memory.
-const BY_LABELS: [Row; 20] = [
+const BY_LABELS: &[Row] = &[
     (Commit(&[Insert(1, 10)]), Accepted(1, &[Inserted])),
     (Open(7), Opened(1)),
     (Open(7), Busy),
@@ -163,5 +163,5 @@ const BY_LABELS: [Row; 20] = [
 
 #[test]
 fn a_list_of_calls_is_played_by_labels(rt: HostRuntime) {
-    assert_eq!(rt; plays(&rt, rt.alloc(), &BY_LABELS), Ok(20));
+    assert_eq!(rt; plays(&rt, rt.alloc(), BY_LABELS), Ok(20));
 }

@@ -57,7 +57,7 @@ const LEFT: Table = Table {
     ]],
 };
 
-const ODD: [Write<u64, u64>; 5] = [
+const ODD: &[Write<u64, u64>] = &[
     Write::Insert(1, 1),
     Write::Insert(3, 3),
     Write::Insert(5, 5),
@@ -66,7 +66,7 @@ const ODD: [Write<u64, u64>; 5] = [
 ];
 
 // A read of each other kind, of the odd keys below ten.
-const READ: [Claim; 6] = [
+const READ: &[Claim] = &[
     Got(3, Some(3)),
     Has(4, false),
     Between(4, (3, 3), (5, 5)),
@@ -81,7 +81,7 @@ const EACH_KIND: Table = Table {
     slots: 32,
     last: u64::MAX,
     parts: &[&[
-        (Commit(&ODD), Accepted(1, &[Reply::Inserted; 5])),
+        (Commit(ODD), Accepted(1, &[Reply::Inserted; 5])),
         (Open(1), Opened(1)),
         (Read(1, Got(3, Some(3))), Holds),
         (Read(1, Has(4, false)), Holds),
@@ -89,8 +89,8 @@ const EACH_KIND: Table = Table {
         (Read(1, Exact(7, (7, 7))), Holds),
         (Read(1, Smaller(10, (9, 9))), Holds),
         (Read(1, Larger(0, (1, 1))), Holds),
-        (Close(1), Closed(1, &READ)),
-        (Audit(1, &READ), Audited(Yes)),
+        (Close(1), Closed(1, READ)),
+        (Audit(1, READ), Audited(Yes)),
     ]],
 };
 
@@ -172,7 +172,7 @@ const COMMIT_5: Row = (Commit(&[Write::Insert(6, 60)]), Accepted(5, &ONE_INSERTE
 const COMMIT_6: Row = (Commit(&[Write::Insert(7, 70)]), Accepted(6, &ONE_INSERTED));
 
 // Audits of each number by its own list, and by the next.
-const AUDITS: [Row; 14] = [
+const AUDITS: &[Row] = &[
     (Audit(0, &[LIST_0]), Audited(Yes)),
     (Audit(1, &[LIST_1]), Audited(Yes)),
     (Audit(2, &[LIST_2]), Audited(Yes)),
@@ -205,9 +205,9 @@ const OF_ANY_NUMBER: Table = Table {
             COMMIT_5,
             COMMIT_6,
         ],
-        &AUDITS,
+        AUDITS,
         &[(Close(1), Closed(1, &[]))],
-        &AUDITS,
+        AUDITS,
     ],
 };
 
@@ -226,11 +226,11 @@ const OF_LATER_LISTS: Table = Table {
             (Open(1), Opened(5)),
             COMMIT_6,
         ],
-        &AUDITS,
+        AUDITS,
     ],
 };
 
-const TABLES: [Table; 7] = [
+const TABLES: &[Table] = &[
     ENTERED,
     LEFT,
     EACH_KIND,
@@ -242,7 +242,7 @@ const TABLES: [Table; 7] = [
 
 #[test]
 fn reads_are_recorded_tested_and_audited(rt: HostRuntime) {
-    assert_eq!(rt; first_wrong::<_, 2>(&rt, rt.alloc(), &TABLES), None);
+    assert_eq!(rt; first_wrong::<_, 2>(&rt, rt.alloc(), TABLES), None);
 }
 
 fn read(pair: Option<(&u64, &u64)>) -> Option<(u64, u64)> {

@@ -132,7 +132,7 @@ const UPSERT: Row = (
 );
 
 // The index is written and read. The empty version, a segment and a directory have slots.
-const WRITTEN: [Row; 5] = [
+const WRITTEN: &[Row] = &[
     FIRST,
     (Slots, Told::Slots(3)),
     (Open(1), Opened(1)),
@@ -143,7 +143,7 @@ const WRITTEN: [Row; 5] = [
 const THE_PAIR: Claim = Listed(Unbounded, Unbounded, &[(1, 10)]);
 
 // All pairs are read, a commit changes them, and the read is audited once its list is kept no longer.
-const READ: [Row; 6] = [
+const READ: &[Row] = &[
     FIRST,
     (Open(1), Opened(1)),
     (Read(1, THE_PAIR), Holds),
@@ -153,7 +153,7 @@ const READ: [Row; 6] = [
 ];
 
 // Two of three segments are those of the version before, which is read on.
-const TAKEN_OVER: [Row; 11] = [
+const TAKEN_OVER: &[Row] = &[
     (InsertTo(6), All(1, 6, Reply::Inserted)),
     (Reclaim, Done),
     (Slots, Told::Slots(4)),
@@ -168,7 +168,7 @@ const TAKEN_OVER: [Row; 11] = [
 ];
 
 // A commit, a session, a read and a commit on it.
-const LISTED: [Row; 4] = [
+const LISTED: &[Row] = &[
     FIRST,
     (Open(7), Opened(1)),
     (Read(7, Got(1, Some(10))), Holds),
@@ -182,7 +182,7 @@ const LISTED: [Row; 4] = [
 // again, as if that had not been.
 fn plays<R: Abort>(rt: &R, alloc: Global) -> bool {
     let mut scene = Scene::<2>::new(rt, alloc, 1, 16, u64::MAX);
-    let right = played(&mut scene, &LISTED);
+    let right = played(&mut scene, LISTED);
     let met = scene.met;
     scene.end(rt);
     assert!(rt; right == Ok(LISTED.len()));
@@ -217,17 +217,17 @@ fn plays_what_takes_none<R: Abort>(rt: &R, alloc: Global) -> bool {
 
 #[test]
 fn a_refusal_of_memory_changes_nothing(rt: HostRuntime) {
-    let _met = insisted(&rt, rt.alloc(), &WRITTEN);
+    let _met = insisted(&rt, rt.alloc(), WRITTEN);
 }
 
 #[test]
 fn a_refusal_of_memory_records_nothing(rt: HostRuntime) {
-    let _met = insisted(&rt, rt.alloc(), &READ);
+    let _met = insisted(&rt, rt.alloc(), READ);
 }
 
 #[test]
 fn a_refusal_of_memory_takes_nothing_over(rt: HostRuntime) {
-    let _met = insisted(&rt, rt.alloc(), &TAKEN_OVER);
+    let _met = insisted(&rt, rt.alloc(), TAKEN_OVER);
 }
 
 #[test]
@@ -244,17 +244,17 @@ fn a_refusal_of_memory_meets_no_call_that_takes_none(rt: HostRuntime) {
 
 #[test]
 fn no_memory_is_refused(rt: HostRuntime) {
-    assert!(rt; !insisted(&rt, rt.alloc(), &WRITTEN));
+    assert!(rt; !insisted(&rt, rt.alloc(), WRITTEN));
 }
 
 #[test]
 fn no_memory_is_refused_where_reads_are_recorded(rt: HostRuntime) {
-    assert!(rt; !insisted(&rt, rt.alloc(), &READ));
+    assert!(rt; !insisted(&rt, rt.alloc(), READ));
 }
 
 #[test]
 fn no_memory_is_refused_where_segments_are_taken_over(rt: HostRuntime) {
-    assert!(rt; !insisted(&rt, rt.alloc(), &TAKEN_OVER));
+    assert!(rt; !insisted(&rt, rt.alloc(), TAKEN_OVER));
 }
 
 #[test]

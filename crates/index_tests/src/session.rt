@@ -118,11 +118,11 @@ const BY_ANSWERS: Table = Table {
     ]],
 };
 
-const TABLES: [Table; 3] = [AT_ITS_OPENING, LAST_NUMBER, BY_ANSWERS];
+const TABLES: &[Table] = &[AT_ITS_OPENING, LAST_NUMBER, BY_ANSWERS];
 
 #[test]
 fn sessions_read_and_commits_are_tested_by_answers(rt: HostRuntime) {
-    assert_eq!(rt; first_wrong::<_, 2>(&rt, rt.alloc(), &TABLES), None);
+    assert_eq!(rt; first_wrong::<_, 2>(&rt, rt.alloc(), TABLES), None);
 }
 
 // An index whose keys and values are byte strings.

@@ -10,7 +10,7 @@ use ordered_index::{Cause, Reply, Write};
 use std::ops::Bound;
 
 // Inserts of five keys, each its own value.
-const FIVE: [Write<u64, u64>; 5] = [
+const FIVE: &[Write<u64, u64>] = &[
     Write::Insert(1, 1),
     Write::Insert(2, 2),
     Write::Insert(3, 3),
@@ -20,17 +20,17 @@ const FIVE: [Write<u64, u64>; 5] = [
 
 const TWO: [Write<u64, u64>; 2] = [Write::Insert(1, 1), Write::Insert(2, 2)];
 
-const THREE: [Write<u64, u64>; 3] = [
+const THREE: &[Write<u64, u64>] = &[
     Write::Insert(1, 1),
     Write::Insert(2, 2),
     Write::Insert(3, 3),
 ];
 
-const FIVE_INSERTED: [Reply; 5] = [Reply::Inserted; 5];
+const FIVE_INSERTED: &[Reply] = &[Reply::Inserted; 5];
 
 const TWO_INSERTED: [Reply; 2] = [Reply::Inserted; 2];
 
-const THREE_INSERTED: [Reply; 3] = [Reply::Inserted; 3];
+const THREE_INSERTED: &[Reply] = &[Reply::Inserted; 3];
 
 const WITHOUT_SLOTS: Table = Table {
     about: "a commit without slots changes nothing",
@@ -39,7 +39,7 @@ const WITHOUT_SLOTS: Table = Table {
     last: u64::MAX,
     parts: &[&[
         // three segments and a directory don't fit beside the empty version
-        (Commit(&FIVE), Refused(Cause::NoSlot)),
+        (Commit(FIVE), Refused(Cause::NoSlot)),
         (Slots, Told::Slots(1)),
         (Open(1), Opened(0)),
         (Look(1, 1), Seen(0, 0, None)),
@@ -59,7 +59,7 @@ const BY_SEGMENTS: Table = Table {
     last: u64::MAX,
     parts: &[&[
         (Slots, Told::Slots(1)),
-        (Commit(&FIVE), Accepted(1, &FIVE_INSERTED)),
+        (Commit(FIVE), Accepted(1, FIVE_INSERTED)),
         (Slots, Told::Slots(5)),
         (Reclaim, Done),
         (Slots, Told::Slots(4)),
@@ -75,7 +75,7 @@ const BY_PAIRS: Table = Table {
     slots: 16,
     last: u64::MAX,
     parts: &[&[
-        (Commit(&THREE), Accepted(1, &THREE_INSERTED)),
+        (Commit(THREE), Accepted(1, THREE_INSERTED)),
         (Slots, Told::Slots(5)),
         (Reclaim, Done),
         (Slots, Told::Slots(4)),
@@ -88,7 +88,7 @@ const WHILE_OPEN: Table = Table {
     slots: 16,
     last: u64::MAX,
     parts: &[&[
-        (Commit(&FIVE), Accepted(1, &FIVE_INSERTED)),
+        (Commit(FIVE), Accepted(1, FIVE_INSERTED)),
         (Reclaim, Done),
         (Slots, Told::Slots(4)),
         (Open(1), Opened(1)),
@@ -136,7 +136,7 @@ const REPLACED: Table = Table {
     ]],
 };
 
-const OF_ALL_KINDS: [Write<u64, u64>; 7] = [
+const OF_ALL_KINDS: &[Write<u64, u64>] = &[
     Write::Insert(1, 10),
     Write::Insert(2, 20),
     Write::Insert(2, 21),
@@ -146,7 +146,7 @@ const OF_ALL_KINDS: [Write<u64, u64>; 7] = [
     Write::Remove(9),
 ];
 
-const THEIR_REPLIES: [Reply; 7] = [
+const THEIR_REPLIES: &[Reply] = &[
     Reply::Inserted,
     Reply::Inserted,
     Reply::Duplicate,
@@ -162,7 +162,7 @@ const ALL_KINDS: Table = Table {
     slots: 64,
     last: u64::MAX,
     parts: &[&[
-        (Commit(&OF_ALL_KINDS), Accepted(1, &THEIR_REPLIES)),
+        (Commit(OF_ALL_KINDS), Accepted(1, THEIR_REPLIES)),
         (Open(1), Opened(1)),
         (Look(1, 1), Seen(1, 2, None)),
         (Look(1, 2), Seen(1, 2, Some(22))),
@@ -171,7 +171,7 @@ const ALL_KINDS: Table = Table {
     ]],
 };
 
-const ODD: [Write<u64, u64>; 3] = [
+const ODD: &[Write<u64, u64>] = &[
     Write::Insert(1, 1),
     Write::Insert(3, 3),
     Write::Insert(5, 5),
@@ -185,13 +185,13 @@ const INNER: [Write<u64, u64>; 2] = [
     Write::Insert(4, 4),
 ];
 
-const CLEAR_TWICE: [Write<u64, u64>; 3] = [
+const CLEAR_TWICE: &[Write<u64, u64>] = &[
     Write::Clear,
     Write::Insert(7, 7),
     Write::RemoveRange(Bound::Unbounded, Bound::Unbounded),
 ];
 
-const CLEARED: [Reply; 3] = [Reply::Cleared, Reply::Inserted, Reply::RangeRemoved];
+const CLEARED: &[Reply] = &[Reply::Cleared, Reply::Inserted, Reply::RangeRemoved];
 
 const RANGES: Table = Table {
     about: "ranges are removed and all is cleared",
@@ -199,7 +199,7 @@ const RANGES: Table = Table {
     slots: 64,
     last: u64::MAX,
     parts: &[&[
-        (Commit(&ODD), Accepted(1, &THREE_INSERTED)),
+        (Commit(ODD), Accepted(1, THREE_INSERTED)),
         (Commit(&REVERSED), Accepted(2, &[Reply::RangeRemoved])),
         (Open(1), Opened(2)),
         (Look(1, 3), Seen(2, 3, Some(3))),
@@ -213,7 +213,7 @@ const RANGES: Table = Table {
         (Look(2, 4), Seen(3, 3, Some(4))),
         (Look(2, 5), Seen(3, 3, Some(5))),
         (Close(2), Closed(3, &[])),
-        (Commit(&CLEAR_TWICE), Accepted(4, &CLEARED)),
+        (Commit(CLEAR_TWICE), Accepted(4, CLEARED)),
         (Open(3), Opened(4)),
         (Look(3, 7), Seen(4, 0, None)),
     ]],
@@ -256,12 +256,12 @@ const CAUSES: Table = Table {
     last: 1,
     parts: &[&[
         (
-            CommitOn(0, &[Got(1, Some(10))], &FIVE),
+            CommitOn(0, &[Got(1, Some(10))], FIVE),
             Refused(Cause::Conflict(0)),
         ),
-        (Commit(&FIVE), Refused(Cause::NoSlot)),
+        (Commit(FIVE), Refused(Cause::NoSlot)),
         (Commit(&[]), Accepted(1, &[])),
-        (Commit(&FIVE), Refused(Cause::Exhausted)),
+        (Commit(FIVE), Refused(Cause::Exhausted)),
     ]],
 };
 
@@ -388,7 +388,7 @@ const TWENTY_DONT: Table = Table {
     ]],
 };
 
-const OF_TWO: [Table; 8] = [
+const OF_TWO: &[Table] = &[
     WITHOUT_SLOTS,
     BY_SEGMENTS,
     WHILE_OPEN,
@@ -399,7 +399,7 @@ const OF_TWO: [Table; 8] = [
     CAUSES,
 ];
 
-const OF_ONE: [Table; 9] = [
+const OF_ONE: &[Table] = &[
     BY_PAIRS,
     TAKEN_OVER,
     NO_WRITE,
@@ -413,6 +413,6 @@ const OF_ONE: [Table; 9] = [
 
 #[test]
 fn commits_take_slots_and_reclaims_free_them(rt: HostRuntime) {
-    assert_eq!(rt; first_wrong::<_, 2>(&rt, rt.alloc(), &OF_TWO), None);
-    assert_eq!(rt; first_wrong::<_, 1>(&rt, rt.alloc(), &OF_ONE), None);
+    assert_eq!(rt; first_wrong::<_, 2>(&rt, rt.alloc(), OF_TWO), None);
+    assert_eq!(rt; first_wrong::<_, 1>(&rt, rt.alloc(), OF_ONE), None);
 }

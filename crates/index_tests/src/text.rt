@@ -75,7 +75,7 @@ fn found<R: Abort>(rt: &R, alloc: Global, book: &mut Book) -> Found {
     (told, audit, [outside, inside, nothing])
 }
 
-const PAIRS: [(&str, &str); 3] = [("Noether", "1882"), ("Lovelace", "1815"), ("Nöther", "2")];
+const PAIRS: &[(&str, &str)] = &[("Noether", "1882"), ("Lovelace", "1815"), ("Nöther", "2")];
 
 // By bytes, so an umlaut comes behind all letters without one.
 const FROM_NOETHER: &str = "Range([(\"Noether\", \"1882\"), (\"Nöther\", \"2\")])";
@@ -84,7 +84,7 @@ const FROM_NOETHER: &str = "Range([(\"Noether\", \"1882\"), (\"Nöther\", \"2\")
 fn an_index_of_texts_is_read_and_written(rt: HostRuntime) {
     let alloc = rt.alloc();
     let mut book = Book::new(alloc, 1, 32).expect(&rt, ROOM);
-    let first = commit(&rt, alloc, &mut book, &Receipt::blank(alloc), &PAIRS);
+    let first = commit(&rt, alloc, &mut book, &Receipt::blank(alloc), PAIRS);
     let (told, audit, commits) = found(&rt, alloc, &mut book);
     end(&rt, book);
     assert_eq!(rt;

@@ -54,7 +54,7 @@ fn bytes_come_one_by_one(rt: HostRuntime) {
     assert_eq!(rt; (ended, text_of(&out)), (Ok(()), SECOND_OUTPUT));
 }
 
-const FAULTS: [Row; 45] = [
+const FAULTS: &[Row] = &[
     (b"\n", "line 1: command\n"),
     (b"upserts 1 a\n", "line 1: command\n"),
     (b"upsert\n", "line 1: words\n"),
@@ -107,7 +107,7 @@ const FAULTS: [Row; 45] = [
 
 #[test]
 fn lines_at_fault_are_told_and_counted(rt: HostRuntime) {
-    write_what_is_wanted(&rt, rt.alloc(), &FAULTS);
+    write_what_is_wanted(&rt, rt.alloc(), FAULTS);
 }
 
 const EACH_FAULT: [Fault; 8] = [
@@ -295,7 +295,7 @@ fn a_commit_without_slots_keeps_what_is_staged(rt: HostRuntime) {
     }
 }
 
-const EACH_REPLY: [Reply; 7] = [
+const EACH_REPLY: &[Reply] = &[
     Reply::Inserted,
     Reply::Duplicate,
     Reply::Upserted,
@@ -307,7 +307,7 @@ const EACH_REPLY: [Reply; 7] = [
 
 #[test]
 fn each_reply_to_a_write_has_a_word(rt: HostRuntime) -> Result<(), Fail> {
-    let replies = Vec::from_slice(rt.alloc(), &EACH_REPLY)?;
+    let replies = Vec::from_slice(rt.alloc(), EACH_REPLY)?;
     let accepted = DeskReply::Accepted(Accepted { number: 3, replies });
     let mut text = String::from_str(rt.alloc(), "before ")?;
     write_reply(&mut text, 1, 0, &accepted)?;
@@ -370,7 +370,7 @@ fn a_line_has_at_most_65_536_bytes(rt: HostRuntime) {
 }
 
 // How many bytes the reply to each line of the second script has.
-const SECOND_REPLIES: [usize; 7] = [9, 9, 24, 12, 9, 16, 9];
+const SECOND_REPLIES: &[usize] = &[9, 9, 24, 12, 9, 16, 9];
 
 #[test]
 fn a_failed_read_drops_the_begun_line(rt: HostRuntime) {
@@ -379,7 +379,7 @@ fn a_failed_read_drops_the_begun_line(rt: HostRuntime) {
             &rt,
             rt.alloc(),
             (SECOND, SECOND_OUTPUT),
-            &SECOND_REPLIES,
+            SECOND_REPLIES,
             kind,
         );
     }

@@ -29,12 +29,12 @@ fn the_cut_of_a_longer_input_changes_nothing(rt: HostRuntime) {
 }
 
 // How many bytes the reply to each line has.
-const REPLIES: [usize; 16] = [9, 9, 23, 12, 12, 18, 9, 13, 9, 11, 12, 10, 6, 14, 16, 15];
+const REPLIES: &[usize] = &[9, 9, 23, 12, 12, 18, 9, 13, 9, 11, 12, 10, 6, 14, 16, 15];
 
 #[test]
 fn a_failed_read_of_a_longer_input_drops_the_begun_line(rt: HostRuntime) {
     let kind = io::ErrorKind::Other;
-    fails_anywhere(&rt, rt.alloc(), (READS, READS_OUTPUT), &REPLIES, kind);
+    fails_anywhere(&rt, rt.alloc(), (READS, READS_OUTPUT), REPLIES, kind);
 }
 
 #[test]
@@ -176,7 +176,7 @@ fn each_finding_of_an_audit_has_a_text(rt: HostRuntime) -> Result<(), Fail> {
     Ok(())
 }
 
-const ARGUMENTS: [Row; 35] = [
+const ARGUMENTS: &[Row] = &[
     (b"range\n", "line 1: words\n"),
     (b"range 1 *\n", "line 1: words\n"),
     (b"range 1 * * *\n", "line 1: words\n"),
@@ -216,5 +216,5 @@ const ARGUMENTS: [Row; 35] = [
 
 #[test]
 fn arguments_are_read_from_left_to_right(rt: HostRuntime) {
-    write_what_is_wanted(&rt, rt.alloc(), &ARGUMENTS);
+    write_what_is_wanted(&rt, rt.alloc(), ARGUMENTS);
 }

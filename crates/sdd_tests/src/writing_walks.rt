@@ -46,13 +46,13 @@ fn raise<R: Abort, const N: usize>(
     100
 }
 
-const THREE: [(Call, Reply); 3] = [(Push(1), Done), (Push(2), Done), (Push(3), Done)];
+const THREE: &[(Call, Reply)] = &[(Push(1), Done), (Push(2), Done), (Push(3), Done)];
 
 #[test]
 fn each_value_is_written(rt: HostRuntime) {
     let mut w = place_of(&rt, rt.alloc(), 3, 5);
     let bag = new_bag::<_, 1>(&rt, rt.alloc(), &mut w);
-    let pushed = play(&mut w, &bag, &THREE);
+    let pushed = play(&mut w, &bag, THREE);
     let mut seen = Vec::new(rt.alloc());
     let raised = raise(&rt, &mut w, &bag, 10, &mut seen);
     let len = world::bag::len(&w, &bag);

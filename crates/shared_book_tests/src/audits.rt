@@ -10,7 +10,7 @@ use std::ops::Bound::Unbounded;
 use version_views::Write::{Clear, Insert, Upsert};
 
 /// A key is 10 by number 1, 11 by number 2, and 10 again by number 3.
-const BY_NUMBER: [(Call, Told); 17] = [
+const BY_NUMBER: &[(Call, Told)] = &[
     (Audit(0, &[]), Audited(Yes)),
     (Audit(0, &[Got(1, None)]), Audited(Yes)),
     (Audit(0, &[Got(1, Some(10))]), Audited(No(0))),
@@ -31,7 +31,7 @@ const BY_NUMBER: [(Call, Told); 17] = [
 ];
 
 /// Reads of each kind, of the list after the first of three commits; the second removes all pairs.
-const EACH_KIND: [(Call, Told); 8] = [
+const EACH_KIND: &[(Call, Told)] = &[
     (
         Commit(0, &[], &[Insert(3, 1), Insert(5, 2)]),
         Accepted(1, &[Inserted, Inserted]),
@@ -85,5 +85,5 @@ const EACH_KIND: [(Call, Told); 8] = [
 
 #[test]
 fn receipts_are_audited_by_their_numbers_and_each_kind_of_read(rt: HostRuntime) {
-    on_books(&rt, rt.alloc(), &[&BY_NUMBER, &EACH_KIND]);
+    on_books(&rt, rt.alloc(), &[BY_NUMBER, EACH_KIND]);
 }

@@ -11,7 +11,7 @@ use std::ops::Bound::{Excluded, Included};
 use version_views::Write::{Clear, Insert, Remove, Upsert};
 
 /// A value read was replaced since, and then changed back.
-const CHANGED: [(Call, Told); 7] = [
+const CHANGED: &[(Call, Told)] = &[
     (Commit(0, &[], &[Insert(1, 10)]), Accepted(1, &[Inserted])),
     (Commit(0, &[], &[Upsert(1, 11)]), Accepted(2, &[Upserted])),
     (
@@ -28,7 +28,7 @@ const CHANGED: [(Call, Told); 7] = [
 ];
 
 /// Of several reads the first that does not hold is told; an absent key and an empty range are reads as well.
-const FIRST_OF: [(Call, Told); 7] = [
+const FIRST_OF: &[(Call, Told)] = &[
     (
         Commit(0, &[], &[Insert(2, 1), Insert(4, 1)]),
         Accepted(1, &[Inserted, Inserted]),
@@ -70,7 +70,7 @@ const FIRST_OF: [(Call, Told); 7] = [
 ];
 
 /// Nothing is trusted of a receipt: neither a claim nor an answer of another kind. A number that isn't there is no cause.
-const FORGED: [(Call, Told); 5] = [
+const FORGED: &[(Call, Told)] = &[
     (
         Commit(0, &[], &[Insert(3, 1), Insert(5, 1)]),
         Accepted(1, &[Inserted, Inserted]),
@@ -86,11 +86,11 @@ const FORGED: [(Call, Told); 5] = [
 
 #[test]
 fn the_first_read_that_does_not_hold_is_a_conflict(rt: HostRuntime) {
-    on_books(&rt, rt.alloc(), &[&CHANGED, &FIRST_OF, &FORGED]);
+    on_books(&rt, rt.alloc(), &[CHANGED, FIRST_OF, FORGED]);
 }
 
 /// The last number is one: a second commit is refused, for its reads before its number.
-const LAST_NUMBER: [(Call, Told); 5] = [
+const LAST_NUMBER: &[(Call, Told)] = &[
     (Commit(0, &[], &[Insert(1, 10)]), Accepted(1, &[Inserted])),
     (Commit(0, &[], &[Upsert(1, 11)]), Refused(Exhausted)),
     (
@@ -102,7 +102,7 @@ const LAST_NUMBER: [(Call, Told); 5] = [
 ];
 
 /// Five slots, a pair a segment: a version takes two, and so do the one before it and the one that waits.
-const FEW_SLOTS: [(Call, Told); 10] = [
+const FEW_SLOTS: &[(Call, Told)] = &[
     (Commit(0, &[], &[Insert(1, 10)]), Accepted(1, &[Inserted])),
     (Commit(0, &[], &[Upsert(1, 11)]), Accepted(2, &[Upserted])),
     (Commit(0, &[], &[Upsert(1, 12)]), Refused(NoSlot)),
@@ -117,6 +117,6 @@ const FEW_SLOTS: [(Call, Told); 10] = [
 
 #[test]
 fn without_numbers_or_slots_commits_are_refused(rt: HostRuntime) {
-    on_a_book(&rt, rt.alloc(), 1, &LAST_NUMBER);
-    on_a_small_book(&rt, rt.alloc(), 5, &FEW_SLOTS);
+    on_a_book(&rt, rt.alloc(), 1, LAST_NUMBER);
+    on_a_small_book(&rt, rt.alloc(), 5, FEW_SLOTS);
 }

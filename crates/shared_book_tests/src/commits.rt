@@ -11,7 +11,7 @@ use std::ops::Bound;
 use version_views::Write::{Clear, Insert, Remove, RemoveRange, Upsert};
 
 /// Each kind of write, where it finds its key and where it does not.
-const EACH_WRITE: [(Call, Told); 11] = [
+const EACH_WRITE: &[(Call, Told)] = &[
     (Counts, Counted(0, 0, 0)),
     (
         Commit(0, &[], &[Insert(1, 10), Insert(1, 11)]),
@@ -45,14 +45,14 @@ const EACH_WRITE: [(Call, Told); 11] = [
 ];
 
 /// A commit that writes nothing is one all the same, and leaves the list.
-const NO_WRITES: [(Call, Told); 3] = [
+const NO_WRITES: &[(Call, Told)] = &[
     (Commit(0, &[], &[Insert(1, 10)]), Accepted(1, &[Inserted])),
     (Commit(1, &[Got(1, Some(10))], &[]), Accepted(2, &[])),
     (Counts, Counted(2, 1, 2)),
 ];
 
 /// What a commit wrote holds for the next one: key by key, beyond one segment.
-const READ_ON: [(Call, Told); 5] = [
+const READ_ON: &[(Call, Told)] = &[
     (
         Commit(0, &[], &[Insert(1, 10), Insert(2, 20)]),
         Accepted(1, &[Inserted, Inserted]),
@@ -74,5 +74,5 @@ const READ_ON: [(Call, Told); 5] = [
 
 #[test]
 fn each_write_is_told_what_it_did_and_read_by_the_next_commit(rt: HostRuntime) {
-    on_books(&rt, rt.alloc(), &[&EACH_WRITE, &NO_WRITES, &READ_ON]);
+    on_books(&rt, rt.alloc(), &[EACH_WRITE, NO_WRITES, READ_ON]);
 }

@@ -194,7 +194,7 @@ impl<'a> Scene<'a> {
 /// clone.
 type Row = (Kind, u16, u16, u64, (Made, Made));
 
-const ROWS: [Row; 16] = [
+const ROWS: &[Row] = &[
     // with room for all
     (
         Kind::Stack,
@@ -276,12 +276,13 @@ fn containers_are_made_of_values_and_cloned_and_what_was_built_comes_back(
     rt: HostRuntime,
 ) -> Result<(), Fail> {
     let mut right = 0usize;
-    for at in 0..ROWS.len() {
-        if right == at && is_right(&rt, rt.alloc(), &ROWS[at])? {
+    let rows = ROWS;
+    for at in 0..rows.len() {
+        if right == at && is_right(&rt, rt.alloc(), &rows[at])? {
             right = right.saturating_add(1);
         }
     }
-    assert_eq!(rt; right, ROWS.len(), "the first row that isn't right");
+    assert_eq!(rt; right, rows.len(), "the first row that isn't right");
     Ok(())
 }
 

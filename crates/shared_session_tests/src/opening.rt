@@ -135,7 +135,7 @@ pub fn all_taken<R: Abort>(
 }
 
 /// A session has at least the number that is asked for.
-pub const AT_LEAST: [Row; 7] = [
+pub const AT_LEAST: &[Row] = &[
     (Open(2, 0), Ok(7)),
     (Open(2, 6), Ok(7)),
     (Open(2, 7), Ok(7)),
@@ -146,7 +146,7 @@ pub const AT_LEAST: [Row; 7] = [
 ];
 
 /// No guard stays open where a session is refused: one that were open still would keep the first version.
-pub const NO_GUARD: [Row; 6] = [
+pub const NO_GUARD: &[Row] = &[
     (Open(2, 2), Err(OpenRefused::Earlier(1))),
     (Open(3, 0), Err(OpenRefused::NoVersion)),
     (Renew(2), Ok(2)),
@@ -159,7 +159,7 @@ pub const NO_GUARD: [Row; 6] = [
 pub const NO_VERSION: [Row; 1] = [(Open(2, 0), Err(OpenRefused::NoVersion))];
 
 /// A version has one width, which is looked at before the number.
-pub const ONE_WIDTH: [Row; 4] = [
+pub const ONE_WIDTH: &[Row] = &[
     (Open(2, 0), Ok(0)),
     (Open(2, 1), Err(OpenRefused::Earlier(0))),
     (Open(1, 0), Err(OpenRefused::NoVersion)),

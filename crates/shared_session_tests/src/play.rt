@@ -90,12 +90,12 @@ fn plays<R: Threads + Abort + Sync>(rt: &R, alloc: Global, first: First, play: P
 /// The first version, of which each key has ten times its value.
 const TENS: First = First::Version(1, (10, 20, 50));
 
-const PLAYS: [(First, Play); 14] = [
-    (First::Version(7, (10, 20, 50)), Rows(&AT_LEAST)),
-    (TENS, Rows(&NO_GUARD)),
+const PLAYS: &[(First, Play)] = &[
+    (First::Version(7, (10, 20, 50)), Rows(AT_LEAST)),
+    (TENS, Rows(NO_GUARD)),
     (First::Nothing, Rows(&NO_VERSION)),
     (First::Segment, Rows(&NO_VERSION)),
-    (First::Empty, Rows(&ONE_WIDTH)),
+    (First::Empty, Rows(ONE_WIDTH)),
     (TENS, Within),
     (TENS, OfLoaded),
     (TENS, Beside),

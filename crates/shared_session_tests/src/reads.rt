@@ -116,7 +116,7 @@ type Ranged = (
     &'static [(u64, u64)],
 );
 
-const RANGES: [Ranged; 4] = [
+const RANGES: &[Ranged] = &[
     (
         (Bound::Unbounded, Bound::Unbounded),
         &[(1, 10), (2, 20), (5, 50)],

@@ -298,7 +298,7 @@ fn on_a_place<R: Abort, const S: usize>(rt: &R, alloc: Global, slots: usize, row
 }
 
 /// Three segments, their version, and the empty one are in use until the latter is reclaimed.
-const PLACED: [(Call, Told); 6] = [
+const PLACED: &[(Call, Told)] = &[
     (Upsert(1, 6, 7), Placed),
     (Slots, Used(5)),
     (Get(3), Found(Some(7), 5)),
@@ -309,11 +309,11 @@ const PLACED: [(Call, Told); 6] = [
 
 #[test]
 fn a_placed_version_is_read(rt: HostRuntime) {
-    on_a_place::<_, 2>(&rt, rt.alloc(), 5, &PLACED);
+    on_a_place::<_, 2>(&rt, rt.alloc(), 5, PLACED);
 }
 
 /// Three segments and their version would need four slots beside the empty version, which has one of four.
-const WITHOUT_SLOTS: [(Call, Told); 6] = [
+const WITHOUT_SLOTS: &[(Call, Told)] = &[
     (Upsert(1, 6, 7), Refused),
     (Get(3), Found(None, 0)),
     (Reclaim, Done),
@@ -324,11 +324,11 @@ const WITHOUT_SLOTS: [(Call, Told); 6] = [
 
 #[test]
 fn a_version_without_slots_leaves_the_present_one(rt: HostRuntime) {
-    on_a_place::<_, 2>(&rt, rt.alloc(), 4, &WITHOUT_SLOTS);
+    on_a_place::<_, 2>(&rt, rt.alloc(), 4, WITHOUT_SLOTS);
 }
 
 /// A version of one pair takes two slots, so that two of them and the empty one leave none of five.
-const WAITING: [(Call, Told); 7] = [
+const WAITING: &[(Call, Told)] = &[
     (Upsert(1, 2, 1), Placed),
     (Upsert(1, 2, 2), Placed),
     (Upsert(1, 2, 3), Refused),
@@ -340,11 +340,11 @@ const WAITING: [(Call, Told); 7] = [
 
 #[test]
 fn what_waits_is_in_the_way_until_it_is_reclaimed(rt: HostRuntime) {
-    on_a_place::<_, 1>(&rt, rt.alloc(), 5, &WAITING);
+    on_a_place::<_, 1>(&rt, rt.alloc(), 5, WAITING);
 }
 
 /// Four segments and their version; then one new segment and its version beside them.
-const SHARING: [(Call, Told); 9] = [
+const SHARING: &[(Call, Told)] = &[
     (Upsert(1, 9, 1), Placed),
     (Reclaim, Done),
     (Slots, Used(5)),
@@ -358,11 +358,11 @@ const SHARING: [(Call, Told); 9] = [
 
 #[test]
 fn segments_that_no_write_touches_are_shared(rt: HostRuntime) {
-    on_a_place::<_, 2>(&rt, rt.alloc(), 64, &SHARING);
+    on_a_place::<_, 2>(&rt, rt.alloc(), 64, SHARING);
 }
 
 /// Four segments and their version leave two slots free.
-const TAKING_OVER: [(Call, Told); 13] = [
+const TAKING_OVER: &[(Call, Told)] = &[
     (Upsert(1, 9, 1), Placed),
     (Reclaim, Done),
     (Slots, Used(5)),
@@ -382,7 +382,7 @@ const TAKING_OVER: [(Call, Told); 13] = [
 
 #[test]
 fn segments_are_taken_over_after_refusals(rt: HostRuntime) {
-    on_a_place::<_, 2>(&rt, rt.alloc(), 7, &TAKING_OVER);
+    on_a_place::<_, 2>(&rt, rt.alloc(), 7, TAKING_OVER);
 }
 
 /// What a session of another participant reads at the keys 3 and 11, while a version is placed and what nobody reads is

@@ -8,7 +8,7 @@ const MANY: usize = 1_000;
 
 const LAST: usize = MANY / 4 - 1;
 
-const AT_THE_ENDS: [Row; 4] = [
+const AT_THE_ENDS: &[Row] = &[
     Row::Sizes(MANY, MANY, MANY / 4),
     Row::Does(&[
         Move::SwapCell(LAST, 0, Some(LAST)),
@@ -43,7 +43,7 @@ fn a_state_of_many_parts_takes_steps(rt: HostRuntime) {
         ) && placed;
     }
     assert!(rt; placed);
-    plays(&rt, rt.alloc(), state, &AT_THE_ENDS);
+    plays(&rt, rt.alloc(), state, AT_THE_ENDS);
 }
 
 #[test]

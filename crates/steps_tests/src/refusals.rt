@@ -58,7 +58,7 @@ fn taken<R: Abort>(rt: &R, alloc: Global, state: &State, one: Move, met: &mut bo
     }
 }
 
-const TAKEN: [Row; 6] = [
+const TAKEN: &[Row] = &[
     Row::Count(1),
     Row::Sizes(2, 2, 2),
     Row::Item(0, ItemState::Live),
@@ -86,7 +86,7 @@ fn takes_steps<R: Abort>(rt: &R, alloc: Global) -> bool {
     for one in MOVES {
         state = taken(rt, alloc, &state, one, &mut met);
     }
-    plays(rt, alloc, state, &TAKEN);
+    plays(rt, alloc, state, TAKEN);
     met
 }
 

@@ -7,7 +7,7 @@ use std::process::Abort;
 
 // Items of each state, for participant 0: 0 is live, and 1 is a version in the root that holds it; 2 is due; 3 and 6
 // are retired; 4 is reclaimed and still holds 0 and cell 1; 5 waits. Item 3 has age 3, item 6 age 2.
-const PLACED: [Move; 15] = [
+const PLACED: &[Move] = &[
     Move::Place(0, 1, None, None),
     Move::RaiseOwners(0, 0),
     Move::RaiseOwners(0, 0),
@@ -26,7 +26,7 @@ const PLACED: [Move; 15] = [
 ];
 
 // A guard of participant 0 with a rotation, which raises the count.
-const GUARD: [Move; 6] = [
+const GUARD: &[Move] = &[
     Move::ReadEpoch(0),
     Move::Publish(0),
     Move::Rotate(0),
@@ -37,7 +37,7 @@ const GUARD: [Move; 6] = [
 
 // Steps that leave items of each state.
 const PREPARED: [&[Move]; 12] = [
-    &PLACED,
+    PLACED,
     &[Move::Release(0, 4), Move::Retire(0, 4)],
     // The first guard finds the count 0, so no rotation is due.
     &[
@@ -47,15 +47,15 @@ const PREPARED: [&[Move]; 12] = [
         Move::Raise(0),
         Move::Close(0),
     ],
-    &GUARD,
+    GUARD,
     &[Move::Release(0, 3), Move::Retire(0, 3)],
-    &GUARD,
+    GUARD,
     &[Move::Release(0, 6), Move::Retire(0, 6)],
     // A guard under which the first of them is reclaimed.
     &[Move::ReadEpoch(0), Move::Publish(0), Move::Rotate(0)],
     &[Move::Reclaim(0, 4)],
     &[Move::Look(0, 1), Move::Raise(0), Move::Close(0)],
-    &GUARD,
+    GUARD,
     &[Move::Release(0, 2)],
 ];
 
@@ -76,7 +76,7 @@ const UNDER: [bool; 5] = [false, false, false, true, true];
 
 const AFTER: [bool; 5] = [false, false, false, false, true];
 
-const STEPS: [(Move, [bool; 5]); 22] = [
+const STEPS: &[(Move, [bool; 5])] = &[
     (Move::ReadEpoch(0), [true, false, false, false, false]),
     (Move::Publish(0), [false, true, false, false, false]),
     (Move::Rotate(0), [false, false, true, false, false]),
@@ -118,7 +118,7 @@ fn are_as_said<R: Abort>(
 }
 
 // What leads from each phase to the next one.
-const PHASES: [&[Move]; 5] = [
+const PHASES: &[&[Move]] = &[
     &[],
     &[Move::ReadEpoch(0)],
     &[Move::Publish(0)],
@@ -141,13 +141,13 @@ fn each_step_is_refused_in_each_phase_where_it_isnt_enabled(rt: HostRuntime) {
     let mut state = prepared(&rt, rt.alloc());
     for (phase, moves) in PHASES.iter().enumerate() {
         let moved = takes(&rt, rt.alloc(), &mut state, moves);
-        let right = are_as_said(&rt, rt.alloc(), &state, phase, &STEPS);
+        let right = are_as_said(&rt, rt.alloc(), &state, phase, STEPS);
         assert!(rt; moved && right, "phase {phase}");
     }
     plays(&rt, rt.alloc(), state, &CLOSED);
 }
 
-const NOWHERE: [Row; 3] = [
+const NOWHERE: &[Row] = &[
     Row::Refuses(&[
         Move::ReadEpoch(2),
         Move::Release(2, 0),
@@ -184,7 +184,7 @@ const NOWHERE: [Row; 3] = [
 #[test]
 fn items_cells_and_participants_that_arent_there_are_refused(rt: HostRuntime) {
     let state = prepared(&rt, rt.alloc());
-    plays(&rt, rt.alloc(), state, &NOWHERE);
+    plays(&rt, rt.alloc(), state, NOWHERE);
 }
 
 const OF_ANOTHER_FATE: [Row; 1] = [Row::Refuses(&[
@@ -240,7 +240,7 @@ fn steps_on_items_in_another_state_are_refused(rt: HostRuntime) {
 }
 
 // Item 0 is in cell 1, which item 1 holds; item 1 is in hand.
-const HELD_CELL: [Row; 9] = [
+const HELD_CELL: &[Row] = &[
     Row::Does(&[
         Move::Place(0, 1, None, None),
         Move::Place(0, 2, None, Some(1)),
@@ -271,10 +271,10 @@ const HELD_CELL: [Row; 9] = [
 #[test]
 fn a_held_cell_is_reached_by_its_holder_alone(rt: HostRuntime) {
     let start = started(&rt, rt.alloc(), 2, 2);
-    plays(&rt, rt.alloc(), start, &HELD_CELL);
+    plays(&rt, rt.alloc(), start, HELD_CELL);
 }
 
-const RAISES: [Row; 7] = [
+const RAISES: &[Row] = &[
     Row::Does(&[
         Move::ReadEpoch(0),
         Move::Publish(0),
@@ -294,7 +294,7 @@ const RAISES: [Row; 7] = [
 #[test]
 fn a_raise_is_refused_until_all_others_were_looked_at(rt: HostRuntime) {
     let start = started(&rt, rt.alloc(), 3, 1);
-    plays(&rt, rt.alloc(), start, &RAISES);
+    plays(&rt, rt.alloc(), start, RAISES);
 }
 
 const NOTED_GUARD: Row = Row::Does(&[
@@ -306,7 +306,7 @@ const NOTED_GUARD: Row = Row::Does(&[
 
 const RAISED: Row = Row::Does(&[Move::Look(0, 1), Move::Raise(0), Move::Close(0)]);
 
-const NOTED: [Row; 15] = [
+const NOTED: &[Row] = &[
     Row::Does(&[
         Move::Place(0, 1, None, None),
         Move::ReadEpoch(0),
@@ -335,10 +335,10 @@ const NOTED: [Row; 15] = [
 #[test]
 fn an_item_of_a_private_bag_is_reclaimed_three_counts_above_its_note(rt: HostRuntime) {
     let start = started(&rt, rt.alloc(), 2, 1);
-    plays(&rt, rt.alloc(), start, &NOTED);
+    plays(&rt, rt.alloc(), start, NOTED);
 }
 
-const TAKEN_OVER: [Row; 4] = [
+const TAKEN_OVER: &[Row] = &[
     Row::Does(&[
         Move::Place(0, 1, None, None),
         Move::Release(0, 0),
@@ -353,10 +353,10 @@ const TAKEN_OVER: [Row; 4] = [
 #[test]
 fn a_participant_that_ended_leaves_its_items_to_another(rt: HostRuntime) {
     let start = started(&rt, rt.alloc(), 2, 1);
-    plays(&rt, rt.alloc(), start, &TAKEN_OVER);
+    plays(&rt, rt.alloc(), start, TAKEN_OVER);
 }
 
-const EMPTIED: [Row; 4] = [
+const EMPTIED: &[Row] = &[
     Row::Cell(
         1,
         Cell {
@@ -378,7 +378,7 @@ const EMPTIED: [Row; 4] = [
 #[test]
 fn a_cell_of_a_reclaimed_item_stands_by_itself_when_it_is_empty(rt: HostRuntime) {
     let state = prepared(&rt, rt.alloc());
-    plays(&rt, rt.alloc(), state, &EMPTIED);
+    plays(&rt, rt.alloc(), state, EMPTIED);
 }
 
 // Whether a loaded item is as it was when it was loaded.

@@ -274,7 +274,7 @@ fn does(alloc: Global, before: &[Write<u64, u64>], row: Row) -> Result<bool, All
     Ok(left.as_slice() == pairs && replies.as_slice() == told && fresh == count)
 }
 
-const BEFORE: [Write<u64, u64>; 4] = [
+const BEFORE: &[Write<u64, u64>] = &[
     Write::Insert(1, 1),
     Write::Insert(3, 3),
     Write::Insert(5, 5),
@@ -322,9 +322,9 @@ const CLEARING: Row = (
 
 #[test]
 fn writes_make_what_they_touch(rt: HostRuntime) -> Result<(), Fail> {
-    let none = does(rt.alloc(), &BEFORE, NONE)?;
-    let inner = does(rt.alloc(), &BEFORE, INNER)?;
-    let clearing = does(rt.alloc(), &BEFORE, CLEARING)?;
+    let none = does(rt.alloc(), BEFORE, NONE)?;
+    let inner = does(rt.alloc(), BEFORE, INNER)?;
+    let clearing = does(rt.alloc(), BEFORE, CLEARING)?;
     assert_eq!(rt; [none, inner, clearing], [true; 3]);
     Ok(())
 }

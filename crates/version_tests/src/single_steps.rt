@@ -106,13 +106,13 @@ const SEGMENT_GOES: Turn = Turn {
 };
 
 // The count is raised five times; the writer's last opening finds 4.
-const LIFTS: [Turn; 5] = [LIFT, ROUND, ROUND, EMPTY_GOES, ROUND];
+const LIFTS: &[Turn] = &[LIFT, ROUND, ROUND, EMPTY_GOES, ROUND];
 
 // Two rotations, one raise.
-const HELD_UP: [Turn; 8] = [ROUND, ROTATION, STILL, STILL, STILL, STILL, STILL, STILL];
+const HELD_UP: &[Turn] = &[ROUND, ROTATION, STILL, STILL, STILL, STILL, STILL, STILL];
 
 // The taken segment stays, which is the second version's too.
-const FREED: [Turn; 8] = [
+const FREED: &[Turn] = &[
     LIFT,
     FIRST_GOES,
     ROUND,
@@ -495,7 +495,7 @@ fn hold_up<R: Abort>(
     ensures participants { 1 < length w.new.participants }
     ensures counted { (hand : List Hold) → Counted held_by hand w.old → Counted held_by hand w.new }
 {
-    let state = play(rt, alloc, w, start, &HELD_UP, Some(known));
+    let state = play(rt, alloc, w, start, HELD_UP, Some(known));
     let stays = guard::epoch(w, &reading) == Epoch::of_count(6);
     let held = found(w, &state, known);
     let state = after(rt, alloc, state, Step::ReadSegment(READER, FIRST, 1));
@@ -543,13 +543,13 @@ fn a_place_goes_as_the_single_steps_say(rt: HostRuntime) {
     } = begin(&rt, alloc);
     let mut state = begin_beside(&rt, alloc);
     let begun = (w.slots_in_use(), left(&state));
-    state = play(&rt, alloc, &mut w, state, &LIFTS, None);
+    state = play(&rt, alloc, &mut w, state, LIFTS, None);
     let lifted = (state.count(), w.slots_in_use());
     let (reading, known, opened) = read_first(&rt, &mut w, &root, second);
     state = read_beside(&rt, alloc, state);
     let replaced = (w.slots_in_use(), left(&state));
     let (held_state, held, stays) = hold_up(&rt, alloc, &mut w, state, reading, &known);
-    state = play(&rt, alloc, &mut w, held_state, &FREED, Some(&known));
+    state = play(&rt, alloc, &mut w, held_state, FREED, Some(&known));
     let left = found(&w, &state, &known);
     let (present, reopened) = read_present(&rt, &mut w, &root);
     end(&rt, w, root);

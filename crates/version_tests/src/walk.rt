@@ -141,9 +141,9 @@ fn played<const S: usize>(
     right
 }
 
-const THREE: [(u64, u64); 3] = [(1, 2), (2, 2), (3, 2)];
+const THREE: &[(u64, u64)] = &[(1, 2), (2, 2), (3, 2)];
 
-const FROM_BOTH_ENDS: [(Call, Told); 9] = [
+const FROM_BOTH_ENDS: &[(Call, Told)] = &[
     (Call::NextBack, Told::Pair(3, 2)),
     (Call::NextBack, Told::Pair(2, 2)),
     (Call::Flip, Told::Flips(true)),
@@ -155,7 +155,7 @@ const FROM_BOTH_ENDS: [(Call, Told); 9] = [
     (Call::Flip, Told::Flips(false)),
 ];
 
-const FORTH: [(Call, Told); 6] = [
+const FORTH: &[(Call, Told)] = &[
     (Call::Next, Told::Pair(1, 2)),
     (Call::Next, Told::Pair(2, 2)),
     (Call::Next, Told::Pair(3, 2)),
@@ -167,12 +167,12 @@ const FORTH: [(Call, Told); 6] = [
 fn three_pairs<R: Abort, const S: usize>(rt: &R, alloc: Global)
     requires { (1 ≤ S) × (S ≤ 225) }
 {
-    let held = prepared::<R, S>(rt, alloc, &THREE);
+    let held = prepared::<R, S>(rt, alloc, THREE);
     let dir = version(&held.w, &held.root);
     let ends = walk(&held.w, dir, Bound::Unbounded, Bound::Unbounded);
-    let both = played(ends, &FROM_BOTH_ENDS);
+    let both = played(ends, FROM_BOTH_ENDS);
     let first = walk(&held.w, dir, Bound::Unbounded, Bound::Unbounded);
-    let forth = played(first, &FORTH);
+    let forth = played(first, FORTH);
     end(rt, held);
     assert_eq!(rt;
         (both, forth),
@@ -221,7 +221,7 @@ fn found<const S: usize>(around: Nearby<'_, u64, u64, World<Item<u64, u64, S>, N
     }
 }
 
-const FOUR: [(u64, u64); 4] = [(1, 1), (3, 2), (5, 3), (7, 4)];
+const FOUR: &[(u64, u64)] = &[(1, 1), (3, 2), (5, 3), (7, 4)];
 
 const ONE: Option<(u64, u64)> = Some((1, 1));
 
@@ -255,7 +255,7 @@ const AROUND: [(u64, Found); 4] = [
 fn neighbours<R: Abort, const S: usize>(rt: &R, alloc: Global)
     requires { (1 ≤ S) × (S ≤ 225) }
 {
-    let held = prepared::<R, S>(rt, alloc, &FOUR);
+    let held = prepared::<R, S>(rt, alloc, FOUR);
     let dir = version(&held.w, &held.root);
     let mut right = 0usize;
     for (key, wanted) in AROUND {
@@ -267,7 +267,7 @@ fn neighbours<R: Abort, const S: usize>(rt: &R, alloc: Global)
     assert_eq!(rt; right, AROUND.len());
 }
 
-const NOWHERE: [(Call, Told); 3] = [
+const NOWHERE: &[(Call, Told)] = &[
     (Call::Next, Told::Nothing),
     (Call::NextBack, Told::Nothing),
     (Call::Flip, Told::Flips(true)),
@@ -280,7 +280,7 @@ fn no_neighbours<R: Abort, const S: usize>(rt: &R, alloc: Global)
     let dir = version(&held.w, &held.root);
     let kind = found(locate(&held.w, dir, &3)).0;
     let ends = walk(&held.w, dir, Bound::Unbounded, Bound::Unbounded);
-    let right = played(ends, &NOWHERE);
+    let right = played(ends, NOWHERE);
     end(rt, held);
     assert_eq!(rt; (kind, right), ("empty", NOWHERE.len()));
 }

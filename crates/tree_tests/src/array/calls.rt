@@ -206,7 +206,7 @@ pub(super) fn first_other(array: &mut Array<u64, u64>, rows: &[(Call, Told)]) ->
 /// Keys, and the calls of an array of them, each its own value.
 pub(super) type Table = (&'static [u64], &'static [(Call, Told)]);
 
-const TABLES: [Table; 17] = [
+const TABLES: &[Table] = &[
     edit::WITH_A_TOMBSTONE,
     edit::REMOVED_LAST,
     edit::UPSERTED,

@@ -27,29 +27,29 @@ pub(super) fn written(
 /// A list, a write, and the list that it leaves.
 type Row = (&'static [(u64, u64)], Write, &'static [(u64, u64)]);
 
-const WRITES: [Row; 9] = [
+const WRITES: &[Row] = &[
     // a duplicate keeps the list
     (&[], Write::Insert(1, 10), &[(1, 10)]),
     (&[(1, 10)], Write::Insert(1, 11), &[(1, 10)]),
     // writes one after the other keep the order of keys
     (&[], Write::Insert(4, 1), &[(4, 1)]),
     (&[(4, 1)], Write::Insert(2, 1), &TWO),
-    (&TWO, Write::Insert(5, 1), &THREE),
-    (&THREE, Write::Insert(3, 7), &FOUR),
-    (&FOUR, Write::Upsert(4, 9), &WITH_NINE),
-    (&WITH_NINE, Write::Remove(3), &LEFT),
-    (&LEFT, Write::Remove(3), &LEFT),
+    (&TWO, Write::Insert(5, 1), THREE),
+    (THREE, Write::Insert(3, 7), FOUR),
+    (FOUR, Write::Upsert(4, 9), WITH_NINE),
+    (WITH_NINE, Write::Remove(3), LEFT),
+    (LEFT, Write::Remove(3), LEFT),
 ];
 
 const TWO: [(u64, u64); 2] = [(2, 1), (4, 1)];
 
-const THREE: [(u64, u64); 3] = [(2, 1), (4, 1), (5, 1)];
+const THREE: &[(u64, u64)] = &[(2, 1), (4, 1), (5, 1)];
 
-const FOUR: [(u64, u64); 4] = [(2, 1), (3, 7), (4, 1), (5, 1)];
+const FOUR: &[(u64, u64)] = &[(2, 1), (3, 7), (4, 1), (5, 1)];
 
-const WITH_NINE: [(u64, u64); 4] = [(2, 1), (3, 7), (4, 9), (5, 1)];
+const WITH_NINE: &[(u64, u64)] = &[(2, 1), (3, 7), (4, 9), (5, 1)];
 
-const LEFT: [(u64, u64); 3] = [(2, 1), (4, 9), (5, 1)];
+const LEFT: &[(u64, u64)] = &[(2, 1), (4, 9), (5, 1)];
 
 /// Whether a write of a list makes another of it.
 fn makes(alloc: Global, list: &[(u64, u64)], write: Write, wanted: &[(u64, u64)]) -> bool {
@@ -73,8 +73,8 @@ fn first_other(alloc: Global) -> Option<usize> {
 /// Whether keys are found where they are, and nowhere else.
 fn are_found() -> bool {
     let first = find_value(&[(1u64, 10u64)], &1).copied() == Some(10);
-    let (five, three) = (contains_key(&LEFT, &5), contains_key(&LEFT, &3));
-    first && five && !three && find_value(&LEFT, &3).is_none()
+    let (five, three) = (contains_key(LEFT, &5), contains_key(LEFT, &3));
+    first && five && !three && find_value(LEFT, &3).is_none()
 }
 
 #[test]

@@ -6,7 +6,7 @@ use leaf_array::{Array, ArrayIter, ArrayRevIter, InsertResult, RemoveResult};
 type Texts = Array<&'static str, &'static str>;
 
 /// A text that comes first, one that comes last, and the numbers in their order as texts.
-const TEXTS: [&str; 15] = [
+const TEXTS: &[&str] = &[
     "M", "G", "0", "1", "2", "3", "4", "5", "6", "7", "8", "9", "10", "11", "12",
 ];
 
@@ -91,7 +91,7 @@ fn has_the_others(array: &mut Texts) -> bool {
 
 #[test]
 fn text_keys_are_ordered_as_text(rt: HostRuntime) {
-    let mut array = texts(&TEXTS);
+    let mut array = texts(TEXTS);
     let full = is_full(&mut array);
     let gone = loses(&mut array, &["10", "11", "12", "G", "M"]);
     // the slots of "0" to "9"

@@ -48,7 +48,7 @@ fn mixed() -> Array<u64, u64> {
     array
 }
 
-const LOW: [(Call, Told); 7] = [
+const LOW: &[(Call, Told)] = &[
     (Insert(5, 5), Full(5, 5)),
     (Unfreeze, Done),
     (Len, Number(4)),
@@ -58,7 +58,7 @@ const LOW: [(Call, Told); 7] = [
     (SearchVal(19), Part(Some(17))),
 ];
 
-const HIGH: [(Call, Told); 5] = [
+const HIGH: &[(Call, Told)] = &[
     (Unfreeze, Done),
     (Len, Number(2)),
     (SearchVal(20), Part(Some(17))),
@@ -68,7 +68,7 @@ const HIGH: [(Call, Told); 5] = [
 
 const GONE: Told = Removed(RemoveResult::Success);
 
-const DEALT_OUT: [(Call, Told); 13] = [
+const DEALT_OUT: &[(Call, Told)] = &[
     (Insert(1, 0), Full(1, 0)),
     (Insert(3, 0), Full(3, 0)),
     (Remove(17), Removed(RemoveResult::Frozen)),
@@ -91,9 +91,9 @@ fn a_distributed_array_gives_its_pairs_to_others_and_stays_frozen(rt: HostRuntim
     let mut high: Array<u64, u64> = Array::new_frozen();
     let dealt = deal(&mut old, &mut low, &mut high) == ((15, 6, false), 0);
     let others = [
-        first_other(&mut low, &LOW),
-        first_other(&mut high, &HIGH),
-        first_other(&mut old, &DEALT_OUT),
+        first_other(&mut low, LOW),
+        first_other(&mut high, HIGH),
+        first_other(&mut old, DEALT_OUT),
     ];
     assert!(rt; dealt && others == [None; 3]);
 }

@@ -71,7 +71,7 @@ fn first_other_within(range: &mut Range<'_, u64, u64>, rows: &[(Step, Seen)]) ->
 }
 
 // Steps through three pairs with the keys 1 to 3, each with the value 2.
-const TURNS: [(Step, Seen); 9] = [
+const TURNS: &[(Step, Seen)] = &[
     (NextBack, Some((3, 2))),
     (NextBack, Some((2, 2))),
     (Flip, Some((0, 0))),
@@ -83,7 +83,7 @@ const TURNS: [(Step, Seen); 9] = [
     (Flip, None),
 ];
 
-const UNTIL_IT_IS_DONE: [(Step, Seen); 7] = [
+const UNTIL_IT_IS_DONE: &[(Step, Seen)] = &[
     (Next, Some((1, 2))),
     (Next, Some((2, 2))),
     (Next, Some((3, 2))),
@@ -93,9 +93,9 @@ const UNTIL_IT_IS_DONE: [(Step, Seen); 7] = [
     (NextBack, None),
 ];
 
-const THREE: [(u64, u64); 3] = [(1, 2), (2, 2), (3, 2)];
+const THREE: &[(u64, u64)] = &[(1, 2), (2, 2), (3, 2)];
 
-const FOUR: [(u64, u64); 4] = [(1, 2), (2, 2), (3, 2), (4, 2)];
+const FOUR: &[(u64, u64)] = &[(1, 2), (2, 2), (3, 2), (4, 2)];
 
 /// The place of the first step along a cursor over these pairs that tells something else.
 fn first_other_along(alloc: Global, pairs: &[(u64, u64)], rows: &[(Step, Seen)]) -> Option<usize> {
@@ -104,26 +104,26 @@ fn first_other_along(alloc: Global, pairs: &[(u64, u64)], rows: &[(Step, Seen)])
 
 /// The same along a range of four pairs, which flips at its bounds.
 fn first_other_of_four(alloc: Global) -> Option<usize> {
-    let tree = tree_of(alloc, &FOUR);
+    let tree = tree_of(alloc, FOUR);
     let mut range = tree.range(Bound::Included(&1), Bound::Excluded(&4));
-    first_other_within(&mut range, &TURNS)
+    first_other_within(&mut range, TURNS)
 }
 
 #[test]
 fn both_ends_go_through_three_pairs(rt: HostRuntime) {
-    let turned = first_other_along(rt.alloc(), &THREE, &TURNS);
-    let done = first_other_along(rt.alloc(), &THREE, &UNTIL_IT_IS_DONE);
+    let turned = first_other_along(rt.alloc(), THREE, TURNS);
+    let done = first_other_along(rt.alloc(), THREE, UNTIL_IT_IS_DONE);
     assert!(rt; [turned, done, first_other_of_four(rt.alloc())] == [None; 3]);
 }
 
-const DOUBLING: [(u64, u64); 4] = [(1, 2), (2, 3), (4, 6), (8, 12)];
+const DOUBLING: &[(u64, u64)] = &[(1, 2), (2, 3), (4, 6), (8, 12)];
 
 // Steps of a range, of the cursor without bounds that its copy becomes, and of the range then.
 const WITHIN: [(Step, Seen); 2] = [(Next, Some((4, 6))), (Get, Some((4, 6)))];
 
 const BEYOND: [(Step, Seen); 1] = [(Next, Some((8, 12)))];
 
-const AT_ITS_END: [(Step, Seen); 4] = [
+const AT_ITS_END: &[(Step, Seen)] = &[
     (Next, None),
     (Get, None),
     (NextBack, None),
@@ -135,11 +135,11 @@ fn within_and_beyond(tree: &Tree) -> [Option<usize>; 3] {
     let mut range = tree.range(Bound::Included(&3), Bound::Included(&4));
     let within = first_other_within(&mut range, &WITHIN);
     let beyond = first_other_step(&mut Iter::from(range.clone()), &BEYOND);
-    [within, beyond, first_other_within(&mut range, &AT_ITS_END)]
+    [within, beyond, first_other_within(&mut range, AT_ITS_END)]
 }
 
 /// How many pairs at most are taken from 2 on, and how many come.
-const TAKEN: [(usize, usize); 4] = [(0, 0), (2, 2), (3, 3), (9, 3)];
+const TAKEN: &[(usize, usize)] = &[(0, 0), (2, 2), (3, 3), (9, 3)];
 
 /// The place of the first row of which another number comes.
 fn first_other_count(tree: &Tree) -> Option<usize> {
@@ -162,7 +162,7 @@ fn taken_one(tree: &Tree) -> [Seen; 3] {
 
 #[test]
 fn a_range_keeps_to_its_bounds_and_to_what_is_taken(rt: HostRuntime) {
-    let tree = tree_of(rt.alloc(), &DOUBLING);
+    let tree = tree_of(rt.alloc(), DOUBLING);
     let kept = within_and_beyond(&tree) == [None; 3] && first_other_count(&tree).is_none();
     assert!(rt; kept && taken_one(&tree) == [Some((1, 2)), None, None]);
 }
@@ -431,9 +431,9 @@ fn stands(tree: &Tree, key: u64) -> (u8, Seen, Seen) {
     (kind, read(iter.get()), back)
 }
 
-const ODD: [(u64, u64); 4] = [(1, 1), (3, 2), (5, 3), (7, 4)];
+const ODD: &[(u64, u64)] = &[(1, 1), (3, 2), (5, 3), (7, 4)];
 
-const PLACES: [(u64, (u8, Seen, Seen)); 4] = [
+const PLACES: &[(u64, (u8, Seen, Seen))] = &[
     (2, (1, Some((1, 1)), Some((3, 2)))),
     (5, (0, Some((5, 3)), None)),
     (8, (2, None, Some((7, 4)))),
@@ -466,7 +466,7 @@ fn between(tree: &Tree, key: u64) -> [Seen; 4] {
 
 #[test]
 fn locate_finds_a_pair_or_its_neighbours(rt: HostRuntime) {
-    let mut tree = tree_of(rt.alloc(), &ODD);
+    let mut tree = tree_of(rt.alloc(), ODD);
     let other = first_other_place(&tree);
     let over = between(&tree, 2) == [None, Some((3, 2)), None, Some((1, 1))];
     clear(&mut tree);

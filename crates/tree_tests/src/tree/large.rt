@@ -35,7 +35,7 @@ const BEYOND_A_MILLION: Pairs = Pairs {
 };
 
 /// A million pairs are inserted and found.
-const A_MILLION: [(Call, Told); 6] = [
+const A_MILLION: &[(Call, Told)] = &[
     (Take(GOLDEN, 0, 1000000), Is(true)),
     (Len, Number(1000000)),
     (Count, Number(1000000)),
@@ -62,7 +62,7 @@ const BEYOND_A_HUNDRED_THOUSAND: Pairs = Pairs {
 };
 
 /// A hundred thousand pairs are cloned.
-const A_HUNDRED_THOUSAND: [(Call, Told); 11] = [
+const A_HUNDRED_THOUSAND: &[(Call, Told)] = &[
     (Take(GOLDEN, 0, 100000), Is(true)),
     (Copy, Done),
     (Swap, Done),
@@ -77,7 +77,7 @@ const A_HUNDRED_THOUSAND: [(Call, Told); 11] = [
 ];
 
 /// A range of a hundred thousand pairs is removed.
-const WITHOUT_A_RANGE: [(Call, Told); 7] = [
+const WITHOUT_A_RANGE: &[(Call, Told)] = &[
     (Take(EACH, 0, 100000), Is(true)),
     (
         RemoveRange(Bound::Included(1000), Bound::Excluded(99000)),
@@ -90,11 +90,11 @@ const WITHOUT_A_RANGE: [(Call, Told); 7] = [
     (Lacks(EACH, 1000, 99000), Is(true)),
 ];
 
-const FEWER: [&[(Call, Told)]; 2] = [&A_HUNDRED_THOUSAND, &WITHOUT_A_RANGE];
+const FEWER: [&[(Call, Told)]; 2] = [A_HUNDRED_THOUSAND, WITHOUT_A_RANGE];
 
 #[test]
 fn a_million_pairs_are_inserted_and_found(rt: HostRuntime) {
-    assert_eq!(rt; first_other(rt.alloc(), &A_MILLION), None);
+    assert_eq!(rt; first_other(rt.alloc(), A_MILLION), None);
 }
 
 #[test]

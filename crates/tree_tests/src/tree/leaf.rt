@@ -176,13 +176,13 @@ fn is_new(leaf: &Leaf<u64, u64>) -> bool {
 }
 
 // Steps of a falling cursor over the three keys, those that it takes then while its copy stays, and that of the copy.
-const FIRST: [(Step, Seen); 3] = [
+const FIRST: &[(Step, Seen)] = &[
     (Step::Get, None),
     (Step::Last, Some((1, 0))),
     (Step::Next, Some((2049, 2))),
 ];
 
-const THEN: [(Step, Seen); 7] = [
+const THEN: &[(Step, Seen)] = &[
     (Step::Next, Some((2, 1))),
     (Step::Next, Some((1, 0))),
     (Step::Next, None),
@@ -196,19 +196,19 @@ const OF_THE_COPY: [(Step, Seen); 1] = [(Step::Get, Some((2049, 2)))];
 
 /// Whether a falling cursor and its copy go so.
 fn part(leaf: &Leaf<u64, u64>, tree: &Tree) -> bool {
-    let (cursor, first) = goes(Cursor::Falling(RevIter::new(leaf)), tree, &FIRST);
+    let (cursor, first) = goes(Cursor::Falling(RevIter::new(leaf)), tree, FIRST);
     match cursor {
         Cursor::Rising(_) => false,
         Cursor::Falling(falling) => {
             let copy = Cursor::Falling(falling.clone());
-            let then = goes(Cursor::Falling(falling), tree, &THEN).1;
+            let then = goes(Cursor::Falling(falling), tree, THEN).1;
             first && then && goes(copy, tree, &OF_THE_COPY).1
         },
     }
 }
 
 /// A new leaf has no pairs and no neighbours.
-const NEW: [Call; 18] = [
+const NEW: &[Call] = &[
     Call::IsNew,
     Call::Forth(&[
         (Step::Next, None),
@@ -238,7 +238,7 @@ const NEW: [Call; 18] = [
 ];
 
 /// A cursor turns round at its pair, and falls through the keys that are left.
-const TURNED: [Call; 7] = [
+const TURNED: &[Call] = &[
     Call::Add(1, 0),
     Call::Add(2, 1),
     Call::Add(2049, 2),
@@ -262,7 +262,7 @@ const TURNED: [Call; 7] = [
 
 /// A leaf without pairs leads on from the key that it lost last. The tree has the keys 0, 10, up to 190, each with its
 /// tenth part.
-const APART: [Call; 17] = [
+const APART: &[Call] = &[
     Call::Forth(&[(Step::Jump, None)]),
     Call::Back(&[(Step::Jump, None)]),
     Call::Add(35, 0),
@@ -305,7 +305,7 @@ fn first_other(tree: &Tree, calls: &[Call]) -> Option<usize> {
     None
 }
 
-const TABLES: [&[Call]; 3] = [&NEW, &TURNED, &APART];
+const TABLES: &[&[Call]] = &[NEW, TURNED, APART];
 
 /// The place of the first table that has a call that doesn't go as it has to, and the place of that call. Where the tree
 /// can't be filled, it is that of no table.
@@ -325,7 +325,7 @@ fn first_other_of(alloc: Global, tables: &[&[Call]]) -> Option<(usize, usize)> {
 
 #[test]
 fn leaves_answer_as_the_tables_say(rt: HostRuntime) {
-    assert_eq!(rt; first_other_of(rt.alloc(), &TABLES), None);
+    assert_eq!(rt; first_other_of(rt.alloc(), TABLES), None);
 }
 
 /// The next number of a fixed row of numbers in no order.
@@ -543,7 +543,7 @@ fn jumps_go_over_keys_whose_leaves_left_the_tree(rt: HostRuntime) {
 }
 
 // Jumps forth and back over emptied leaves alone, and what the cursor stands at behind each.
-const STAYS: [(Step, Seen); 5] = [
+const STAYS: &[(Step, Seen)] = &[
     (Step::Jump, None),
     (Step::Get, None),
     (Step::Turn, None),
@@ -554,7 +554,7 @@ const STAYS: [(Step, Seen); 5] = [
 /// Whether a cursor over the leaf of a key stays so.
 fn stays(tree: &Tree, key: u64) -> bool {
     match leaf_at(tree, key) {
-        Some(leaf) => goes(Cursor::Rising(Iter::new(leaf)), tree, &STAYS).1,
+        Some(leaf) => goes(Cursor::Rising(Iter::new(leaf)), tree, STAYS).1,
         None => false,
     }
 }

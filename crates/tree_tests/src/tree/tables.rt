@@ -4,7 +4,7 @@ use super::calls::{Call, Told, first_other};
 use super::{cursor, index, removal, shrink};
 use std::alloc::Global;
 
-const TABLES: [&[(Call, Told)]; 19] = [
+const TABLES: &[&[(Call, Told)]] = &[
     &index::ONE_PAIR,
     &index::ONE_NODE,
     &index::REPLACED,
@@ -39,5 +39,5 @@ pub(super) fn first_other_of(alloc: Global, tables: &[&[(Call, Told)]]) -> Optio
 
 #[test]
 fn trees_answer_as_the_tables_say(rt: HostRuntime) {
-    assert_eq!(rt; first_other_of(rt.alloc(), &TABLES), None);
+    assert_eq!(rt; first_other_of(rt.alloc(), TABLES), None);
 }
