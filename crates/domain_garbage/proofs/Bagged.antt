@@ -1,5 +1,5 @@
 -- what a private bag tells of its last item
-use Rattle.std.proofs.Common.{◌≡◌, ℕ, List, [], ◌∷◌, ◌++◌, map, ap, ◌∙◌}
+use Rattle.std.proofs.Common.{◌≡◌, List, [], ◌∷◌, ◌++◌, map, ap, ◌∙◌}
 use Rattle.std.proofs.lemmas.List.{map-append}
 use Rattle.sdd_homes.specs.declared.Garbage.{Garbage}
 use Rattle.domain_table.proofs.Aged.{last_of}

@@ -1,14 +1,12 @@
 -- a private bag gets a seat of its own, or comes to the seat of a participant
-use Rattle.std.proofs.Common.{◌≡◌, ◌≢◌, ◌⊎◌, ℕ, zero, suc, ◌+◌, List, [], ◌∷◌, ◌++◌, length, set, sym, refl, ap, ◌∙◌, subst, ⊎_elim, inl, inr, arith}
+use Rattle.std.proofs.Common.{◌≡◌, ◌≢◌, ◌⊎◌, ℕ, zero, suc, List, [], ◌∷◌, ◌++◌, length, set, sym, refl, ap, ◌∙◌, subst, ⊎_elim, inl, inr, arith}
 use mathlib.Core.Option.{some}
 use lib.ListN.{get_elem?}
 use Rattle.atomic_table.specs.Table.{State, Splits, Joins}
 use Rattle.atomic_table.proofs.Lists.{at_snoc}
-use Rattle.sdd_steps.specs.State as steps
 use Rattle.sdd_steps.specs.State.{At, Has}
-use Rattle.sdd_steps.proofs.ListLemmas.{set_all, set_here, set_else, at_longer}
+use Rattle.sdd_steps.proofs.ListLemmas.{set_all, set_else, at_longer}
 use Rattle.sdd_homes.specs.declared.Garbage.{Garbage}
-use Rattle.sdd_homes.specs.declared.Lease.{Lease}
 use Rattle.sdd_homes.specs.Book.{Content}
 use Rattle.sdd_homes.specs.Reasons.{Loads}
 use Rattle.sdd_homes.proofs.HandLemmas.{owned_set, owned_end}

@@ -1,5 +1,5 @@
 -- an item whose last owner is released goes into one bag, and else bags stay
-use Rattle.std.proofs.Common.{◌≡◌, ◌==◌, ◌<◌, ◌+◌, ℕ, Option, None, Some, List, ◌∷◌, cond, ne_eqb, ap, arith}
+use Rattle.std.proofs.Common.{◌≡◌, ◌<◌, ◌+◌, ℕ, Option, None, Some, ◌∷◌, cond, ne_eqb, ap, arith}
 use Rattle.sdd_homes.specs.declared.Garbage.{Garbage}
 use Rattle.sdd_homes.specs.declared.Lease.{Lease}
 use Rattle.domain_table.specs.Leases.{first_age, gone_to}

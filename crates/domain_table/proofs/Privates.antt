@@ -1,5 +1,5 @@
 -- private bags, while items and views change
-use Rattle.std.proofs.Common.{◌≡◌, ◌≢◌, ◌⊎◌, ℕ, List, [], set, sym, refl, subst, ⊎_elim, inl, inr}
+use Rattle.std.proofs.Common.{◌≡◌, ◌≢◌, ◌⊎◌, ℕ, List, [], set, sym, refl, subst, ⊎_elim, inr}
 use Rattle.sdd_steps.specs.declared.item.Item.{Item}
 use Rattle.sdd_steps.specs.State.{At, Has}
 use Rattle.sdd_steps.proofs.ListLemmas.{set_all}

@@ -7,7 +7,6 @@ use Rattle.sdd_steps.specs.declared.participant.Phase.{Phase}
 use Rattle.sdd_steps.specs.declared.participant.Phase.TheVariants.{Idle, HasRead, Opened}
 use Rattle.sdd_steps.specs.declared.participant.Participant.{Participant}
 use Rattle.sdd_steps.specs.declared.step.Step.TheVariants.{Reread}
-use Rattle.sdd_steps.specs.State as steps
 use Rattle.sdd_steps.specs.State.{with_participant}
 use Rattle.sdd_steps.specs.Steps.{Steps, is_inside, is_opened_phase, count_of}
 use Rattle.sdd_steps.proofs.Enabling.{participant_read, participant_passes}

@@ -1,5 +1,5 @@
 -- what a participant has leased, as its rows tell
-use Rattle.std.specs.Prelude.{◌≡◌, ℕ, suc, ◌<◌, ◌≤◌, ◌^◌, ◌++◌, Bool, true, false, ◌==◌, ◌&&◌, List, [], ◌∷◌, map, length, nat_lt, Option, None, Some}
+use Rattle.std.specs.Prelude.{◌≡◌, ℕ, suc, ◌<◌, ◌≤◌, ◌^◌, ◌++◌, Bool, true, false, ◌==◌, ◌&&◌, List, [], ◌∷◌, map, nat_lt, Option, None, Some}
 use Rattle.parted.specs.declared.life.Life.{Life}
 use Rattle.sdd_homes.specs.declared.Lease.{Lease}
 use Rattle.atomic_table.specs.Table.{Me}

@@ -1,4 +1,4 @@
-use Rattle.std.proofs.Common.{◌≡◌, ◌<◌, ◌+◌, ℕ, ◌∷◌, length, length-append, List, [], ap, sym, ◌∙◌, subst, refl, arith}
+use Rattle.std.proofs.Common.{ℕ, ◌∷◌, length, length-append, [], ap, sym, ◌∙◌, subst, refl, arith}
 use lib.ListN.{length-map}
 use Rattle.atomic_table.specs.Table.{Me}
 use Rattle.sdd_homes.specs.declared.Garbage.{Garbage}

@@ -1,4 +1,4 @@
-use Rattle.std.proofs.Common.{◌≡◌, ℕ, ◌+◌, ◌^◌, ◌<◌, Bool, true, false, Option, None, Some, IsTrue, IfSome, IfNone, eqb, eq-eqb, eqb-true, refl, sym, ap, ◌∙◌, arith}
+use Rattle.std.proofs.Common.{◌≡◌, ℕ, ◌+◌, ◌^◌, ◌<◌, Option, None, Some, IsTrue, IfSome, IfNone, eqb, eq-eqb, eqb-true, refl, sym, ◌∙◌, arith}
 use Rattle.core.specs.Option.{option_eq}
 use Rattle.domain_table.specs.Layout.{packed}
 use Rattle.sdd_domain.specs.Comparing.{code_of}

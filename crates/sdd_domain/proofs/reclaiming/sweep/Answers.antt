@@ -1,8 +1,7 @@
-use Rattle.std.proofs.Common.{◌≡◌, ◌≤◌, ◌+◌, ◌&&◌, ℕ, List, [], ◌∷◌, ◌++◌, true, Some, map, append_assoc, append-nil, le-leb, ap, sym, ◌∙◌, refl, subst, ⊎_elim}
+use Rattle.std.proofs.Common.{◌≡◌, ◌≤◌, ◌+◌, ℕ, List, [], ◌∷◌, ◌++◌, true, Some, map, append_assoc, append-nil, le-leb, ap, sym, ◌∙◌, refl, subst, ⊎_elim}
 use Rattle.atomic_table.specs.Table.{Me}
 use Rattle.sdd_steps.specs.State.{Has}
 use Rattle.sdd_steps.specs.Steps.{is_ready, is_past}
-use Rattle.sdd_homes.specs.declared.Garbage.{Garbage}
 use Rattle.sdd_homes.specs.declared.Lease.{Lease}
 use Rattle.domain_table.specs.Bags.{ages, Waits}
 use Rattle.domain_table.specs.Leases.{lease_told, all_below}
