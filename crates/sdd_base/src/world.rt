@@ -86,6 +86,13 @@ impl<T, J: Deferred> World<T, J> {
         Ok(())
     }
 
+    /// The store of the place, for who only reads items.
+    pub fn table(&self) -> &Table<T, J>
+        ensures { result.now ≡ self.now }
+    {
+        &self.table
+    }
+
     /// How many slots have an item, those that wait to be reclaimed counted.
     pub fn slots_in_use(&self) -> usize
         ensures { result ≡ in_use self.now }

@@ -9,9 +9,11 @@ ghost use Rattle.std.specs.List.{list_all};
 ghost use Rattle.sdd_table.specs.View.{Lists, IsFreeList, BagsHaveRoom, participant_state, waiting};
 ghost use Rattle.sdd_table.specs.Steps.{bags_empty, NoneOpen};
 ghost use Rattle.sdd_table.specs.Place.{IsOpen};
+ghost use Rattle.sdd_table.specs.Tokens.{kept_slot};
 
 use crate::bags::Participant;
 use crate::job::Deferred;
+use crate::owner::Kept;
 use crate::sizes::Sizes;
 use crate::status::{Cell, LocalState, Status};
 use crate::store::Store;
@@ -318,6 +320,17 @@ impl<T, J: Deferred> Table<T, J> {
         ensures { result ≡ length self.now.states }
     {
         self.states.len()
+    }
+
+    /// The item whose owner an item keeps. Condition: it is there.
+    pub fn kept_ref(&self, kept: &Kept) -> &T
+        requires { IsSome (value_at self.now (kept_slot kept.now)) }
+        ensures { Some result.now ≡ value_at self.now (kept_slot kept.now) }
+    {
+        match &self.values[kept.slot] {
+            None => unreachable!(),
+            Some(value) => value,
+        }
     }
 
     /// The item in slot `i`.

@@ -4,11 +4,11 @@
 //! number.
 
 ghost use Rattle.std.specs.Prelude.{◌≡◌};
-ghost use Rattle.sdd_table.specs.Tokens.{owned_slot, shared_slot, kept_slot, loaded_slot, owned_cell, shared_cell};
+ghost use Rattle.sdd_table.specs.Tokens.{owned_slot, shared_slot, loaded_slot, owned_cell, shared_cell};
 
 use crate::cell::{AtomicOwned, AtomicShared};
 use crate::loaded::Loaded;
-use crate::owner::{Kept, Owned, Shared};
+use crate::owner::{Owned, Shared};
 use std::marker::PhantomData;
 
 /// The owner of the item in `slot`.
@@ -109,13 +109,6 @@ pub fn spend_shared_cell<T>(token: AtomicShared<T>) -> usize
 {
     let AtomicShared { cell, of: _ } = token;
     cell
-}
-
-/// The slot of the item whose owner is kept.
-pub fn slot_of_kept(kept: &Kept) -> usize
-    ensures { result ≡ kept_slot kept.now }
-{
-    kept.slot
 }
 
 /// What was loaded out of a cell that keeps this.

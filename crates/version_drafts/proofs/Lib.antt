@@ -1,4 +1,3 @@
-pub mod BaseVersionLemmas
 pub mod CuttingLemmas
 pub mod DeltaLemmas
 pub mod GapLemmas

@@ -1,5 +1,5 @@
-//! The segments that writes make of those of an older version: what [`build`](crate::build) puts
-//! into a version, without a place.
+//! The segments that writes make of those of an older version: what a place
+//! makes a version of.
 
 ghost use Rattle.std.specs.Prelude.{◌≡◌, ◌≤◌, ◌<◌, ◌*◌, List, Some, length, slice_get, IfOk};
 ghost use Rattle.leaf_array.specs.Pairs.{has_key};
@@ -8,10 +8,9 @@ ghost use Rattle.version_views.specs.Cuts.{IsCut, pairs_in};
 ghost use Rattle.version_drafts.specs.Parts.{blocks_of_parts, made_in};
 ghost use Rattle.version_views.specs.Writes.{after_writes, replies_to};
 
-pub use crate::built::made_of;
 use crate::changes::{apply, unchanged};
 use crate::merge::merged;
-pub use crate::segments::{Part, Segments};
+pub use crate::segments::{Part, Segments, made_of};
 use std::alloc::{AllocError, Global};
 use tree_index::TreeIndex;
 use version_views::{Reply, Write};

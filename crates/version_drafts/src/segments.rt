@@ -61,6 +61,20 @@ pub(crate) fn give<K: Ord + Drop, V: Drop, N: Drop>(
     Ok(())
 }
 
+/// How many parts are new.
+pub fn made_of<K: Ord, V, N>(parts: &[Part<K, V, N>]) -> usize
+    ensures count { result ≡ made_in parts.now }
+    ensures few { result ≤ length parts.now }
+{
+    let mut made = 0;
+    for part in parts {
+        if let Part::Made(_) = part {
+            made += 1;
+        }
+    }
+    made
+}
+
 /// The pairs that were given so far, by rising keys: in segments that are done, and in a last tree that takes more.
 #[derive(Drop)]
 pub(crate) struct SegmentBuilder<K: Ord, V, N> {

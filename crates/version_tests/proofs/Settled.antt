@@ -16,7 +16,7 @@ use Rattle.sdd_base.specs.declared.status.Status.TheVariants as status
 use Rattle.sdd_base.proofs.CountLemmas.{owners_are_counted}
 use Rattle.sdd_base.proofs.PlaceLemmas.{get_or-replicate_default}
 use Rattle.version_views.specs.Items.{held_by, slots_of}
-use Rattle.version_drafts.specs.Placing.{CanBeShared, HasVersion, IsLevelled, Places, Plan}
+use Rattle.versions.specs.Placing.{CanBeShared, HasVersion, IsLevelled, Places, Plan}
 use Rattle.version_views.specs.declared.directory.Directory.{Directory}
 use Rattle.version_views.specs.declared.item.Item.{Item}
 use Rattle.version_views.specs.declared.item.Item.TheVariants as items

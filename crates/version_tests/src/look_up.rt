@@ -8,7 +8,7 @@ ghost use Rattle.sdd_base.specs.Place.{IsShared};
 ghost use Rattle.sdd_base.specs.State.{value_at};
 ghost use Rattle.sdd_base.specs.Tokens.{shared_slot};
 ghost use Rattle.version_views.specs.Items.{held_by};
-ghost use Rattle.version_drafts.specs.Placing.{HasVersion};
+ghost use Rattle.versions.specs.Placing.{HasVersion};
 ghost use Rattle.version_views.specs.Versions.{IsVersion};
 
 use sdd_base::job::NoJob;

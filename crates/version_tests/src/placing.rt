@@ -7,7 +7,7 @@ ghost use Rattle.sdd_base.specs.Place.{IsShared};
 ghost use Rattle.sdd_base.specs.State.{value_at};
 ghost use Rattle.sdd_base.specs.Tokens.{shared_slot};
 ghost use Rattle.std.specs.Ordering.{nat_cmp};
-ghost use Rattle.version_drafts.specs.Placing.{IsPlaceable};
+ghost use Rattle.versions.specs.Placing.{IsPlaceable};
 ghost use Rattle.version_views.specs.Items.{held_by};
 ghost use Rattle.version_views.specs.Versions.{IsVersion};
 

@@ -9,7 +9,7 @@ ghost use Rattle.sdd_base.specs.State.{value_at};
 ghost use Rattle.sdd_base.specs.Tokens.{guard_participant, shared_cell, shared_slot};
 ghost use Rattle.std.specs.List.{All};
 ghost use Rattle.version_views.specs.Items.{held_by, slots_of};
-ghost use Rattle.version_drafts.specs.Placing.{CanBeShared, IsPlaceable};
+ghost use Rattle.versions.specs.Placing.{CanBeShared, IsPlaceable};
 ghost use Rattle.version_views.specs.Versions.{IsVersion};
 
 use sdd_base::cell::AtomicShared;

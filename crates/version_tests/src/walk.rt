@@ -7,7 +7,7 @@ ghost use Rattle.sdd_base.specs.Holding.{SharedItem};
 ghost use Rattle.sdd_base.specs.Place.{IsShared};
 ghost use Rattle.sdd_base.specs.Tokens.{shared_slot};
 ghost use Rattle.version_views.specs.Items.{held_by};
-ghost use Rattle.version_drafts.specs.Placing.{HasVersion};
+ghost use Rattle.versions.specs.Placing.{HasVersion};
 
 use sdd_base::job::NoJob;
 use sdd_base::owner::Shared;
@@ -16,7 +16,9 @@ use sdd_base::world::{World, guard, shared};
 use std::alloc::Global;
 use std::ops::Bound;
 use std::process::Abort;
-use versions::{Built, Item, Nearby, Walk, Write, build, locate, place, version, walk};
+use versions::{
+    Built, Item, LocalNearby, LocalWalk, Nearby, Write, build, locate, place, version, walk,
+};
 
 // A place with a version of these pairs, and the empty one.
 struct Held<const S: usize> {
@@ -113,10 +115,7 @@ fn told_of(pair: Option<(&u64, &u64)>) -> Told {
     }
 }
 
-fn made<const S: usize>(
-    ends: &mut Walk<'_, u64, u64, World<Item<u64, u64, S>, NoJob>>,
-    call: Call,
-) -> Told {
+fn made<const S: usize>(ends: &mut LocalWalk<'_, u64, u64, S>, call: Call) -> Told {
     match call {
         Call::Next => told_of(ends.next()),
         Call::NextBack => told_of(ends.next_back()),
@@ -126,10 +125,7 @@ fn made<const S: usize>(
 }
 
 // Makes the calls of a table, and tells how many answer what is wanted before the first that doesn't.
-fn played<const S: usize>(
-    start: Walk<'_, u64, u64, World<Item<u64, u64, S>, NoJob>>,
-    rows: &[(Call, Told)],
-) -> usize {
+fn played<const S: usize>(start: LocalWalk<'_, u64, u64, S>, rows: &[(Call, Told)]) -> usize {
     let mut ends = start;
     let mut right = 0usize;
     for at in 0..rows.len() {
@@ -197,13 +193,11 @@ type Ends = (Option<(u64, u64)>, Option<(u64, u64)>);
 // A step of the forward end and the pair at it, then those of the backward end.
 type Steps = (Ends, Ends);
 
-fn ends_of<const S: usize>(ends: &Walk<'_, u64, u64, World<Item<u64, u64, S>, NoJob>>) -> Ends {
+fn ends_of<const S: usize>(ends: &LocalWalk<'_, u64, u64, S>) -> Ends {
     (read(ends.get()), read(ends.get_back()))
 }
 
-fn steps_of<const S: usize>(
-    mut ends: Walk<'_, u64, u64, World<Item<u64, u64, S>, NoJob>>,
-) -> Steps {
+fn steps_of<const S: usize>(mut ends: LocalWalk<'_, u64, u64, S>) -> Steps {
     let next = read(ends.next());
     let at = read(ends.get());
     let next_back = read(ends.next_back());
@@ -211,7 +205,7 @@ fn steps_of<const S: usize>(
     ((next, at), (next_back, at_back))
 }
 
-fn found<const S: usize>(around: Nearby<'_, u64, u64, World<Item<u64, u64, S>, NoJob>>) -> Found {
+fn found<const S: usize>(around: LocalNearby<'_, u64, u64, S>) -> Found {
     match around {
         Nearby::Exact(ends) => ("exact", ends_of(&ends), steps_of(ends)),
         Nearby::Between(ends) => ("between", ends_of(&ends), steps_of(ends)),
@@ -433,7 +427,7 @@ impl<'l> Plain<'l> {
 
 // One call on a walk and on the plain machine, and whether both answer the same and stand at the same pairs then.
 fn step<const S: usize>(
-    ends: &mut Walk<'_, u64, u64, World<Item<u64, u64, S>, NoJob>>,
+    ends: &mut LocalWalk<'_, u64, u64, S>,
     plain: &mut Plain<'_>,
     kind: u64,
 ) -> bool {
@@ -479,7 +473,7 @@ fn some_pairs<R: Abort>(rt: &R, alloc: Global, start: u64) -> Vec<(u64, u64)> {
 
 // Random calls on a walk, and on the plain machine beside it: whether all answer the same.
 fn random_calls<const S: usize>(
-    start: Walk<'_, u64, u64, World<Item<u64, u64, S>, NoJob>>,
+    start: LocalWalk<'_, u64, u64, S>,
     beside: Plain<'_>,
     first: u64,
 ) -> bool {
@@ -551,7 +545,7 @@ fn plain_ends(pairs: &[(u64, u64)], key: u64) -> (Place, Place) {
 // A walk and the plain machine go on from around a key: whether they answer the same. Around a key there is nothing only where
 // there are no pairs.
 fn random_calls_around<const S: usize>(
-    around: Nearby<'_, u64, u64, World<Item<u64, u64, S>, NoJob>>,
+    around: LocalNearby<'_, u64, u64, S>,
     plain: Plain<'_>,
     seed: u64,
 ) -> bool {

@@ -2,8 +2,8 @@
 use Rattle.std.proofs.Common.{◌≡◌, ℕ, zero, suc, ◌-◌, ◌<◌, ◌≤◌, Option, Some, List, [], ◌∷◌, length, map, take, get_or, refl, sym, ap, ◌∙◌, arith, subst}
 use Rattle.std.specs.declared.cmp.Ordering.{Ordering}
 use Rattle.std.proofs.lemmas.List.{length-map, length-take}
-use Rattle.sdd_base.specs.Tokens.{kept_slot}
-use Rattle.sdd_base.specs.declared.owner.Kept.{Kept}
+use Rattle.sdd_table.specs.Tokens.{kept_slot}
+use Rattle.sdd_table.specs.declared.owner.Kept.{Kept}
 use Rattle.version_views.specs.Cuts.{IsCut, IsSeparated, greatest_key, pairs_in}
 use Rattle.version_views.specs.Items.{segment_owners}
 use Rattle.version_views.specs.SeparatorSearch.{IsOrdered}

@@ -2,8 +2,8 @@
 use Rattle.std.proofs.Common.{◌≡◌, ℕ, zero, suc, ◌<◌, Some, List, [], ◌∷◌, length, map, get_or, slice_get, refl, sym, ap, ◌∙◌, arith, subst}
 use Rattle.std.specs.List.{All}
 use Rattle.std.proofs.lemmas.List.{length-map}
-use Rattle.sdd_base.specs.Tokens.{kept_slot}
-use Rattle.sdd_base.specs.declared.owner.Kept.{Kept}
+use Rattle.sdd_table.specs.Tokens.{kept_slot}
+use Rattle.sdd_table.specs.declared.owner.Kept.{Kept}
 use Rattle.tree_index.proofs.WayLemmas.{some_same}
 
 pub slice_of : {X : Type 0} (xs : List X) (i : ℕ) (d : X) → i < length xs → slice_get xs i ≡ Some (get_or xs i d)

@@ -1,8 +1,8 @@
 -- what items hold
 use Rattle.std.specs.Prelude.{ℕ, List, [], map, reverse}
-use Rattle.sdd_base.specs.Holding.{Hold, SharedItem}
-use Rattle.sdd_base.specs.Tokens.{kept_slot}
-use Rattle.sdd_base.specs.declared.owner.Kept.{Kept}
+use Rattle.sdd_table.specs.Holding.{Hold, SharedItem}
+use Rattle.sdd_table.specs.Tokens.{kept_slot}
+use Rattle.sdd_table.specs.declared.owner.Kept.{Kept}
 use Rattle.version_views.specs.declared.directory.Directory.{Directory}
 use Rattle.version_views.specs.declared.item.Item.{Item}
 use Rattle.version_views.specs.declared.item.Item.TheVariants as items

@@ -4,7 +4,7 @@ use Rattle.std.specs.declared.cmp.Ordering.{Ordering}
 use Rattle.std.specs.List.{All}
 use Rattle.version_views.specs.Cuts.{IsCut, pairs_in}
 use Rattle.version_views.specs.Items.{slots_of}
-use Rattle.sdd_base.specs.declared.owner.Kept.{Kept}
+use Rattle.sdd_table.specs.declared.owner.Kept.{Kept}
 use Rattle.version_views.specs.declared.directory.Directory.{Directory}
 use Rattle.version_views.specs.declared.item.Item.{Item}
 use Rattle.version_views.specs.declared.item.Item.TheVariants as items

@@ -5,8 +5,8 @@ ghost use Rattle.version_views.specs.Versions.{IsSegment, segment_pairs};
 
 use crate::directory::Directory;
 use crate::segment::Segment;
-use sdd_base::holds::{Held, Holds};
-use sdd_base::owner::Kept;
+use sdd_table::holds::{Held, Holds};
+use sdd_table::owner::Kept;
 use tree_index::TreeIndex;
 
 /// What stands in a slot: a version, or a segment of versions.

@@ -3,9 +3,9 @@
 ghost use Rattle.std.specs.Prelude.{◌≡◌, ◌≤◌, List};
 
 use crate::item::Item;
-use sdd_base::job::NoJob;
-use sdd_base::owner::Kept;
-use sdd_base::world::{World, shared};
+use sdd_table::Table;
+use sdd_table::job::NoJob;
+use sdd_table::owner::Kept;
 use tree_index::TreeIndex;
 
 /// A place that lends the segments of versions to readers.
@@ -26,10 +26,10 @@ pub trait Trees<K: Ord, V> {
         ensures flat { result.now.depth ≤ 1 };
 }
 
-/// A `World` lends what stands in the slot of an owner.
-impl<K: Ord, V, const S: usize> Trees<K, V> for World<Item<K, V, S>, NoJob> {
-    ghost use Rattle.sdd_base.specs.State.{value_at};
-    ghost use Rattle.sdd_base.specs.Tokens.{kept_slot};
+/// The store of a place of one thread lends what stands in the slot of an owner.
+impl<K: Ord, V, const S: usize> Trees<K, V> for Table<Item<K, V, S>, NoJob> {
+    ghost use Rattle.sdd_table.specs.State.{value_at};
+    ghost use Rattle.sdd_table.specs.Tokens.{kept_slot};
     ghost use Rattle.version_views.specs.Versions.{IsSegment, segment_pairs};
 
     type Owner = Kept;
@@ -39,6 +39,6 @@ impl<K: Ord, V, const S: usize> Trees<K, V> for World<Item<K, V, S>, NoJob> {
     ghost pairs = { λ w k. segment_pairs (value_at w (kept_slot k)) };
 
     fn tree<'a>(&'a self, at: &'a Kept) -> &'a TreeIndex<K, V> {
-        shared::kept_ref(self, at).segment()
+        self.kept_ref(at).segment()
     }
 }

@@ -1,3 +1,4 @@
+pub mod BaseVersionLemmas
 pub mod FreePlaceLemmas
 pub mod NoGarbageLemmas
 pub mod OnceLemmas

@@ -16,7 +16,7 @@ use Rattle.sdd_base.specs.declared.status.Status.{Status}
 use Rattle.sdd_base.specs.declared.status.Status.TheVariants as status
 use Rattle.sdd_base.proofs.ListLemmas.{hit-same, hit-other}
 use Rattle.version_views.specs.Items.{held_by, slots_of}
-use Rattle.version_drafts.specs.Placing.{IsLevelled, IsNoDirectory}
+use Rattle.versions.specs.Placing.{IsLevelled, IsNoDirectory}
 use Rattle.sdd_base.specs.declared.owner.Kept.{Kept}
 use Rattle.version_views.specs.declared.directory.Directory.{Directory}
 use Rattle.version_views.specs.declared.item.Item.{Item}

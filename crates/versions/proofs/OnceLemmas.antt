@@ -13,7 +13,7 @@ use Rattle.leaf_array.specs.Pairs.{IsAscending}
 use Rattle.tree_index.specs.Shape.{AllKeys}
 use Rattle.version_views.specs.Cuts.{IsCut, pairs_in}
 use Rattle.version_drafts.specs.Cutting.{IsSegmentSized}
-use Rattle.version_drafts.specs.Placing.{slots_in}
+use Rattle.versions.specs.Placing.{slots_in}
 use Rattle.version_views.proofs.FilterLemmas.{all_front, all_rear, rising_head, rising_rear}
 
 -- the slots that things name

@@ -23,7 +23,7 @@ use Rattle.version_views.specs.Items.{held_by, slots_of}
 use Rattle.std.specs.Cmp.{IsTotalOrder}
 use Rattle.sdd_base.specs.Steps.{times}
 use Rattle.version_drafts.specs.Parts.{blocks_of_parts, made_in}
-use Rattle.version_drafts.specs.Placing.{IsNoDirectory, IsLevelled, AddsItems, StandsIn, Places, Plan, list_planned, named_at}
+use Rattle.versions.specs.Placing.{IsNoDirectory, IsLevelled, AddsItems, StandsIn, Places, Plan, list_planned, named_at}
 use Rattle.versions.proofs.OnceLemmas.{slots_once}
 use Rattle.version_views.specs.Versions.{IsSegment, segment_pairs, blocks_of}
 use Rattle.sdd_base.specs.declared.owner.Kept.{Kept}

@@ -27,7 +27,7 @@ use Rattle.sdd_base.proofs.IdleParticipantLemmas.{gives_only}
 use Rattle.sdd_base.proofs.BagInvariantLemmas.{Gives, gives_released_as}
 use Rattle.version_views.specs.Items.{held_by}
 use Rattle.versions.specs.Reclaiming.{IsRootless}
-use Rattle.version_drafts.specs.Placing.{HasVersion, IsLevelled, IsPlaceable, Places, Plan, list_planned, slots_for}
+use Rattle.versions.specs.Placing.{HasVersion, IsLevelled, IsPlaceable, Places, Plan, list_planned, slots_for}
 use Rattle.version_views.specs.declared.item.Item.{Item}
 use Rattle.version_views.proofs.FilterLemmas.{rising_none}
 use Rattle.versions.proofs.PlacingLemmas.{keeps_then}

@@ -21,7 +21,7 @@ use Rattle.sdd_base.proofs.ListLemmas.{hit-same}
 use Rattle.sdd_base.proofs.PassLemmas.{passes_reclaim}
 use Rattle.sdd_base.proofs.IdleParticipantLemmas.{gives_only}
 use Rattle.version_views.specs.Items.{held_by, slots_of}
-use Rattle.version_drafts.specs.Placing.{IsLevelled, IsNoDirectory}
+use Rattle.versions.specs.Placing.{IsLevelled, IsNoDirectory}
 use Rattle.versions.specs.Reclaiming.{IsRooted, PassesLeaveOne}
 use Rattle.sdd_base.specs.declared.owner.Kept.{Kept}
 use Rattle.version_views.specs.declared.directory.Directory.{Directory}

@@ -12,7 +12,7 @@ use Rattle.sdd_base.specs.declared.owner.Kept.{Kept}
 use Rattle.sdd_base.specs.declared.status.Cell.{Cell}
 use Rattle.sdd_base.specs.declared.status.Cell.TheVariants as cell
 use Rattle.version_views.specs.Items.{held_by, slots_of}
-use Rattle.version_drafts.specs.Placing.{CanBeShared, IsLevelled}
+use Rattle.versions.specs.Placing.{CanBeShared, IsLevelled}
 use Rattle.versions.specs.Store.{IsStore}
 use Rattle.version_views.specs.declared.directory.Directory.{Directory}
 use Rattle.version_views.specs.declared.item.Item.{Item}

@@ -11,7 +11,7 @@ use Rattle.sdd_base.proofs.CountLemmas.{owners_are_counted}
 use Rattle.sdd_base.proofs.FrameLemmas.{owned_protected}
 use Rattle.version_views.specs.Cuts.{IsCut, pairs_in}
 use Rattle.version_views.specs.Items.{held_by, slots_of}
-use Rattle.version_drafts.specs.Placing.{HasVersion}
+use Rattle.versions.specs.Placing.{HasVersion}
 use Rattle.versions.specs.Staying.{IsSeen, VersionsStay}
 use Rattle.version_views.specs.Versions.{IsSegment, blocks_of, segment_pairs}
 use Rattle.sdd_base.specs.declared.owner.Kept.{Kept}

@@ -27,7 +27,7 @@ use Rattle.sdd_base.proofs.PlaceLemmas.{place_closed, place_opened}
 use Rattle.sdd_base.proofs.IdleParticipantLemmas.{gives_only}
 use Rattle.sdd_base.proofs.ListLemmas.{hit-same}
 use Rattle.version_views.specs.Items.{held_by}
-use Rattle.version_drafts.specs.Placing.{HasVersion, IsLevelled}
+use Rattle.versions.specs.Placing.{HasVersion, IsLevelled}
 use Rattle.version_views.specs.Versions.{list_of}
 use Rattle.version_views.specs.declared.item.Item.{Item}
 use Rattle.versions.proofs.ReclaimLemmas.{levelled_after}

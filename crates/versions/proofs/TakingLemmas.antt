@@ -16,7 +16,7 @@ use Rattle.sdd_base.proofs.ListLemmas.{hit-same, hit-other}
 use Rattle.tree_index.proofs.WayLemmas.{some_same}
 use Rattle.version_views.specs.Cuts.{IsCut}
 use Rattle.version_drafts.specs.Parts.{blocks_of_parts, makes, part_pairs}
-use Rattle.version_drafts.specs.Placing.{CanBeShared, HasPlaced, IsTakeable, StandsIn, pairs_in_slot, named_at, slots_in, taken_slots}
+use Rattle.versions.specs.Placing.{CanBeShared, HasPlaced, IsTakeable, StandsIn, pairs_in_slot, named_at, slots_in, taken_slots}
 use Rattle.version_views.specs.Versions.{IsSegment, segment_pairs}
 use Rattle.version_drafts.specs.declared.segments.Part.{Part}
 use Rattle.version_drafts.specs.declared.segments.Part.TheVariants as parts

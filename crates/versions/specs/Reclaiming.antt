@@ -9,7 +9,7 @@ use Rattle.sdd_base.specs.Steps.{AllSwept, bags_empty}
 use Rattle.sdd_base.specs.declared.status.Cell.TheVariants as cell
 use Rattle.sdd_base.specs.declared.tag.Tag.{Tag}
 use Rattle.version_views.specs.Items.{held_by, slots_of}
-use Rattle.version_drafts.specs.Placing.{IsLevelled}
+use Rattle.versions.specs.Placing.{IsLevelled}
 use Rattle.sdd_base.specs.declared.owner.Kept.{Kept}
 use Rattle.version_views.specs.declared.directory.Directory.{Directory}
 use Rattle.version_views.specs.declared.item.Item.{Item}

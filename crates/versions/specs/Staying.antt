@@ -8,7 +8,7 @@ use Rattle.sdd_base.specs.Holding.{Hold}
 use Rattle.sdd_base.specs.Place.{IsOpen, IsPlace, IsShared}
 use Rattle.sdd_base.specs.State.{State, value_at}
 use Rattle.version_views.specs.Items.{held_by, slots_of}
-use Rattle.version_drafts.specs.Placing.{HasVersion}
+use Rattle.versions.specs.Placing.{HasVersion}
 use Rattle.sdd_base.specs.declared.owner.Kept.{Kept}
 use Rattle.version_views.specs.declared.directory.Directory.{Directory}
 use Rattle.version_views.specs.declared.item.Item.{Item}

@@ -11,7 +11,7 @@ use Rattle.sdd_base.specs.Tokens.{loaded_slot, guard_participant}
 use Rattle.sdd_base.specs.declared.status.Cell.TheVariants as cell
 use Rattle.sdd_base.specs.declared.tag.Tag.TheVariants as tag
 use Rattle.version_views.specs.Items.{held_by}
-use Rattle.version_drafts.specs.Placing.{HasVersion, IsLevelled}
+use Rattle.versions.specs.Placing.{HasVersion, IsLevelled}
 use Rattle.versions.specs.Staying.{IsSeen}
 use Rattle.version_views.specs.Versions.{list_of}
 use Rattle.sdd_base.specs.declared.owner.Kept.{Kept}

@@ -19,16 +19,18 @@
 //! and the writer of versions in a place of one thread: `read/` reads, `building/` builds and places, `store/` keeps.
 #![tactic(auto)]
 
+mod built;
 mod laws;
 mod placing;
 mod reads;
 mod store;
 
+pub use built::{Built, build};
 pub use laws::{passes_leave_one, segments_are_few, sweeps_leave_none, versions_stay};
 pub use placing::{place, publish};
 pub use reads::{len, locate, look_up, look_up_counted, version, version_at, view_of, walk};
 pub use store::local::LocalStore;
-pub use version_drafts::{Built, build, draft};
+pub use version_drafts::draft;
 pub use version_views::{
     Directory, Item, LocalNearby, LocalView, LocalWalk, Nearby, Reply, Segment, Trees, VersionView,
     Walk, Write, WriteRefused, plain,

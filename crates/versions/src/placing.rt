@@ -8,8 +8,9 @@ ghost use Rattle.sdd_base.specs.Tokens.{kept_slot, loaded_slot, shared_cell, sha
 ghost use Rattle.std.specs.List.{All};
 ghost use Rattle.sdd_base.specs.Steps.{times};
 ghost use Rattle.version_drafts.specs.Parts.{blocks_of_parts, made_in, makes};
-ghost use Rattle.version_drafts.specs.Placing.{CanBeShared, HasPlaced, IsPlaceable, IsTakeable, Places, StandsIn, named_at, root_set, slots_for, taken_slots};
+ghost use Rattle.versions.specs.Placing.{CanBeShared, HasPlaced, IsPlaceable, IsTakeable, Places, StandsIn, named_at, root_set, slots_for, taken_slots};
 
+use crate::built::Built;
 use sdd_base::cell::AtomicShared;
 use sdd_base::job::NoJob;
 use sdd_base::owner::{Kept, Shared};
@@ -17,7 +18,6 @@ use sdd_base::pointer::Loaded;
 use sdd_base::status::{Cell, Status};
 use sdd_base::tag::Tag;
 use sdd_base::world::{World, atomic_shared, shared};
-use version_drafts::Built;
 use version_drafts::draft::{Part, Segments};
 use version_views::{Directory, Item, Segment};
 

@@ -7,7 +7,7 @@ ghost use Rattle.sdd_base.specs.Tokens.{loaded_slot, shared_slot};
 ghost use Rattle.tree_index.specs.Proximity.{IsLocated};
 ghost use Rattle.version_views.specs.Items.{slots_of};
 ghost use Rattle.version_views.specs.Nearby.{as_proximity};
-ghost use Rattle.version_drafts.specs.Placing.{HasVersion};
+ghost use Rattle.versions.specs.Placing.{HasVersion};
 ghost use Rattle.version_views.specs.Versions.{IsVersion, blocks_of, list_of};
 ghost use Rattle.version_views.specs.Views.{LooksUp, cursor_within};
 
@@ -17,7 +17,7 @@ use sdd_base::pointer::Loaded;
 use sdd_base::world::{World, shared};
 use std::ops::Bound;
 use tree_index::Steps;
-use version_views::{Directory, Item, Nearby, VersionView, Walk};
+use version_views::{Directory, Item, LocalNearby, LocalView, LocalWalk, VersionView};
 
 /// The directory of a version that has an owner.
 pub fn version<'w, K: Ord, V, const S: usize>(
@@ -59,11 +59,11 @@ pub fn version_at<'w, K: Ord, V, const S: usize>(
 pub fn view_of<'a, K: Ord, V, const S: usize>(
     w: &'a World<Item<K, V, S>, NoJob>,
     dir: &'a Directory<K, Kept>,
-) -> VersionView<'a, K, V, World<Item<K, V, S>, NoJob>>
+) -> LocalView<'a, K, V, S>
     requires { IsVersion K.cmp (value_at w.now) dir.now }
     ensures { result ≡ blocks_of (value_at w.now) dir.now }
 {
-    VersionView::new(w, dir)
+    VersionView::new(w.table(), dir)
 }
 
 /// The pair with this key in the list of a version: [`VersionView::get`].
@@ -112,7 +112,7 @@ pub fn walk<'a, K: Ord, V, const S: usize>(
     dir: &'a Directory<K, Kept>,
     lower: Bound<&'a K>,
     upper: Bound<&'a K>,
-) -> Walk<'a, K, V, World<Item<K, V, S>, NoJob>>
+) -> LocalWalk<'a, K, V, S>
     requires { IsVersion K.cmp (value_at w.now) dir.now }
     ensures countable { length (list_of (value_at w.now) dir.now) < 2 ^ 64 }
     ensures cursor { result ≡ cursor_within (list_of (value_at w.now) dir.now) lower.entry upper.entry }
@@ -127,7 +127,7 @@ pub fn locate<'a, K: Ord, V, const S: usize>(
     w: &'a World<Item<K, V, S>, NoJob>,
     dir: &'a Directory<K, Kept>,
     key: &K,
-) -> Nearby<'a, K, V, World<Item<K, V, S>, NoJob>>
+) -> LocalNearby<'a, K, V, S>
     requires { IsVersion K.cmp (value_at w.now) dir.now }
     ensures { IsLocated K.cmp key.now (list_of (value_at w.now) dir.now) (as_proximity result) }
 {

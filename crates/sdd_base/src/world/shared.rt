@@ -141,7 +141,7 @@ pub fn kept_ref<'w, T, J: Deferred>(w: &'w World<T, J>, kept: &Kept) -> &'w T
     requires { IsSome (value_at w.now (kept_slot kept.now)) }
     ensures { Some result.now ≡ value_at w.now (kept_slot kept.now) }
 {
-    w.table.value(tokens::slot_of_kept(kept))
+    w.table.kept_ref(kept)
 }
 
 /// The value of an item, for writing; refused while a guard of any participant is open, and where `shared` isn't its one

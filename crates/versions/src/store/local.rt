@@ -8,13 +8,14 @@ ghost use Rattle.sdd_base.specs.State.{cell_at, value_at};
 ghost use Rattle.sdd_base.specs.Tokens.{shared_cell};
 ghost use Rattle.version_views.specs.Cuts.{pairs_in};
 ghost use Rattle.version_views.specs.Items.{slots_of};
-ghost use Rattle.version_drafts.specs.Placing.{CanBeShared};
+ghost use Rattle.versions.specs.Placing.{CanBeShared};
 ghost use Rattle.version_views.specs.Sizes.{IsStoreSized, room_for, segments_for};
 ghost use Rattle.versions.specs.Store.{Version, IsKeptHere, IsStore, next_version, no_version, version_in};
 ghost use Rattle.version_views.specs.Versions.{IsVersion, list_of};
 ghost use Rattle.version_views.specs.Writes.{after_writes, replies_to};
 ghost use Rattle.versions.specs.declared.store.readers.Opened.{Opened};
 
+use crate::built::{Built, build};
 use crate::placing::{place, publish};
 use crate::reads::view_of;
 use crate::store::readers::{Opened, are_free, end_all, free_all, nearest, read_at};
@@ -27,7 +28,6 @@ use sdd_base::world::{World, atomic_shared, guard};
 use std::alloc::{AllocError, Global};
 use std::marker::Model;
 use std::mem;
-use version_drafts::{Built, build};
 use version_views::{Directory, Item, LocalView, Reply, Write, WriteRefused};
 
 /// Versions in a place of one thread: a root names the present one, and a reader has the one that was present when it

@@ -9,7 +9,7 @@ use Rattle.sdd_base.specs.declared.tag.Tag.{Tag}
 use Rattle.sdd_base.specs.declared.tag.Tag.TheVariants as tag
 use Rattle.sdd_base.proofs.CountLemmas.{owners_are_counted}
 use Rattle.version_views.specs.Items.{held_by}
-use Rattle.version_drafts.specs.Placing.{owner_given_back}
+use Rattle.versions.specs.Placing.{owner_given_back}
 use Rattle.version_views.specs.declared.item.Item.{Item}
 use Rattle.version_tests.proofs.Settled.{counted_first}
 use Rattle.version_tests.proofs.single_steps.replace.Goals as goal

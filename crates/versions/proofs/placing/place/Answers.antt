@@ -4,7 +4,7 @@ use Rattle.sdd_base.specs.State.{placed, value_at}
 use Rattle.sdd_base.specs.declared.status.Status.TheVariants as status
 use Rattle.version_views.specs.declared.item.Item.TheVariants as item
 use Rattle.version_drafts.specs.Parts.{made_in}
-use Rattle.version_drafts.specs.Placing.{IsPlaceable, Places, Plan}
+use Rattle.versions.specs.Placing.{IsPlaceable, Places, Plan}
 use Rattle.versions.proofs.PlacingLemmas.{no_vacancy, places_directory}
 use Rattle.versions.proofs.TakingLemmas.{taken_once}
 use Rattle.versions.proofs.placing.place.Goals as goal

@@ -8,7 +8,7 @@ use Rattle.sdd_base.specs.State.{status_at, value_at}
 use Rattle.sdd_base.specs.Steps.{times}
 use Rattle.sdd_base.specs.Tokens.{kept_slot}
 use Rattle.version_drafts.specs.Parts.{blocks_of_parts, made_in, makes, part_pairs}
-use Rattle.version_drafts.specs.Placing.{IsTakeable, StandsIn, named_at, taken_slots}
+use Rattle.versions.specs.Placing.{IsTakeable, StandsIn, named_at, taken_slots}
 use Rattle.version_drafts.proofs.CuttingLemmas.{blocks_behind, made_behind}
 use Rattle.versions.proofs.TakingLemmas.{once_rest, owners_still, stands_part, takeable_still}
 use Rattle.versions.proofs.placing.place_parts.Goals as goal

@@ -5,7 +5,7 @@ use Rattle.sdd_base.specs.State.{status_at, vacancy, value_at}
 use Rattle.sdd_base.specs.Steps.{times}
 use Rattle.sdd_base.specs.Tokens.{kept_slot}
 use Rattle.version_drafts.specs.Parts.{blocks_of_parts, made_in}
-use Rattle.version_drafts.specs.Placing.{IsTakeable, StandsIn, named_at, taken_slots}
+use Rattle.versions.specs.Placing.{IsTakeable, StandsIn, named_at, taken_slots}
 use Rattle.versions.proofs.placing.place_parts.Given as goal
 
 -- the parts so far stand, and there is room for the others

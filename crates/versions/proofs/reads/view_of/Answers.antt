@@ -4,7 +4,7 @@ use Rattle.version_views.proofs.BlockLemmas.{version_viewed, viewed_blocks}
 use Rattle.versions.proofs.reads.view_of.Goals as goal
 
 pub new-requires : goal.new-requires
-new-requires g c = version_viewed g.K.Ord.cmp (value_at c.args.w.now) c.args.dir.now c.requires
+new-requires g c = rw c.table.ensures (version_viewed g.K.Ord.cmp (value_at c.args.w.now) c.args.dir.now c.requires)
 
 pub returns : goal.returns
-returns g c = c.new.ensures ∙ sym (viewed_blocks g.K.Ord.cmp (value_at c.args.w.now) c.args.dir.now)
+returns g c = (rw c.table.ensures at c.new.ensures) ∙ sym (viewed_blocks g.K.Ord.cmp (value_at c.args.w.now) c.args.dir.now)

@@ -4,7 +4,7 @@ use Rattle.sdd_base.specs.State.{State, vacancy}
 use Rattle.sdd_base.specs.Tokens.{shared_cell, shared_slot}
 use Rattle.sdd_base.specs.declared.status.Cell.{Cell}
 use Rattle.sdd_base.specs.declared.status.Cell.TheVariants as cell
-use Rattle.version_drafts.specs.Placing.{Places, Plan, slots_for}
+use Rattle.versions.specs.Placing.{Places, Plan, slots_for}
 use Rattle.versions.specs.Store.{store_of}
 use Rattle.versions.proofs.PublishLemmas.{empty_placeable, first_shows, first_store, fresh_vacancy, no_plan}
 use Rattle.versions.proofs.store.local.LocalStore.new.Goals as goal

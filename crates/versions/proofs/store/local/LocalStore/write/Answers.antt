@@ -6,7 +6,7 @@ use Rattle.sdd_base.specs.Steps.{released}
 use Rattle.sdd_base.specs.Tokens.{shared_cell, shared_slot}
 use Rattle.sdd_base.specs.declared.status.Cell.TheVariants as cell
 use Rattle.sdd_base.specs.declared.tag.Tag.TheVariants as tag
-use Rattle.version_drafts.specs.Placing.{list_planned, slots_for}
+use Rattle.versions.specs.Placing.{list_planned, slots_for}
 use Rattle.version_views.specs.Sizes.{room_for}
 use Rattle.versions.specs.Store.{Store, Version, store_of}
 use Rattle.version_views.specs.Writes.{after_writes}

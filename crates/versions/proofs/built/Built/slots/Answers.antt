@@ -1,6 +1,6 @@
 use Rattle.std.proofs.Common.{◌≤◌, ◌+◌, ◌*◌, ◌/◌, length, ap, subst, arith}
-use Rattle.version_drafts.specs.Placing.{Plan}
-use Rattle.version_drafts.proofs.built.Built.slots.Goals as goal
+use Rattle.versions.specs.Placing.{Plan}
+use Rattle.versions.proofs.built.Built.slots.Goals as goal
 
 pub returns-clause-few : goal.returns-clause-few
 returns-clause-few g c =

@@ -6,10 +6,10 @@ use Rattle.version_views.specs.Items.{slots_of}
 use Rattle.version_drafts.specs.Parts.{blocks_of_parts, made_in, part_pairs}
 use Rattle.version_views.specs.Versions.{blocks_of}
 use Rattle.version_views.specs.Writes.{after_writes}
-use Rattle.version_drafts.specs.Placing.{Base, named_among}
+use Rattle.versions.specs.Placing.{Base, named_among}
 use Rattle.version_views.proofs.BlockListLemmas.{blocks_fit}
-use Rattle.version_drafts.proofs.BaseVersionLemmas.{all_takeable, blocks_plain}
-use Rattle.version_drafts.proofs.built.build.Goals as goal
+use Rattle.versions.proofs.BaseVersionLemmas.{all_takeable, blocks_plain}
+use Rattle.versions.proofs.built.build.Goals as goal
 
 pub invariant_of-result : goal.invariant_of-result
 invariant_of-result g c =

@@ -5,13 +5,10 @@ ghost use Rattle.leaf_array.specs.Values.{ClonesAreSame};
 ghost use Rattle.sdd_base.specs.State.{value_at};
 ghost use Rattle.std.specs.List.{All};
 ghost use Rattle.version_views.specs.Items.{slots_of};
-ghost use Rattle.version_drafts.specs.Parts.{made_in};
-ghost use Rattle.version_drafts.specs.Placing.{CanBeShared, IsPlaceable, list_planned, slots_for, named_among};
+ghost use Rattle.versions.specs.Placing.{CanBeShared, IsPlaceable, list_planned, slots_for, named_among};
 ghost use Rattle.version_views.specs.Versions.{IsVersion, list_of, blocks_of};
 ghost use Rattle.version_views.specs.Writes.{after_writes, replies_to};
 
-use crate::draft::{BaseVersion, drafted};
-use crate::segments::{Part, Segments};
 use sdd_base::job::NoJob;
 use sdd_base::owner::Kept;
 use sdd_base::pointer::Loaded;
@@ -19,6 +16,7 @@ use sdd_base::world::World;
 use std::alloc::{AllocError, Global};
 use std::marker::Model;
 use tree_index::TreeIndex;
+use version_drafts::draft::{BaseVersion, Segments, drafted, made_of};
 use version_views::{Directory, Item, Reply, Trees, Write, place_of};
 
 /// A version that isn't placed yet: the number of its list, and its segments, of which some are those of an older version.
@@ -34,11 +32,11 @@ pub struct Built<K: Ord, V, const S: usize> {
 /// Invariant: specs/Built.antt, IsBuilt: the segments are few, those that are new are counted, and there is room for their
 /// owners.
 impl<K: Ord, V, const S: usize> Model for Built<K, V, S> {
-    ghost use Rattle.version_drafts.specs.Placing.{Plan};
+    ghost use Rattle.versions.specs.Placing.{Plan};
 
     ghost Value = { Plan K V S };
 
-    ghost use Rattle.version_drafts.specs.Built.{IsBuilt};
+    ghost use Rattle.versions.specs.Built.{IsBuilt};
 
     ghost view = { λ b. record { number = b.number; parts = b.segments.parts.items; separators = b.segments.separators.items; length = b.segments.length } };
 
@@ -130,20 +128,6 @@ pub fn build<K: Clone + Ord + Drop, V: Clone + Drop, const S: usize>(
     ))
 }
 
-/// How many parts are new.
-pub fn made_of<K: Ord, V, N>(parts: &[Part<K, V, N>]) -> usize
-    ensures count { result ≡ made_in parts.now }
-    ensures few { result ≤ length parts.now }
-{
-    let mut made = 0;
-    for part in parts {
-        if let Part::Made(_) = part {
-            made += 1;
-        }
-    }
-    made
-}
-
 /// A version, and where it is.
 #[derive(Drop)]
 pub(crate) struct Older<'a, K: Ord, V, const S: usize> {
@@ -154,7 +138,7 @@ pub(crate) struct Older<'a, K: Ord, V, const S: usize> {
 /// Invariant: specs/Versions.antt, IsVersion: the directory is a whole version of the place.
 impl<'a, K: Ord, V, const S: usize> Model for Older<'a, K, V, S> {
     ghost use Rattle.sdd_base.specs.State.{value_at};
-    ghost use Rattle.version_drafts.specs.Placing.{Base};
+    ghost use Rattle.versions.specs.Placing.{Base};
     ghost use Rattle.version_views.specs.Versions.{IsVersion};
 
     ghost Value = { Base K V S };
@@ -194,7 +178,7 @@ impl<'a, K: Ord, V, const S: usize> BaseVersion<K, V, Loaded<Item<K, V, S>>>
     }
 
     fn segment(&self, place: usize) -> &TreeIndex<K, V> {
-        self.w.tree(self.dir.owner(place))
+        self.w.table().tree(self.dir.owner(place))
     }
 
     fn separators(&self) -> &[K] {

@@ -3,10 +3,10 @@ use Rattle.std.specs.Prelude.{slice_get}
 use Rattle.sdd_base.specs.State.{value_at}
 use Rattle.sdd_base.specs.Tokens.{loaded_slot}
 use Rattle.version_views.specs.Items.{slots_of}
-use Rattle.version_drafts.specs.Placing.{Base, named_among}
+use Rattle.versions.specs.Placing.{Base, named_among}
 use Rattle.version_views.specs.Versions.{blocks_of}
-use Rattle.version_drafts.proofs.BaseVersionLemmas.{name_is}
-use Rattle.version_drafts.proofs.built.OlderBaseVersionLoadedItem.name.Goals as goal
+use Rattle.versions.proofs.BaseVersionLemmas.{name_is}
+use Rattle.versions.proofs.built.OlderBaseVersionLoadedItem.name.Goals as goal
 
 pub returns : goal.returns
 returns g c =

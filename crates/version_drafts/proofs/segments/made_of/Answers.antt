@@ -1,7 +1,7 @@
 use Rattle.std.proofs.Common.{refl, ap, ◌∙◌, arith}
 use Rattle.std.proofs.lemmas.List.{take_all}
 use Rattle.version_drafts.specs.Parts.{made_in}
-use Rattle.version_drafts.proofs.built.made_of.Goals as goal
+use Rattle.version_drafts.proofs.segments.made_of.Goals as goal
 
 pub loop-part-init : goal.loop-part-init
 loop-part-init g c = record { here = refl; upto = omega arith }

@@ -15,7 +15,7 @@ use Rattle.sdd_base.proofs.ListLemmas.{hit-same, hit-other}
 use Rattle.version_drafts.specs.Cutting.{IsSegmentSized}
 use Rattle.version_views.specs.Items.{slots_of}
 use Rattle.version_drafts.specs.Parts.{blocks_of_parts}
-use Rattle.version_drafts.specs.Placing.{CanBeShared, IsTakeable, in_one_of, pairs_in_slot, named_among, named_at}
+use Rattle.versions.specs.Placing.{CanBeShared, IsTakeable, in_one_of, pairs_in_slot, named_among, named_at}
 use Rattle.version_views.specs.Versions.{IsSegment, blocks_of, segment_pairs}
 use Rattle.version_drafts.specs.declared.segments.Part.{Part}
 use Rattle.version_drafts.specs.declared.segments.Part.TheVariants as parts

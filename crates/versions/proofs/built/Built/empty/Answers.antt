@@ -1,6 +1,6 @@
 use Rattle.std.proofs.Common.{length, ap, sym, arith}
 use Rattle.version_drafts.specs.Parts.{made_in}
-use Rattle.version_drafts.proofs.built.Built.empty.Goals as goal
+use Rattle.versions.proofs.built.Built.empty.Goals as goal
 
 pub invariant_of-result : goal.invariant_of-result
 invariant_of-result g c = record {

@@ -3,12 +3,12 @@ use Rattle.std.specs.Prelude.{slice_get}
 use Rattle.leaf_array.specs.Pairs.{has_key}
 use Rattle.sdd_base.specs.State.{value_at}
 use Rattle.version_views.specs.Cuts.{pairs_in}
-use Rattle.version_drafts.specs.Placing.{Base}
+use Rattle.versions.specs.Placing.{Base}
 use Rattle.version_views.specs.SeparatorSearch.{IsPlaceOf}
 use Rattle.version_views.specs.Versions.{blocks_of}
 use Rattle.version_views.proofs.PlaceLemmas.{around_place, has_around}
 use Rattle.version_views.proofs.SeparatorSearchLemmas.{inside_of}
-use Rattle.version_drafts.proofs.built.OlderBaseVersionLoadedItem.contains.Goals as goal
+use Rattle.versions.proofs.built.OlderBaseVersionLoadedItem.contains.Goals as goal
 
 pub returns : goal.returns
 returns g c =

@@ -1,6 +1,6 @@
 use Rattle.std.proofs.Common.{◌≡◌, ◌≤◌, take}
 use Rattle.version_drafts.specs.Parts.{made_in}
-use Rattle.version_drafts.proofs.built.made_of.Given as goal
+use Rattle.version_drafts.proofs.segments.made_of.Given as goal
 
 abbrev pub invariant-loop-part : goal.invariant-loop-part
 invariant-loop-part g l = record {
