@@ -387,6 +387,17 @@ pub last_value : {T : Type 0} (ys : List (Option T)) (x : Option T) (v : T) → 
 last_value [] x v e = ap is_some e
 last_value (y ∷ ys) x v e = last_value ys x v e
 
+-- a stack that names nothing, and has as much room as before
+pub none_named : {X : Type 0} (f : X → ℕ) (all : List X) (names : List ℕ) (d s : X) → Lists f all names → length names ≡ 0 → f s ≡ 1 → (i : ℕ) → i < length all → get_or all i d ≢ s
+none_named f all names d s h none one i inside = λ same.
+    let part = get_or-le-sum_by f all i d inside in
+    let is : f (get_or all i d) ≡ 1 = ap f same ∙ one in
+    let count = h.count in
+    omega (arith, part, is, count, none)
+
+pub stack_kept : {X : Type 0} (f : X → ℕ) (all : List X) (v w : Vec ℕ) → IsFreeList f all v → v.items ≡ w.items ++ [] → vec_capacity v ≤ vec_capacity w → IsFreeList f all w
+stack_kept f all v w h same cap = record { lists = subst (Lists f all) (same ∙ append-nil w.items) h.lists; room = omega (arith, h.room, cap) }
+
 -- the last name on the stack of free slots
 pub named_slot : {T J : Type 0} (a : Inside T J) (names : List ℕ) (i : ℕ) → IsTable a → a.free.items ≡ names ++ i ∷ [] → (i < length a.states.items) × (get_or a.states.items i status.Free ≡ status.Free)
 named_slot a names i h e =

@@ -7,3 +7,4 @@ pub use Rattle.tree_nodes.proofs.ArenaLemmas
 pub use Rattle.tree_nodes.proofs.RisingLemmas
 pub use Rattle.tree_nodes.proofs.InsertionPointLemmas
 pub use Rattle.tree_nodes.proofs.CopyLemmas
+pub mod ProgressLemmas

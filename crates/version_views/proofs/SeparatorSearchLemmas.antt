@@ -1,5 +1,5 @@
 -- a key is sought in the block that its separators name
-use Rattle.std.proofs.Common.{◌≡◌, ◌≢◌, ℕ, zero, suc, ◌+◌, ◌-◌, ◌<◌, ◌≤◌, Option, None, Some, List, [], ◌∷◌, ◌++◌, length, take, drop, slice_get, refl, sym, ap, ◌∙◌, arith, subst, append_assoc, append-nil, inl, inr, ◌⊎◌}
+use Rattle.std.proofs.Common.{get_or, map, ◌≡◌, ◌≢◌, ℕ, zero, suc, ◌+◌, ◌-◌, ◌<◌, ◌≤◌, Option, None, Some, List, [], ◌∷◌, ◌++◌, length, take, drop, slice_get, refl, sym, ap, ◌∙◌, arith, subst, append_assoc, append-nil, inl, inr, ◌⊎◌}
 use Rattle.std.specs.declared.cmp.Ordering.{Ordering}
 use Rattle.std.specs.declared.cmp.Ordering.TheVariants.{Less, Equal, Greater}
 use Rattle.std.specs.Cmp.{IsTotalOrder}
@@ -33,6 +33,11 @@ pub inside_of : {X : Type 0} (xs : List X) (i : ℕ) (x : X) → slice_get xs i 
 inside_of [] i x e = absurd (cc)
 inside_of (y ∷ xs) zero x e = omega arith
 inside_of (y ∷ xs) (suc i) x e = let r = inside_of xs i x e in omega (arith, r)
+
+pub got_mapped : {X Y : Type 0} (f : X → Y) (xs : List X) (i : ℕ) (d : X) → i < length xs → slice_get (map f xs) i ≡ Some (f (get_or xs i d))
+got_mapped f [] i d h = absurd (omega (arith, h))
+got_mapped f (x ∷ xs) zero d h = refl
+got_mapped f (x ∷ xs) (suc i) d h = got_mapped f xs i d (omega (arith, h))
 
 le_or : (i n : ℕ) → (n ≤ suc i) ⊎ (i + 1 < n)
 le_or i zero = inl (omega arith)

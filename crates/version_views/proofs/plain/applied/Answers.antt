@@ -46,3 +46,16 @@ returns-clause-replies g c =
     let told = c.loop-write.replies.items in
     let all : length c.args.writes.now ≤ c.loop-write.write-index = omega (arith, c.loop-write-test.false) in
     sym (ap (λ ws. told ++ replies_to cmp ws now) (drop_out c.loop-write.write-index c.args.writes.now all) ∙ append-nil told) ∙ c.loop-write.invariant.replies
+
+pub loop-write-init : goal.loop-write-init
+loop-write-init g c =
+    let cmp = g.K.Ord.cmp in
+    let ws = c.args.writes.now in
+    let same = c.in_ok-list.ensures.items_if_clones_equal (λ x y h. ap (λ k. (k, y.1)) (c.requires.keys x.0 y.0 h.0) ∙ ap (λ v. (x.0, v)) (c.requires.values x.1 y.1 h.1)) in
+    record {
+      list = ap (after_writes cmp ws) same;
+      replies = ap (λ rs. rs ++ replies_to cmp ws c.in_ok-list.list.items) c.new-replies.ensures.items ∙ ap (replies_to cmp ws) same;
+    }
+
+pub loop-write-smaller : goal.loop-write-smaller
+loop-write-smaller g c = omega (arith, c.loop-write-test.true)

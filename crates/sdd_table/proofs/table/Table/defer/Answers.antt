@@ -1,7 +1,7 @@
 use Rattle.std.proofs.Common.{◌≡◌, ◌<◌, ◌∙◌, ap, arith, length, length-set, refl, subst}
-use Rattle.sdd_table.specs.State.{State, is_job, status_at, waiting_as, weight}
+use Rattle.sdd_table.specs.State.{State, idleness, is_job, status_at, waiting_as, weight, NoneIdle}
 use Rattle.sdd_table.specs.declared.status.Status.TheVariants as status
-use Rattle.sdd_table.proofs.SlotLemmas.{named_idle, job_room, has_room, known_in, deferred_invariant, deferred_view}
+use Rattle.sdd_table.proofs.SlotLemmas.{named_idle, none_named, stack_kept, job_room, has_room, known_in, deferred_invariant, deferred_view}
 use Rattle.sdd_table.proofs.table.Table.defer.Goals as goal
 
 pub index_mut-requires : goal.index_mut-requires
@@ -41,3 +41,25 @@ returns-clause-deferred g c =
 
 pub index_mut-requires-3 : goal.index_mut-requires-3
 index_mut-requires-3 g c = omega (arith, known_in c.self.inside c.args.self.now _ c.self.view_is c.requires, c.self.inside.participants.ok.0)
+
+pub invariant_of-self : goal.invariant_of-self
+invariant_of-self g c =
+    let a = c.self.inside in
+    let h = c.self.invariant in
+    let e = c.in_default.ensures in
+    record {
+      filled = h.filled;
+      tally = h.tally;
+      room = h.room;
+      waits = h.waits;
+      kinds = h.kinds;
+      slots = h.slots;
+      places = stack_kept idleness a.states.items a.idle c.pop.new.self h.places e.items (omega (arith, e.capacity));
+      cells = h.cells;
+    }
+
+pub returns-in_default-clause-refused : goal.returns-in_default-clause-refused
+returns-in_default-clause-refused g c =
+    let a = c.self.inside in
+    let e = c.in_default.ensures in
+    (refl, c.self.view_is, subst NoneIdle c.self.view_is (none_named idleness a.states.items a.idle.items status.Free status.Idle c.self.invariant.places.lists (omega (arith, e.cases.0, a.idle.ok.0)) refl))

@@ -1,7 +1,7 @@
-use Rattle.std.proofs.Common.{arith, ap, sym, ◌∙◌, ◌≡◌, ◌<◌, length, ℕ, subst, is_some, Option, set}
-use Rattle.sdd_table.specs.State.{State, is_used, status_at, placed}
+use Rattle.std.proofs.Common.{arith, ap, refl, sym, ◌∙◌, ◌≡◌, ◌<◌, length, ℕ, subst, is_some, Option, set}
+use Rattle.sdd_table.specs.State.{State, is_used, status_at, placed, vacancy, NoneFree}
 use Rattle.sdd_table.specs.declared.status.Status.TheVariants as status
-use Rattle.sdd_table.proofs.SlotLemmas.{a_value, named_slot, used_room, placed_invariant, within_values}
+use Rattle.sdd_table.proofs.SlotLemmas.{a_value, named_slot, none_named, stack_kept, used_room, placed_invariant, within_values}
 use Rattle.sdd_table.specs.View.{state_of}
 use Rattle.sdd_table.specs.declared.status.Status.{Status}
 use Rattle.sdd_table.specs.declared.table.Table.TheInside.{Inside}
@@ -43,3 +43,25 @@ returns-clause-placed g c =
     let a = c.self.inside in
     let r = named_slot a c.pop.new.self.items c.in-Some.i c.self.invariant c.in-Some.ensures.items in
     (subst (λ (w : State _). (c.in-Some.i < length w.states) × (status_at w c.in-Some.i ≡ status.Free)) c.self.view_is r, ap (λ (z : Option _). placed_by a c.in-Some.i z c.args.status) c.replace.ensures.after ∙ ap (λ (w : State _). placed c.in-Some.i c.args.value c.args.status w) c.self.view_is)
+
+pub invariant_of-self : goal.invariant_of-self
+invariant_of-self g c =
+    let a = c.self.inside in
+    let h = c.self.invariant in
+    let e = c.in_default.ensures in
+    record {
+      filled = h.filled;
+      tally = h.tally;
+      room = h.room;
+      waits = h.waits;
+      kinds = h.kinds;
+      slots = stack_kept vacancy a.states.items a.free c.pop.new.self h.slots e.items (omega (arith, e.capacity));
+      places = h.places;
+      cells = h.cells;
+    }
+
+pub returns-in_default-clause-refused : goal.returns-in_default-clause-refused
+returns-in_default-clause-refused g c =
+    let a = c.self.inside in
+    let e = c.in_default.ensures in
+    (refl, c.self.view_is, subst NoneFree c.self.view_is (none_named vacancy a.states.items a.free.items status.Free status.Free c.self.invariant.slots.lists (omega (arith, e.cases.0, a.free.ok.0)) refl))
