@@ -25,6 +25,10 @@ pub first_of : {X : Type 0} (xs : List X) → length xs ≡ 7 → (y : X) × (ys
 first_of [] h = absurd (omega (arith, h))
 first_of (y ∷ ys) h = (y, ys, refl)
 
+-- where nothing is behind a write of a value, nothing was before
+pub none_before : {X : Type 0} (s s' : Slab X) (at other : ℕ) (x : X) → Updates s s' at (Some x) → None ≡ get s' other → None ≡ get s other
+none_before s s' at other x u none = none ∙ u.others other (λ e. let h : None ≡ Some x = none ∙ ap (get s') e ∙ u.changed in cc)
+
 module _ {K V : Type 0} (cmp : K → K → Ordering) (o : IsTotalOrder cmp) (key : K) (a : Arenas K V) (s : IsSound cmp a) (left : ℕ) (least : 0 < left) (most : left < a.height)
     (above at : ℕ) (on_above : above ≡ way cmp (content_of a) key (a.height - (left + 1)) a.root) (on_child : at ≡ way cmp (content_of a) key (a.height - left) a.root)
     (whole up low : InnerNode K) (here : get a.nodes at ≡ Some whole) (sep : K)

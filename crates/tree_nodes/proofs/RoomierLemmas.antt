@@ -1,5 +1,6 @@
--- Arenas with other room, and what splits of their nodes leave of a leaf.
-use Rattle.std.proofs.Common.{◌≡◌, ℕ, List, Option, refl, sym, ap, ◌∙◌, subst}
+-- Arenas with other room, leaves with few pairs or many, and what splits of their nodes leave of a leaf.
+use Rattle.std.proofs.Common.{◌≡◌, ◌≤◌, ◌<◌, ℕ, true, false, not, nat_lt, List, Option, refl, sym, ap, ◌∙◌, subst, arith}
+use Rattle.std.proofs.lemmas.Bool.Decides.{nat_tests}
 use Rattle.std.specs.declared.cmp.Ordering.{Ordering}
 use Rattle.slab.specs.Slab.{Slab, get}
 use Rattle.tree_nodes.specs.declared.leaf.Leaf.{Leaf}
@@ -8,6 +9,13 @@ use Rattle.tree_nodes.specs.declared.node.InnerNode.{InnerNode}
 use Rattle.tree_nodes.specs.declared.arenas.Arenas.{Arenas}
 use Rattle.tree_nodes.specs.Shape.{way}
 use Rattle.tree_nodes.specs.Content.{content_of, leaf_on_way, IsSplitPointThere}
+
+-- fewer than so many, or as many
+pub sparse_are_fewer : (n most : ℕ) → not (nat_lt n most) ≡ false → n < most
+sparse_are_fewer n most h = grind (arith, nat_tests)
+
+pub crowded_are_as_many : (n most : ℕ) → not (nat_lt n most) ≡ true → most ≤ n
+crowded_are_as_many n most h = grind (arith, nat_tests)
 
 module _ {K V : Type 0} (cmp : K → K → Ordering) (a : Arenas K V) (leaves : Slab (Leaf K V)) (nodes : Slab (InnerNode K)) (e : leaves.slots ≡ a.leaves.slots) (f : nodes.slots ≡ a.nodes.slots) (key : K) where
   abbrev roomier : List (Option (Leaf K V)) → List (Option (InnerNode K)) → Arenas K V

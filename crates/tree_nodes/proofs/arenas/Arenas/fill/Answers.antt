@@ -1,4 +1,5 @@
-use Rattle.std.proofs.Common.{◌≡◌, ◌+◌, take, sym, ap, ◌∙◌, subst, arith}
+use Rattle.std.proofs.lemmas.Result.{IfOk-from_err}
+use Rattle.std.proofs.Common.{◌≡◌, ◌≤◌, ◌+◌, take, sym, ap, ◌∙◌, subst, arith}
 use Rattle.tree_nodes.specs.Content.{pairs_of}
 use Rattle.tree_nodes.specs.Copy.{place, IsPositionOrEnd, IsCopied}
 use Rattle.tree_nodes.specs.Depth.{IsAbove}
@@ -63,3 +64,42 @@ pub pair-requires : goal.pair-requires
 pair-requires g c =
     let spot : IsPosition c.args.source.now c.in-Some-next.spot = subst (IsPositionOrEnd c.args.source.now) c.in-Some-next.is c.loop-open.invariant.copied.spot in
     spot.within
+
+pub open_leaf-requires : goal.open_leaf-requires
+open_leaf-requires g c = c.requires.copied.sound
+
+pub returns-in_default-clause-copied : goal.returns-in_default-clause-copied
+returns-in_default-clause-copied g c = c.requires.copied
+
+pub returns-in_default-clause-further : goal.returns-in_default-clause-further
+returns-in_default-clause-further g c = omega arith
+
+pub returns-in_default-next-clause-further : goal.returns-in_default-next-clause-further
+returns-in_default-next-clause-further g c = subst (λ r. place c.args.source.now c.args.from ≤ place c.args.source.now r) c.in_default-next.is c.loop-open.invariant.further
+
+pub returns-in_err-clone-clause-copied : goal.returns-in_err-clone-clause-copied
+returns-in_err-clone-clause-copied g c = IfOk-from_err c.from_residual.result _ c.from_residual.ensures.0
+
+pub returns-in_err-clone-clause-further : goal.returns-in_err-clone-clause-further
+returns-in_err-clone-clause-further g c = IfOk-from_err c.from_residual.result _ c.from_residual.ensures.0
+
+pub returns-in_err-clone-2-clause-copied : goal.returns-in_err-clone-2-clause-copied
+returns-in_err-clone-2-clause-copied g c = IfOk-from_err c.from_residual-in_err-clone-2.result _ c.from_residual-in_err-clone-2.ensures.0
+
+pub returns-in_err-clone-2-clause-further : goal.returns-in_err-clone-2-clause-further
+returns-in_err-clone-2-clause-further g c = IfOk-from_err c.from_residual-in_err-clone-2.result _ c.from_residual-in_err-clone-2.ensures.0
+
+pub push_at-open-requires-clause-sound : goal.push_at-open-requires-clause-sound
+push_at-open-requires-clause-sound g c = c.loop-open.invariant.copied.sound
+
+pub push_at-open-requires-clause-countable : goal.push_at-open-requires-clause-countable
+push_at-open-requires-clause-countable g c = c.loop-open.invariant.countable c.loop-open-test.true
+
+pub push_at-open-requires-clause-open : goal.push_at-open-requires-clause-open
+push_at-open-requires-clause-open g c = c.loop-open.invariant.room c.loop-open-test.true
+
+pub behind-next-requires-clause-sound : goal.behind-next-requires-clause-sound
+behind-next-requires-clause-sound g c = c.requires.source
+
+pub returns-clause-further : goal.returns-clause-further
+returns-clause-further g c = c.loop-open.invariant.further

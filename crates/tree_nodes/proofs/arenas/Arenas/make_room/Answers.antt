@@ -1,13 +1,14 @@
 use Rattle.std.proofs.Common.{◌≡◌, ◌-◌, ◌≤◌, ◌<◌, sym, ap, ◌∙◌, refl, subst, arith}
-use Rattle.slab.specs.Slab.{HasRoomFor, Slab}
+use Rattle.std.proofs.lemmas.Option.{IfSome_then}
+use Rattle.slab.specs.Slab.{get, HasRoomFor, Slab}
 use Rattle.tree_nodes.specs.declared.leaf.Leaf.{Leaf}
 use Rattle.tree_nodes.specs.declared.node.InnerNode.{InnerNode}
 use Rattle.tree_nodes.proofs.NodeLemmas.{roomier_sound, roomier_ascents, roomier_pairs, roomier_full}
 use Rattle.tree_nodes.specs.declared.arenas.Arenas.{Arenas}
-use Rattle.tree_nodes.specs.Content.{pairs_of, IsLeafFull}
+use Rattle.tree_nodes.specs.Content.{pairs_of, IsLeafFull, leaf_on_way}
 use Rattle.tree_nodes.specs.Depth.{IsAbove, ascending_headroom}
 use Rattle.tree_nodes.proofs.DepthLemmas.{flat_node, on_err, on_ok}
-use Rattle.tree_nodes.proofs.RoomierLemmas.{roomier_split, roomier_way}
+use Rattle.tree_nodes.proofs.RoomierLemmas.{crowded_are_as_many, sparse_are_fewer, roomier_split, roomier_way}
 use Rattle.tree_nodes.proofs.arenas.Arenas.make_room.Goals as goal
 
 pub returns-in_err-reserve-clause-sound : goal.returns-in_err-reserve-clause-sound
@@ -86,3 +87,15 @@ split_leaf-requires-clause-parent g c = c.split_nodes-above.ensures.room
 
 pub split_leaf-requires-clause-lowest : goal.split_leaf-requires-clause-lowest
 split_leaf-requires-clause-lowest g c = c.split_nodes-above.ensures.lowest
+
+pub pack-requires-clause-sparse : goal.pack-requires-clause-sparse
+pack-requires-clause-sparse g c = IfSome_then (get c.args.self.now.leaves (leaf_on_way g.K.Ord.cmp c.args.key.now c.args.self.now)) c.is_crowded.ensures.crowded (λ l e. sparse_are_fewer _ 12 (sym e ∙ c.if-not-is_crowded.true))
+
+pub split_point-requires-clause-crowded : goal.split_point-requires-clause-crowded
+split_point-requires-clause-crowded g c = IfSome_then (get c.args.self.now.leaves (leaf_on_way g.K.Ord.cmp c.args.key.now c.args.self.now)) c.is_crowded.ensures.crowded (λ l e. crowded_are_as_many _ 12 (sym e ∙ c.if-not-is_crowded.false))
+
+pub split_nodes-above-requires-clause-short : goal.split_nodes-above-requires-clause-short
+split_nodes-above-requires-clause-short g c = c.in-Some.ensures.0
+
+pub split_nodes-above-requires-clause-nodes : goal.split_nodes-above-requires-clause-nodes
+split_nodes-above-requires-clause-nodes g c = subst (HasRoomFor c.reserve-2.new.self) c.in-Some.ensures.1 c.in_ok-reserve-2.ensures.room
