@@ -86,7 +86,7 @@ impl<T, J: Deferred> World<T, J> {
         Ok(())
     }
 
-    /// The table of the place, for who only reads items.
+    /// The table of the place, for callers that only read items.
     pub fn table(&self) -> &Table<T, J>
         ensures { result.now ≡ self.now }
     {

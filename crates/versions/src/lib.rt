@@ -16,7 +16,7 @@
 //! ```
 //!
 //! What reads a version is a [`VersionView`], whatever lends its segments ([`Trees`]). A [`LocalStore`] keeps a root, readers
-//! and the writer of versions in a place of one thread: `read/` reads, `building/` builds and places, `store/` keeps.
+//! and the writer of versions in a place of one thread: `reads` reads, `built` and `placing` build and place, `store` keeps.
 #![tactic(auto)]
 
 mod built;
