@@ -21,10 +21,11 @@ use Rattle.domain_table.specs.Layout.{cell_word, all_homes, packed}
 use Rattle.domain_table.specs.Items.{code, Owns}
 use Rattle.domain_table.specs.Owners.{item_of, slot_code, part_of, besides}
 use Rattle.domain_table.specs.Rule.{Shows}
-use Rattle.domain_table.specs.Plays.{own_spare, Brings, GetsBack, swap_then, exchange_then}
+use Rattle.domain_table.specs.Plays.{own_spare, with_step, Brings, GetsBack, swap_then, exchange_then}
 use Rattle.domain_table.specs.declared.board.Acting.{Acting}
 use Rattle.domain_table.specs.declared.board.Plan.{Plan}
 use Rattle.domain_table.proofs.Loads.{loads}
+use Rattle.domain_table.proofs.Telling.{tells_step}
 use Rattle.domain_table.proofs.Swaps.{part_there, shown_swap}
 
 -- the word tells whether an owner is brought, so it is told which are left in the hand
@@ -97,12 +98,19 @@ module _ (S : Type 0) (IsIn : Content → S → Type 0) (plan : Plan) where
         (y, omega arith, (old, (let was = r.items.cell_words c (item_of old) (subst (At (names_of r.state.cells) c) h.1.0 (at_map (λ (z : Cell). z.names) r.state.cells c o at_c)) in (was.0, was.1, was.2 ∙ ap (packed y was.0) h.1.3)), (f.0, f.2, refl))),
       )
 
-  pub swaps : (slots id c value : ℕ) (me : Me S Acting) (new : Option Owner) (os : List Owner) (tail : List (ℕ × S)) → me.0.kind ≡ 1 → is_ready me.0.known ≡ true → me.0.releasing ≡ 0 → c < plan.sizes.cells → plan.sizes.cells + plan.sizes.participants ≤ 2 ^ 31 → Brings IsIn me new os value tail
-      → Allows (Shows IsIn plan) slots id me (cell_word plan.sizes c) (λ _. value) (swap_then IsIn (step slots (cell_word plan.sizes c) value 0 none) me)
-  swaps slots id c value me new os tail kind ready idle lc small brings s r _ at _ = let d = me.0 in let w : ℕ = cell_word plan.sizes c in let u = brings.2.0 in let many = r.items.many in let o = find_at r.state.cells c (omega arith) in
+  abbrev Swaps : Me S Acting → ℕ → ℕ → Me S Acting → Type 0
+  Swaps m value k m' = (new : Option Owner) (os : List Owner) (tail : List (ℕ × S)) → Brings IsIn m new os value tail → GetsBack IsIn m os k tail m'
+
+  plainly : (slots id c value : ℕ) (me : Me S Acting) (new : Option Owner) (os : List Owner) (tail : List (ℕ × S)) → me.0.kind ≡ 1 → is_ready me.0.known ≡ true → me.0.releasing ≡ 0 → c < plan.sizes.cells → plan.sizes.cells + plan.sizes.participants ≤ 2 ^ 31 → Brings IsIn me new os value tail
+      → Allows (Shows IsIn plan) slots id me (cell_word plan.sizes c) (λ _. value) (Swaps me value)
+  plainly slots id c value me new os tail kind ready idle lc small brings s r _ at _ = let d = me.0 in let w : ℕ = cell_word plan.sizes c in let u = brings.2.0 in let many = r.items.many in let o = find_at r.state.cells c (omega arith) in
       let t = subst (λ (z : ℕ × List (ℕ × S)). (v : Acting) × (act : Act S) × table.Valid s.homes z.1 act × Shows IsIn plan (stepped s w z.0 id z.1 v act) × GetsBack IsIn (d, z.1) os (get_or s.words w 0) tail (v, table.carried_after z.1 act)) (λ j. (sym brings.1.2 j, sym brings.2.2 j))
       (swapped s r id c d at kind o.0 o.1 ready idle lc small brings.1.0 brings.1.1 new os brings.0 u brings.2.1 tail) in
       (t.0, t.1, t.2, t.3, λ new' os' tail' brings'. one_way me (t.0, table.carried_after me.1 t.1) new new' os os' value (get_or s.words w 0) tail tail' brings brings' t.4)
+
+  pub swaps : (slots id c value : ℕ) (me : Me S Acting) (new : Option Owner) (os : List Owner) (tail : List (ℕ × S)) → me.0.kind ≡ 1 → is_ready me.0.known ≡ true → me.0.releasing ≡ 0 → c < plan.sizes.cells → plan.sizes.cells + plan.sizes.participants ≤ 2 ^ 31 → Brings IsIn me new os value tail
+      → Allows (Shows IsIn plan) slots id me (cell_word plan.sizes c) (λ _. value) (swap_then IsIn (step slots (cell_word plan.sizes c) value 0 none) me)
+  swaps slots id c value me new os tail kind ready idle lc small brings = let w : ℕ = cell_word plan.sizes c in tells_step S IsIn plan slots id w me (λ _. value) (λ k. Swaps (with_step w k value me) value) kind (λ k. plainly slots id c value (with_step w k value me) new os tail kind ready idle lc small brings)
 
   -- a compare and exchange is a swap where it hits, and a load where it misses
   pub exchanges : (slots id c old value : ℕ) (me : Me S Acting) (new : Option Owner) (os : List Owner) (tail : List (ℕ × S)) → me.0.kind ≡ 1 → is_ready me.0.known ≡ true → is_inside me.0.known ≡ true → me.0.releasing ≡ 0 → c < plan.sizes.cells → plan.sizes.cells + plan.sizes.participants ≤ 2 ^ 31 → Brings IsIn me new os value tail

@@ -32,6 +32,7 @@ pub mod Bagging
 pub mod Fills
 pub mod Claims
 pub mod Placings
+pub mod Telling
 pub mod Told
 pub mod PlacedLemmas
 pub mod Fronts

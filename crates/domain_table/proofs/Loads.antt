@@ -34,12 +34,13 @@ use Rattle.sdd_homes.proofs.HandLemmas.{owned_some, mine_some}
 use Rattle.sdd_homes.proofs.Leases.{has_lends, lends_or}
 use Rattle.sdd_homes.proofs.LyingLemmas.{takes_low}
 use Rattle.sdd_homes.proofs.PartLemmas as parts
-use Rattle.domain_table.specs.Layout.{cell_word}
+use Rattle.domain_table.specs.Layout.{cell_word, Tells}
 use Rattle.domain_table.specs.Items.{Grip, owners_in_hand}
 use Rattle.domain_table.specs.Rule.{Shows}
-use Rattle.domain_table.specs.Plays.{loading, own_home, IsLeased, HasLeasedAt, load_then, load_own_then}
+use Rattle.domain_table.specs.Plays.{loading, own_home, IsLeased, HasLeasedAt, HasLoaded, with_step, read_cell_then, load_then, load_own_then}
 use Rattle.domain_table.specs.declared.board.Acting.{Acting}
 use Rattle.domain_table.specs.declared.board.Plan.{Plan}
+use Rattle.domain_table.proofs.Telling.{tells_step}
 use Rattle.domain_table.proofs.Taken as taken
 use Rattle.domain_table.proofs.Taken.{and_true, or_left}
 use Rattle.domain_table.proofs.Moves.{Moves, moved, own_load, reads_only, own_inside, idles}
@@ -214,16 +215,26 @@ module _ (S : Type 0) (IsIn : Content → S → Type 0) (plan : Plan) where
         ))
         (lends_or d.leases k)
 
-  pub loads : (slots id c : ℕ) (me : Me S Acting) → me.0.kind ≡ 1 → is_inside me.0.known ≡ true → c < plan.sizes.cells → plan.sizes.cells + n ≤ 2 ^ 31
-      → Allows (Shows IsIn plan) slots id me (cell_word plan.sizes c) (λ w. w) (load_then IsIn (step slots (cell_word plan.sizes c) 0 0 none) me)
-  loads slots id c me kind inside lc small s r _ at _ = let d = me.0 in let w : ℕ = cell_word plan.sizes c in let many = r.items.many in let o = find_at r.state.cells c (omega arith) in let y : ℕ = r.book.spare c in let ly = r.items.spares.range c (omega arith) in
+  plainly : (slots id c : ℕ) (me : Me S Acting) → me.0.kind ≡ 1 → is_inside me.0.known ≡ true → c < plan.sizes.cells → plan.sizes.cells + n ≤ 2 ^ 31
+      → Allows (Shows IsIn plan) slots id me (cell_word plan.sizes c) (λ w. w) (HasLoaded IsIn me)
+  plainly slots id c me kind inside lc small s r _ at _ = let d = me.0 in let w : ℕ = cell_word plan.sizes c in let many = r.items.many in let o = find_at r.state.cells c (omega arith) in let y : ℕ = r.book.spare c in let ly = r.items.spares.range c (omega arith) in
       let named_at : (x : Option ℕ) → (o.0).names ≡ x → At (names_of r.state.cells) c x = (λ x e. subst (At (names_of r.state.cells) c) e (at_map (λ (z : Cell). z.names) r.state.cells c o.0 o.1)) in
-      (elim (o.0).names as (λ x. (o.0).names ≡ x → (v : Acting) × (act : Act S) × table.Valid s.homes me.1 act × Shows IsIn plan (stepped s w (get_or s.words w 0) id me.1 v act) × load_then IsIn (step slots w 0 0 none) me (get_or s.words w 0) (v, table.carried_after me.1 act)) [
+      (elim (o.0).names as (λ x. (o.0).names ≡ x → (v : Acting) × (act : Act S) × table.Valid s.homes me.1 act × Shows IsIn plan (stepped s w (get_or s.words w 0) id me.1 v act) × HasLoaded IsIn me (get_or s.words w 0) (v, table.carried_after me.1 act)) [
         | None ↦ λ e. (d, keeps, tt, idles S IsIn plan s r w id d at, (y, omega arith, inl (r.items.cell_words c None (named_at None e), refl)))
         | Some i ↦ λ e. let word = r.items.cell_words c (Some i) (named_at (Some i) e) in let seat = (r.epochs.seats id d at kind).is in
             let t = told s r id i d at kind inside (named_there r.state r.kept.0 r.kept.1.0 r.kept.1.1 r.kept.1.2 c o.0 i o.1 e) (LoadCell d.number c) (loads_cell r.state d.number c i d.known seat inside o.0 o.1 (r.items.alone c o.0 o.1) e) w me.1 in
             (t.0, t.1, t.2, t.3, (y, omega arith, inr (r.book.slot_of i, word, t.4)))
       ]) refl
+
+  pub reads : (slots id c : ℕ) (me : Me S Acting) → me.0.kind ≡ 1 → c < plan.sizes.cells → plan.sizes.cells + n ≤ 2 ^ 31
+      → Allows (Shows IsIn plan) slots id me (cell_word plan.sizes c) (λ w. w) (read_cell_then (step slots (cell_word plan.sizes c) 0 0 none) me)
+  reads slots id c me kind lc small = let w : ℕ = cell_word plan.sizes c in tells_step S IsIn plan slots id w me (λ k. k) (λ k v m'. (y : ℕ) × (z : ℕ) × (y < 2 ^ 31) × Tells v y z × (m' ≡ with_step w k k me)) kind
+      (λ k s r _ at _. let many = r.items.many in let o = find_at r.state.cells c (omega arith) in let y : ℕ = r.book.spare c in let ly = r.items.spares.range c (omega arith) in let named = (o.0).names in
+      ((with_step w k k me).0, keeps, tt, idles S IsIn plan s r w id (with_step w k k me).0 at, (y, Rattle.domain_table.specs.Items.code r.book.slot_of named, omega arith, r.items.cell_words c named (at_map (λ (z : Cell). z.names) r.state.cells c o.0 o.1), refl)))
+
+  pub loads : (slots id c : ℕ) (me : Me S Acting) → me.0.kind ≡ 1 → is_inside me.0.known ≡ true → c < plan.sizes.cells → plan.sizes.cells + n ≤ 2 ^ 31
+      → Allows (Shows IsIn plan) slots id me (cell_word plan.sizes c) (λ w. w) (load_then IsIn (step slots (cell_word plan.sizes c) 0 0 none) me)
+  loads slots id c me kind inside lc small = let w : ℕ = cell_word plan.sizes c in tells_step S IsIn plan slots id w me (λ k. k) (λ k. HasLoaded IsIn (with_step w k k me)) kind (λ k. plainly slots id c (with_step w k k me) kind inside lc small)
 
   pub loads_own : (slots id w : ℕ) (me : Me S Acting) (o : Owner) (os : List Owner) → me.0.kind ≡ 1 → is_inside me.0.known ≡ true → me.0.hand ≡ o ∷ os → Allows (Shows IsIn plan) slots id me w (λ k. k) (load_own_then IsIn (step slots w 0 0 none) me)
   loads_own slots id w me o os kind inside first s r _ at _ = let d = me.0 in let in_hand = subst (λ (ls : List Owner). Has ls o) (sym first) (inl refl) in let own = r.items.owners id d o at in_hand in let it : Item = own.0 in

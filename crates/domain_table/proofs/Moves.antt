@@ -50,7 +50,7 @@ module _ (state core : steps.State) (d d' : Acting) where
     pub cells : core.cells ≡ state.cells
     pub stirred : Stirred state.items core.items
     pub loads : (d.leases ≡ []) ⊎ ((i : ℕ) → Loads state d.number i → Loads core d.number i)
-    pub same : d' ≡ record d { known = d'.known; born = d'.born; scan = d'.scan; waits = d'.waits }
+    pub same : d' ≡ record d { known = d'.known; born = d'.born; scan = d'.scan; waits = d'.waits; cell_steps = d'.cell_steps }
     pub distinct : Distinct d.waits → Distinct d'.waits
     pub waits_mine : (slot_of : ℕ → ℕ) (w : Garbage) → ((v : Garbage) → Has d.waits v → IsWaiting state.items slot_of d.number v) → Has d'.waits w → IsWaiting core.items slot_of d.number w
     pub waits_others : (slot_of : ℕ → ℕ) (q : ℕ) (w : Garbage) → q ≢ d.number → IsWaiting state.items slot_of q w → IsWaiting core.items slot_of q w

@@ -4,6 +4,7 @@ use mathlib.Core.Logic.{dite}
 use native.Mathlib.Decide.{ℕ_discrete}
 use prog.Atomic.{either}
 use mathlib.Core.Option.{none}
+use Rattle.atomic_table.specs.Table as table
 use Rattle.atomic_table.specs.Table.{State, Me, step, keeps, stepped, Allows}
 use Rattle.atomic_table.proofs.Lists.{set_again}
 use Rattle.sdd_steps.specs.State.{At}
@@ -13,10 +14,11 @@ use Rattle.sdd_homes.specs.Book.{Content}
 use Rattle.domain_table.specs.Layout.{cell_word, slot_word, claim_word, state_word, packed, Tells, AreAlike}
 use Rattle.domain_table.specs.Items.{code, Items}
 use Rattle.domain_table.specs.Rule.{Epochs, Shows}
-use Rattle.domain_table.specs.Plays.{still_then}
+use Rattle.domain_table.specs.Plays.{with_step, retag_then}
 use Rattle.domain_table.specs.declared.board.Acting.{Acting}
 use Rattle.domain_table.specs.declared.board.Plan.{Plan}
 use Rattle.domain_table.proofs.Moves.{idles}
+use Rattle.domain_table.proofs.Telling.{tells_step}
 use Rattle.domain_table.proofs.Stirred.{rests_on}
 
 module _ (S : Type 0) (IsIn : Content → S → Type 0) (plan : Plan) where
@@ -98,9 +100,9 @@ module _ (S : Type 0) (IsIn : Content → S → Type 0) (plan : Plan) where
     }
 
   -- a cell with the word given gets one that is like it; another one stays as it is
-  pub retags : (slots id c old value : ℕ) (me : Me S Acting) → c < plan.sizes.cells → plan.sizes.cells + plan.sizes.participants ≤ 2 ^ 31 → AreAlike old value
-      → Allows (Shows IsIn plan) slots id me (cell_word plan.sizes c) (λ k. either (eqb k old) value k) (still_then (step slots (cell_word plan.sizes c) old value none) me)
-  retags slots id c old value me lc small alike s r _ at _ = let w : ℕ = cell_word plan.sizes c in let k : ℕ = get_or s.words w 0 in let d = me.0 in dite (ℕ_discrete k old)
+  plainly : (slots id c old value : ℕ) (me : Me S Acting) → c < plan.sizes.cells → plan.sizes.cells + plan.sizes.participants ≤ 2 ^ 31 → AreAlike old value
+      → Allows (Shows IsIn plan) slots id me (cell_word plan.sizes c) (λ k. either (eqb k old) value k) (λ _ m'. m' ≡ me)
+  plainly slots id c old value me lc small alike s r _ at _ = let w : ℕ = cell_word plan.sizes c in let k : ℕ = get_or s.words w 0 in let d = me.0 in dite (ℕ_discrete k old)
       (λ hit. (
         d,
         keeps,
@@ -110,3 +112,12 @@ module _ (S : Type 0) (IsIn : Content → S → Type 0) (plan : Plan) where
         refl,
       ))
       (λ miss. (d, keeps, tt, subst (λ h. Shows IsIn plan (stepped s w (either h value k) id me.1 d keeps)) (sym (ne_eqb k old miss)) (idles S IsIn plan s r w id d at), refl))
+
+  -- and the step is told
+  pub retags : (slots id c old value : ℕ) (me : Me S Acting) → me.0.kind ≡ 1 → c < plan.sizes.cells → plan.sizes.cells + plan.sizes.participants ≤ 2 ^ 31 → AreAlike old value
+      → Allows (Shows IsIn plan) slots id me (cell_word plan.sizes c) (λ k. either (eqb k old) value k) (retag_then (step slots (cell_word plan.sizes c) old value none) me)
+  retags slots id c old value me kind lc small alike s r long at fits = let w : ℕ = cell_word plan.sizes c in let k : ℕ = get_or s.words w 0 in
+      let t = tells_step S IsIn plan slots id w me (λ n. either (eqb n old) value n) (λ n _ m'. m' ≡ with_step w n (either (eqb n old) value n) me) kind
+      (λ n. plainly slots id c old value (with_step w n (either (eqb n old) value n) me) lc small alike) s r long at fits in
+      let after : Me S Acting = (t.0, table.carried_after me.1 t.1) in
+      (t.0, t.1, t.2, t.3, (λ hit. subst (λ h. after ≡ with_step w k (either h value k) me) (eq-eqb k old hit) t.4, λ miss. subst (λ h. after ≡ with_step w k (either h value k) me) (ne_eqb k old miss) t.4))

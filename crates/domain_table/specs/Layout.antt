@@ -58,6 +58,10 @@ packed y t k = y + 2 ^ 31 * (t + 4 * k)
 abbrev pub Tells : ℕ → ℕ → ℕ → Type 0
 Tells w y k = (t : ℕ) × (t < 4) × (w ≡ packed y t k)
 
+-- the word of a cell has this tag, and names what this code tells
+abbrev pub NamesWith : ℕ → ℕ → ℕ → Type 0
+NamesWith w t k = (y : ℕ) × (y < 2 ^ 31) × (t < 4) × (w ≡ packed y t k)
+
 -- two words of a cell that differ in the tag alone
 abbrev pub AreAlike : ℕ → ℕ → Type 0
 AreAlike v w = (y : ℕ) × (t : ℕ) × (u : ℕ) × (k : ℕ) × (y < 2 ^ 31) × (t < 4) × (u < 4) × (v ≡ packed y t k) × (w ≡ packed y u k)

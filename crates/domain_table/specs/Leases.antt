@@ -1,5 +1,5 @@
 -- what a participant has leased, as its rows tell
-use Rattle.std.specs.Prelude.{◌≡◌, ℕ, suc, ◌<◌, ◌≤◌, ◌^◌, ◌++◌, Bool, true, false, ◌==◌, ◌&&◌, List, [], ◌∷◌, map, nat_lt, Option, None, Some}
+use Rattle.std.specs.Prelude.{◌≡◌, ℕ, suc, ◌+◌, slice_index_or, ◌<◌, ◌≤◌, ◌^◌, ◌++◌, Bool, true, false, ◌==◌, ◌&&◌, List, [], ◌∷◌, map, nat_lt, Option, None, Some}
 use Rattle.parted.specs.declared.life.Life.{Life}
 use Rattle.sdd_homes.specs.declared.Lease.{Lease}
 use Rattle.atomic_table.specs.Table.{Me}
@@ -13,6 +13,7 @@ use Rattle.sdd_homes.specs.declared.Garbage.{Garbage}
 use Rattle.sdd_homes.specs.Book.{Apart}
 use Rattle.domain_table.specs.Contents.{IsIn, blanks}
 use Rattle.domain_table.specs.Plays.{HasLeasedAt, HasLoaded, own_home, HasRoom, releasing_one}
+use Rattle.domain_table.specs.Layout.{packed}
 use Rattle.domain_table.specs.declared.board.Acting.{Acting}
 use Rattle.domain_table.specs.declared.board.Home.{Home}
 use Rattle.domain_table.specs.declared.board.Home.TheVariants.{Blank}
@@ -125,3 +126,17 @@ CanExchange p spare d = (d.kind ≡ 1) × (d.number ≡ p) × (is_ready d.known 
 -- the seat acts for p, which has nothing leased and releases nothing, and may make steps on items
 abbrev pub IsAtRest : ℕ → Acting → Type 0
 IsAtRest p d = (d.kind ≡ 1) × (d.number ≡ p) × (is_ready d.known ≡ true) × (d.releasing ≡ 0) × (d.leases ≡ [])
+
+-- the code of what a row is of, or that of nothing
+abbrev pub HasCode : {T : Type 0} → List (Row T) → Option ℕ → ℕ → Type 0
+HasCode rows None k = k ≡ 0
+HasCode {T} rows (Some at) k = (d : Row T) → (slice_index_or rows at d).slot + 1 ≡ k
+
+-- the word was found with this tag, and names what this row is of
+abbrev pub IsFoundAs : {T : Type 0} → ℕ → ℕ → List (Row T) → Option ℕ → Type 0
+IsFoundAs w t rows at = (y : ℕ) × (c : ℕ) × (y < 2 ^ 31) × (t < 4) × (w ≡ packed y t c) × HasCode rows at c
+
+-- the code of a slot that may be told
+abbrev pub code_told : {X : Type 0} → Option (ℕ × X) → ℕ
+code_told None = 0
+code_told (Some t) = t.0 + 1

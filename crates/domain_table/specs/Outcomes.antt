@@ -13,7 +13,7 @@ use Rattle.sdd_homes.specs.Book.{Content, part, home, deed, bag}
 use Rattle.domain_table.specs.Contents.{blanks, garbage_slots, is_blank}
 use Rattle.domain_table.specs.Owners.{told, besides}
 use Rattle.domain_table.specs.Leases.{leased_homes, has_all, HasEmptied}
-use Rattle.domain_table.specs.Plays.{owning, own_spare, own_bag, Brings, GetsBack, CanKeep, CanEnd, ended_release, Refilled, CanFill, CanEmpty, filling_at, next_filled, gathered, emptying, reclaiming, deed_home}
+use Rattle.domain_table.specs.Plays.{with_step, owning, own_spare, own_bag, Brings, GetsBack, CanKeep, CanEnd, ended_release, Refilled, CanFill, CanEmpty, filling_at, next_filled, gathered, emptying, reclaiming, deed_home}
 use Rattle.domain_table.specs.Views.{publishing, rotated}
 use Rattle.domain_table.specs.declared.board.Acting.{Acting}
 use Rattle.domain_table.specs.declared.board.Home.{Home}
@@ -44,9 +44,9 @@ module _ {T : Type 0} (IsIn : Content → Home T → Type 0) where
   abbrev pub RefillsAll : Me (Home T) Acting → Me (Home T) Acting → Type 0
   RefillsAll m after = (xs : List (ℕ × Home T)) × Refilled IsIn m.0 m.0.leases xs [] × (after ≡ (m.0, drop (length m.0.leases) m.1 ++ xs))
 
-  -- what the seat brought for this word is exchanged for what the found word names
-  abbrev pub Exchanges : Me (Home T) Acting → ℕ → ℕ → Me (Home T) Acting → Type 0
-  Exchanges m word found after = (new : Option Owner) (os : List Owner) (tail : List (ℕ × Home T)) → Brings IsIn m new os word tail → GetsBack IsIn m os found tail after
+  -- what the seat brought for this word is exchanged for what the found word names, and the step is told
+  abbrev pub Exchanges : ℕ → Me (Home T) Acting → ℕ → ℕ → Me (Home T) Acting → Type 0
+  Exchanges at m word found after = (new : Option Owner) (os : List Owner) (tail : List (ℕ × Home T)) → Brings IsIn m new os word tail → GetsBack IsIn (with_step at found word m) os found tail after
 
   -- the parts of what is cloned go home, and no release is under way
   abbrev pub KeepsLease : Me (Home T) Acting → Me (Home T) Acting → Type 0

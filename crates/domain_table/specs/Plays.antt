@@ -18,6 +18,11 @@ use Rattle.domain_table.specs.Views.{spent, gathering, registered, reading, rere
 use Rattle.domain_table.specs.Layout.{state_word, claim_word, slot_word, all_homes, bag_place, Tells, shown}
 use Rattle.domain_table.specs.Owners.{slot_code, part_of, besides}
 use Rattle.domain_table.specs.declared.board.Acting.{Acting}
+use Rattle.domain_table.specs.declared.board.CellStep.{CellStep}
+
+-- the seat's step is told: on which word it was, what it found there, and what it left
+abbrev pub with_step : {S : Type 0} → ℕ → ℕ → ℕ → Me S Acting → Me S Acting
+with_step i found left m = (record m.0 { cell_steps = m.0.cell_steps ++ record { word = i; found = found; left = left } ∷ [] }, m.1)
 
 module _ {S : Type 0} where
   -- the count is read
@@ -71,6 +76,7 @@ learn_then Announces t m n m' = (m' ≡ m) × ((x : _) (z : Sizes) → t.said �
 abbrev pub Steady : {S : Type 0} → Me S Acting → Me S Acting → Type 0
 Steady m m' = (m'.0.kind ≡ m.0.kind) × (m'.0.number ≡ m.0.number) × (m'.0.born ≡ m.0.born) × (m'.0.sizes ≡ m.0.sizes) × (m'.0.spare ≡ m.0.spare) × (m'.0.hand ≡ m.0.hand) × (m'.0.leases ≡ m.0.leases) × (m'.0.releasing ≡ m.0.releasing) × (m'.0.slot ≡ m.0.slot)
     × (m'.0.filling ≡ m.0.filling) × (m'.0.waits ≡ m.0.waits) × (m'.0.left ≡ m.0.left) × (m'.1 ≡ m.1)
+    × (m'.0.cell_steps ≡ m.0.cell_steps)
 
 -- the seat acts for p, whose guard is open with the count e, at this stage of a scan
 abbrev pub Scans : {S : Type 0} → Seat S Acting → ℕ → ℕ → ℕ → Type 0
@@ -102,7 +108,7 @@ module _ {S : Type 0} (IsIn : Content → S → Type 0) where
   HasLoaded m w m' = (y : ℕ) × (y < 2 ^ 31) × ((Tells w y 0 × (m' ≡ m)) ⊎ ((k : ℕ) × Tells w y (suc k) × HasLeasedAt m k m'))
 
   abbrev pub load_then : Step S → Me S Acting → ℕ → Me S Acting → Type 0
-  load_then t m w m' = HasLoaded m w m'
+  load_then t m w m' = HasLoaded (with_step t.word w w m) w m'
 
   -- the item of the first owner in hand is leased
   abbrev pub load_own_then : Step S → Me S Acting → ℕ → Me S Acting → Type 0
@@ -162,7 +168,7 @@ module _ {S : Type 0} (IsIn : Content → S → Type 0) where
   GetsBack m os w tail m' = (y : ℕ) × (y < 2 ^ 31) × ((old : Option Owner) × Tells w y (slot_code old) × ((u : S) × IsIn (part_of old) u × (m' ≡ (record m.0 { spare = y; hand = besides old os }, (own_spare m.0 y, u) ∷ tail))))
 
   abbrev pub swap_then : Step S → Me S Acting → ℕ → Me S Acting → Type 0
-  swap_then t m w m' = (new : Option Owner) (os : List Owner) (tail : List (ℕ × S)) → Brings m new os t.first tail → GetsBack m os w tail m'
+  swap_then t m w m' = (new : Option Owner) (os : List Owner) (tail : List (ℕ × S)) → Brings m new os t.first tail → GetsBack (with_step t.word w t.first m) os w tail m'
 
 -- the owner that a lease of its item makes
 abbrev pub owner_of : Lease → Owner
@@ -237,11 +243,15 @@ module _ {S : Type 0} (IsIn : Content → S → Type 0) where
 
   -- a cell with the word given is swapped; another one is loaded
   abbrev pub exchange_then : Step S → Me S Acting → ℕ → Me S Acting → Type 0
-  exchange_then t m w m' = (w ≡ t.first → (new : Option Owner) (os : List Owner) (tail : List (ℕ × S)) → Brings IsIn m new os t.second tail → GetsBack IsIn m os w tail m') × (w ≢ t.first → HasLoaded IsIn m w m')
+  exchange_then t m w m' = (w ≡ t.first → (new : Option Owner) (os : List Owner) (tail : List (ℕ × S)) → Brings IsIn m new os t.second tail → GetsBack IsIn (with_step t.word w t.second m) os w tail m') × (w ≢ t.first → HasLoaded IsIn (with_step t.word w w m) w m')
 
--- the seat goes on as it was
-abbrev pub still_then : {S : Type 0} → Step S → Me S Acting → ℕ → Me S Acting → Type 0
-still_then t m n m' = m' ≡ m
+-- a cell with the word given gets the other word, which has another tag; else it stays
+abbrev pub retag_then : {S : Type 0} → Step S → Me S Acting → ℕ → Me S Acting → Type 0
+retag_then t m n m' = (n ≡ t.first → m' ≡ with_step t.word n t.second m) × (n ≢ t.first → m' ≡ with_step t.word n n m)
+
+-- the word of a cell is read, and tells some spare slot, tag and item
+abbrev pub read_cell_then : {S : Type 0} → Step S → Me S Acting → ℕ → Me S Acting → Type 0
+read_cell_then t m w m' = (y : ℕ) × (k : ℕ) × (y < 2 ^ 31) × Tells w y k × (m' ≡ with_step t.word w w m)
 
 -- where the item's own home in slot k lies, which has its deed
 abbrev pub deed_home : Acting → ℕ → ℕ

@@ -10,7 +10,7 @@ use Rattle.domain_table.specs.declared.board.Acting.{Acting}
 
 -- nothing: the view of a seat that acts for nobody
 abbrev pub spent : Acting
-spent = record { kind = 0; number = 0; scan = 0; born = 0; known = newcomer; sizes = record { participants = 0; slots = 0; cells = 0; jobs = 0 }; spare = 0; hand = []; leases = []; releasing = 0; slot = 0; filling = None; waits = []; left = []; collected = [] }
+spent = record { kind = 0; number = 0; scan = 0; born = 0; known = newcomer; sizes = record { participants = 0; slots = 0; cells = 0; jobs = 0 }; spare = 0; hand = []; leases = []; releasing = 0; slot = 0; filling = None; waits = []; left = []; collected = []; cell_steps = [] }
 
 -- the view of a seat that has the owner o, and acts for nobody
 abbrev pub holding : Owner → Acting

@@ -10,6 +10,13 @@ use std::alloc::Global;
 use std::marker::PhantomData;
 use std::mem::ManuallyDrop;
 
+/// One step on the word of a cell: which word, what was found there, and what was left there. No value of it is made.
+pub struct CellStep {
+    pub word: usize,
+    pub found: u64,
+    pub left: u64,
+}
+
 /// What a seat knows. No value of it is made.
 /// Of kind 1 it acts for the participant `number`; of kind 0 it knows nothing.
 pub struct Acting {
@@ -38,6 +45,8 @@ pub struct Acting {
     pub left: Seq<Garbage>,
     /// What is in a private bag that is at this seat.
     pub collected: Seq<Garbage>,
+    /// Its steps on the words of cells, in their order.
+    pub cell_steps: Seq<CellStep>,
 }
 
 /// An item as it lies in its box, which stays with its slot and is empty while the slot is free.

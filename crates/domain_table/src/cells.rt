@@ -10,23 +10,27 @@ ghost use Rattle.domain_table.specs.Outcomes.{Exchanges, KeepsLease, EndsRelease
 ghost use Rattle.domain_table.specs.Leases.{HasFew, ReleasesOne};
 ghost use Rattle.domain_table.specs.Fitting.{FitsSlot, FitsCell, HasSlotWord};
 ghost use Rattle.domain_table.specs.Contents.{IsIn};
-ghost use Rattle.domain_table.specs.Layout.{claim_word, all_words, IsSized, AreAlike};
-ghost use Rattle.domain_table.specs.Plays.{Scans, load_then, HasLoaded, load_own_then, HasLeasedAt, CanClose, ending, end_all_then, Brings, swap_then, cloning, IsAlike, clone_then, MayNote, HasRoom, release_then, HasBegun, begin_then, CanEnd, end_release_then, CanKeep, keep_then, exchange_then, still_then};
+ghost use Rattle.domain_table.specs.Layout.{cell_word, Tells, claim_word, all_words, IsSized, AreAlike};
+ghost use Rattle.domain_table.specs.Plays.{Scans, load_then, read_cell_then, with_step, HasLoaded, load_own_then, HasLeasedAt, CanClose, ending, end_all_then, Brings, swap_then, cloning, IsAlike, clone_then, MayNote, HasRoom, release_then, HasBegun, begin_then, CanEnd, end_release_then, CanKeep, keep_then, exchange_then, retag_then};
 ghost use Rattle.domain_table.specs.declared.board.Home.{Home};
 
 use crate::aim::Aim;
 use crate::board::{Acting, Home, Place, Words};
 use crate::holding::Holding;
-use crate::tags::tag_in;
 use atomic_table::Play;
 use sdd_base::sizes::Sizes;
-use sdd_base::tag::Tag;
 use std::marker::PhantomData;
 
 struct OnLoad<H>(PhantomData<H>);
 
 impl<T, H: Holding<T>> Play<Home<T>, Acting> for OnLoad<H> {
     ghost then = { load_then (IsIn H.holds) };
+}
+
+struct OnRead;
+
+impl<T> Play<Home<T>, Acting> for OnRead {
+    ghost then = { read_cell_then };
 }
 
 struct OnLoadOwn<H>(PhantomData<H>);
@@ -56,7 +60,7 @@ impl<T, H: Holding<T>> Play<Home<T>, Acting> for OnExchange<H> {
 struct OnTag;
 
 impl<T> Play<Home<T>, Acting> for OnTag {
-    ghost then = { still_then };
+    ghost then = { retag_then };
 }
 
 struct OnClone;
@@ -89,25 +93,26 @@ impl<T, H: Holding<T>, A: Aim> Play<Home<T>, Acting> for OnEndRelease<H, A> {
     ghost then = { end_release_then (IsIn H.holds) A.to };
 }
 
-/// The word of a cell.
+/// The word of a cell, as it was at some moment: no step tells of it.
 pub fn word_of<T, H: Holding<T>>(words: &Words<T, H>, sizes: &Sizes, cell: usize) -> u64
     requires { (words.now.key.sizes ≡ sizes.now) × IsSized sizes.now × (cell < sizes.now.cells) × (all_words sizes.now ≤ words.now.table_id.words) }
 {
     words.peek(8 * sizes.participants + 16 + cell)
 }
 
-/// Whether the cell names no item.
-pub fn is_null<T, H: Holding<T>>(words: &Words<T, H>, sizes: &Sizes, cell: usize) -> bool
-    requires { (words.now.key.sizes ≡ sizes.now) × IsSized sizes.now × (cell < sizes.now.cells) × (all_words sizes.now ≤ words.now.table_id.words) }
+/// Reads the word of the cell, for `participants` of them, in one step that is told: nothing is loaded.
+pub fn read_cell<T, H: Holding<T>>(
+    words: &Words<T, H>,
+    place: &mut Place<T>,
+    participants: usize,
+    cell: usize,
+) -> u64
+    requires table { FitsCell words.now.table_id words.now.key.sizes place.old.table_id participants cell }
+    requires acts { place.old.me.0.kind ≡ 1 }
+    ensures seat { (place.new.table_id ≡ place.old.table_id) × (place.new.id ≡ place.old.id) }
+    ensures read { (y : ℕ) × (k : ℕ) × (y < 2 ^ 31) × Tells result y k × (place.new.me ≡ with_step (cell_word words.now.key.sizes cell) result result place.old.me) }
 {
-    words.peek(8 * sizes.participants + 16 + cell) < 1 << 33
-}
-
-/// The tag of the cell.
-pub fn tag<T, H: Holding<T>>(words: &Words<T, H>, sizes: &Sizes, cell: usize) -> Tag
-    requires { (words.now.key.sizes ≡ sizes.now) × IsSized sizes.now × (cell < sizes.now.cells) × (all_words sizes.now ≤ words.now.table_id.words) }
-{
-    tag_in(words.peek(8 * sizes.participants + 16 + cell))
+    words.load::<OnRead>(place, 8 * participants + 16 + cell)
 }
 
 /// Loads the cell under the participant's open guard, for `participants` of them. If it names an item, the
@@ -121,7 +126,7 @@ pub(crate) fn load<T, H: Holding<T>>(
     requires table { FitsCell words.now.table_id words.now.key.sizes place.old.table_id participants cell }
     requires open { (place.old.me.0.kind ≡ 1) × (is_inside place.old.me.0.known ≡ true) }
     ensures seat { (place.new.table_id ≡ place.old.table_id) × (place.new.id ≡ place.old.id) }
-    ensures loaded { HasLoaded (IsIn H.holds) place.old.me result place.new.me }
+    ensures loaded { HasLoaded (IsIn H.holds) (with_step (cell_word words.now.key.sizes cell) result result place.old.me) result place.new.me }
 {
     words.load::<OnLoad<H>>(place, 8 * participants + 16 + cell)
 }
@@ -152,7 +157,7 @@ pub fn swap<T, H: Holding<T>>(
     requires ready { (place.old.me.0.kind ≡ 1) × (is_ready place.old.me.0.known ≡ true) × (place.old.me.0.releasing ≡ 0) }
     requires brings { (new : Option Owner) × (os : List Owner) × (tail : List (ℕ × Home T)) × Brings (IsIn H.holds) place.old.me new os word tail }
     ensures seat { (place.new.table_id ≡ place.old.table_id) × (place.new.id ≡ place.old.id) }
-    ensures swapped { Exchanges (IsIn H.holds) place.old.me word result place.new.me }
+    ensures swapped { Exchanges (IsIn H.holds) (cell_word words.now.key.sizes cell) place.old.me word result place.new.me }
 {
     words.swap::<OnSwap<H>>(place, 8 * participants + 16 + cell, word)
 }
@@ -170,13 +175,13 @@ pub fn compare_exchange<T, H: Holding<T>>(
     requires ready { (place.old.me.0.kind ≡ 1) × (is_ready place.old.me.0.known ≡ true) × (is_inside place.old.me.0.known ≡ true) × (place.old.me.0.releasing ≡ 0) }
     requires brings { (new : Option Owner) × (os : List Owner) × (tail : List (ℕ × Home T)) × Brings (IsIn H.holds) place.old.me new os word tail }
     ensures seat { (place.new.table_id ≡ place.old.table_id) × (place.new.id ≡ place.old.id) }
-    ensures hit { result ≡ expected → Exchanges (IsIn H.holds) place.old.me word result place.new.me }
-    ensures miss { result ≢ expected → HasLoaded (IsIn H.holds) place.old.me result place.new.me }
+    ensures hit { result ≡ expected → Exchanges (IsIn H.holds) (cell_word words.now.key.sizes cell) place.old.me word result place.new.me }
+    ensures miss { result ≢ expected → HasLoaded (IsIn H.holds) (with_step (cell_word words.now.key.sizes cell) result result place.old.me) result place.new.me }
 {
     words.compare_exchange::<OnExchange<H>>(place, 8 * participants + 16 + cell, expected, word)
 }
 
-/// Exchanges the word of the cell for one with another tag, where it is `expected`. Whether it was; nothing is known by it.
+/// Exchanges the word of the cell for one with another tag, where it is `expected`. Whether it was; the cell's item stays.
 pub fn change_tag<T, H: Holding<T>>(
     words: &Words<T, H>,
     place: &mut Place<T>,
@@ -186,9 +191,11 @@ pub fn change_tag<T, H: Holding<T>>(
     word: u64,
 ) -> bool
     requires table { FitsCell words.now.table_id words.now.key.sizes place.old.table_id participants cell }
+    requires acts { place.old.me.0.kind ≡ 1 }
     requires alike { AreAlike expected word }
     ensures seat { (place.new.table_id ≡ place.old.table_id) × (place.new.id ≡ place.old.id) }
-    ensures same { place.new.me ≡ place.old.me }
+    ensures set { IsTrue result → place.new.me ≡ with_step (cell_word words.now.key.sizes cell) expected word place.old.me }
+    ensures kept { IsFalse result → (w : ℕ) × (place.new.me ≡ with_step (cell_word words.now.key.sizes cell) w w place.old.me) }
 {
     words.compare_exchange::<OnTag>(place, 8 * participants + 16 + cell, expected, word) == expected
 }

@@ -5,7 +5,7 @@ ghost use Rattle.std.specs.VecDeque.{deque_capacity, deque_len};
 ghost use Rattle.domain_table.specs.Outcomes.{RefillsAll, RefillsBehind};
 ghost use Rattle.domain_table.specs.Fitting.{ActsAmong};
 ghost use Rattle.domain_table.specs.Contents.{IsIn, blanks};
-ghost use Rattle.domain_table.specs.Leases.{row_told, lease_told, leased_homes};
+ghost use Rattle.domain_table.specs.Leases.{row_told, lease_told, leased_homes, HasCode, code_told};
 ghost use Rattle.sdd_steps.specs.State.{Has};
 ghost use Rattle.sdd_homes.specs.declared.Lease.{Lease};
 ghost use Rattle.domain_table.specs.declared.row.Row.{Row};
@@ -44,6 +44,7 @@ pub fn seen_in<T>(rows: &VecDeque<Row<T>>, at: usize) -> Seen<Stored<T>>
 pub fn seen_at<T>(rows: &VecDeque<Row<T>>, at: Option<usize>) -> Option<(usize, Seen<Stored<T>>)>
     requires { IfSome at (λ i. i < deque_len rows.now) }
     ensures there { IfSome result (λ t. IsSome t.1.value) }
+    ensures code { (k : ℕ) → HasCode rows.now.items at k → code_told result ≡ k }
     ensures under { IfSome result (λ t. (life : ℕ) (ls : List Lease) → map row_told rows.now.items ≡ map (lease_told life) ls → t.1.life ≡ life) }
 {
     let at = at?;

@@ -1,18 +1,20 @@
 //! Loading a cell under an open guard: the item that it names is leased, so that the guard reads it.
 
-ghost use Rattle.std.specs.Prelude.{◌≡◌, ℕ, ◌+◌, ◌-◌, ◌*◌, ◌^◌, ◌<◌, ◌≤◌, ◌∷◌, List, map, true, IfSome, IfNone};
+ghost use Rattle.std.specs.Prelude.{◌≡◌, ℕ, ◌+◌, ◌-◌, ◌*◌, ◌^◌, ◌<◌, ◌≤◌, ◌∷◌, List, map, slice_index_or, true, IfSome, IfNone};
 ghost use Rattle.std.specs.VecDeque.{deque_capacity, deque_len};
 ghost use Rattle.sdd_steps.specs.Steps.{is_inside};
 ghost use Rattle.atomic_table.specs.Table.{Me};
 ghost use Rattle.domain_table.specs.Outcomes.{KeepsOut};
 ghost use Rattle.domain_table.specs.Contents.{IsIn, is_blank};
 ghost use Rattle.domain_table.specs.Fitting.{FitsSizes};
-ghost use Rattle.domain_table.specs.Layout.{packed, IsSized};
-ghost use Rattle.domain_table.specs.Leases.{row_told, lease_told, leased_homes, row_slots, all_below, has_all, HasLeased, HasNoted, HasRows, KeepsRows, WasLeased, WasLoaded};
-ghost use Rattle.domain_table.specs.Plays.{HasLeasedAt, HasLoaded};
+ghost use Rattle.domain_table.specs.Layout.{packed, cell_word, IsSized};
+ghost use Rattle.domain_table.specs.Leases.{row_told, lease_told, leased_homes, row_slots, all_below, has_all, HasLeased, HasNoted, HasRows, KeepsRows, WasLeased, WasLoaded, HasCode, IsFoundAs};
+ghost use Rattle.domain_table.specs.Plays.{with_step, HasLeasedAt, HasLoaded};
 ghost use Rattle.sdd_homes.specs.declared.Owner.{Owner};
 ghost use Rattle.domain_table.specs.declared.board.Acting.{Acting};
 ghost use Rattle.domain_table.specs.declared.board.Home.{Home};
+ghost use Rattle.domain_table.specs.declared.row.Row.{Row};
+ghost use Rattle.sdd_base.specs.Epochs.{tag_number};
 
 use crate::board::{Home, Place, Words};
 use crate::cells;
@@ -57,6 +59,7 @@ fn note_slot<T, H: Holding<T>>(
     requires found { WasLeased H.holds slot number sizes.now life.now.id rows.old.items place.old.me }
     ensures seat { (place.new.table_id ≡ place.old.table_id) × (place.new.id ≡ place.old.id) }
     ensures row { result < deque_len rows.new }
+    ensures slot { (d : Row T) → (slice_index_or rows.new.items result d).slot ≡ slot }
     ensures noted { (m : Me (Home T) Acting) → HasLeasedAt (IsIn H.holds) m slot place.old.me → map row_told rows.old.items ≡ map (lease_told life.now.id) m.0.leases → HasNoted m place.new.me }
     ensures rows { KeepsRows life.now.id sizes.now.slots place.new.me.0.leases rows.new.items (deque_capacity rows.old) (deque_capacity rows.new) }
 {
@@ -85,6 +88,7 @@ pub fn note_found<T, H: Holding<T>>(
     requires found { WasLoaded H.holds word number sizes.now life.now.id rows.old.items place.old.me }
     ensures seat { (place.new.table_id ≡ place.old.table_id) × (place.new.id ≡ place.old.id) }
     ensures row { IfSome result (λ at. at < deque_len rows.new) }
+    ensures code { (y t c : ℕ) → y < 2 ^ 31 → t < 4 → word ≡ packed y t c → HasCode rows.new.items result c }
     ensures noted { (m : Me (Home T) Acting) → HasLoaded (IsIn H.holds) m word place.old.me → map row_told rows.old.items ≡ map (lease_told life.now.id) m.0.leases → HasNoted m place.new.me }
     ensures rows { KeepsRows life.now.id sizes.now.slots place.new.me.0.leases rows.new.items (deque_capacity rows.old) (deque_capacity rows.new) }
 {
@@ -109,7 +113,7 @@ pub fn lease<T, H: Holding<T>>(
     requires out { (k : ℕ) × (l : ℕ) × (has_all is_blank (k ∷ l ∷ leased_homes place.old.me.0 place.old.me.0.leases) place.old.me.1 ≡ true) }
     ensures seat { (place.new.table_id ≡ place.old.table_id) × (place.new.id ≡ place.old.id) }
     ensures row { IfSome result.0 (λ at. at < deque_len rows.new) }
-    ensures loaded { HasLeased place.old.me place.new.me }
+    ensures loaded { (w : ℕ) × HasLeased (with_step (cell_word sizes.now cell) w w place.old.me) place.new.me × IsFoundAs w (tag_number result.1) rows.new.items result.0 }
     ensures rows { KeepsRows life.now.id sizes.now.slots place.new.me.0.leases rows.new.items (deque_capacity rows.old) (deque_capacity rows.new) }
     ensures out { KeepsOut place.old.me place.new.me }
 {

@@ -189,13 +189,15 @@ impl<'d> Stage<'d> {
     }
 
     /// What is told of the cell.
-    fn ask(&self, act: Act) -> Found {
+    fn ask(&mut self, act: Act) -> Found
+        ensures stays { Stays self.old.here self.new.here }
+    {
         let Some(cell) = &self.cell else {
             return Found::Nothing;
         };
         match act {
-            Act::IsNull => told(cell.is_null(self.domain)),
-            _ => Found::Tagged(cell.tag(self.domain)),
+            Act::IsNull => told(cell.is_null(self.domain, &mut self.here)),
+            _ => Found::Tagged(cell.tag(self.domain, &mut self.here)),
         }
     }
 

@@ -1,3 +1,4 @@
+pub mod CellSteps
 pub mod Nested
 pub mod Missed
 pub mod Handed

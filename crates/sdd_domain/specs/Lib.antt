@@ -3,6 +3,7 @@ pub mod Sharing
 pub mod Holding
 pub mod Cells
 pub mod Tokens
+pub mod CellSteps
 pub mod Pointers
 pub mod Comparing
 pub mod Laws

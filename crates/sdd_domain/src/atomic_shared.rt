@@ -1,6 +1,6 @@
 //! Cells that own an item, or nothing, and have a tag.
 
-ghost use Rattle.std.specs.Prelude.{◌≡◌, ◌<◌, ◌+◌, ◌||◌, Bool, true, [], IsTrue, IfSome, IfNone, IfOk, IfErr, OnOk, OnErr};
+ghost use Rattle.std.specs.Prelude.{◌≡◌, ◌<◌, ◌+◌, ◌||◌, ◌⊎◌, ◌↔◌, ℕ, Bool, true, [], Some, IsTrue, IsFalse, IfSome, IfNone, IfOk, IfErr, OnOk, OnErr};
 ghost use Rattle.sdd_domain.specs.Tokens.{cell_count};
 
 use crate::comparing::{named_by, names, try_exchange, try_tag};
@@ -11,7 +11,9 @@ use crate::local::Local;
 use crate::pointer::{Loaded, Named, Ptr};
 use crate::shared::Shared;
 use crate::swapping::swap_owner;
-use domain_table::cells::{is_null, tag, word_of};
+use domain_table::cells::word_of;
+use domain_table::loading::slot_named;
+use domain_table::tags::tag_in;
 use sdd_base::tag::Tag;
 use std::sync::atomic::Ordering;
 use tally::Tally;
@@ -43,9 +45,12 @@ impl AtomicShared {
     ghost use Rattle.sdd_domain.specs.Cells.{cell_number};
     ghost use Rattle.sdd_domain.specs.Comparing.{owner_slot, IsBack};
     ghost use Rattle.sdd_domain.specs.declared.pointer.Ptr.{Ptr};
-    ghost use Rattle.sdd_domain.specs.Pointers.{IsUnder, ptr_slot, named_slot, named_tag};
+    ghost use Rattle.sdd_domain.specs.Pointers.{IsUnder, ptr_slot, ptr_tag, loaded_slot, named_slot, named_tag};
     ghost use Rattle.sdd_domain.specs.Sharing.{kept_in};
     ghost use Rattle.sdd_domain.specs.Tokens.{place_of, home_of, number_of, own_of, hand_of, born_of, waiting_of, misses_of, nest_of, nest_in, IsInNest, IsInNestButMisses};
+    ghost use Rattle.sdd_domain.specs.CellSteps.{StepsOnNoCell, HasReadCell, HasExchanged, HasOnlyRead, HasRetagged, HasCopied};
+    ghost use Rattle.sdd_base.specs.Epochs.{tag_number};
+    ghost use Rattle.sdd_domain.specs.Comparing.{code_of, owner_code};
 
     /// A cell that owns nothing, without a tag, if nobody has one of those that the place has: each is tried once. None is a
     /// miss of the participant. It must be spent by `into_shared` or `retire`.
@@ -54,6 +59,7 @@ impl AtomicShared {
         ensures hit { IfSome result (λ c. misses_of local.new ≡ misses_of local.old) }
         ensures missed { IfNone result (misses_of local.new ≡ misses_of local.old + 1) }
         ensures same { IsInNestButMisses local.old local.new × (own_of local.new ≡ own_of local.old) × (born_of local.new ≡ born_of local.old) × (waiting_of local.new ≡ waiting_of local.old) }
+        ensures cells { StepsOnNoCell local.old local.new }
     {
         match take_cell(domain, &mut local.misses) {
             Some(cell) => Some(AtomicShared { cell }),
@@ -75,6 +81,8 @@ impl AtomicShared {
         ensures missed { OnErr result (misses_of local.new ≡ misses_of local.old + 1) }
         ensures same { IsInNestButMisses local.old local.new × (born_of local.new ≡ born_of local.old) }
         ensures own { (flag : Bool) × (own_of local.new ≡ record (own_of local.old) { garbage = flag }) }
+        ensures put { IfOk result (λ c. (t : ℕ) × (k : ℕ) × HasExchanged local.old (cell_number c) t k 0 (owner_code (Some owner)) local.new) }
+        ensures cells { OnErr result (StepsOnNoCell local.old local.new) }
     {
         let Some(cell) = AtomicShared::null(domain, local) else {
             return Err(owner);
@@ -101,6 +109,8 @@ impl AtomicShared {
         ensures nest { nest_in local.new ≡ nest_in local.old }
         ensures home { (home_of local.new ≡ home_of local.old) × (number_of local.new ≡ number_of local.old) }
         ensures own { (flag : Bool) × (own_of local.new ≡ record (own_of local.old) { garbage = flag }) }
+        ensures put { IfOk result (λ c. (t : ℕ) × (k : ℕ) × (slot : ℕ) × HasExchanged local.old (cell_number c) t k 0 (slot + 1) local.new) }
+        ensures cells { OnErr result (StepsOnNoCell local.old local.new ⊎ ((cell : ℕ) × (t : ℕ) × (k : ℕ) × HasExchanged local.old cell t k 0 0 local.new)) }
     {
         let Some(cell) = AtomicShared::null(domain, local) else {
             return Err(item);
@@ -134,6 +144,8 @@ impl AtomicShared {
         ensures missed { IfNone result (misses_of local.new ≡ misses_of local.old + 1) }
         ensures same { IsInNestButMisses local.old local.new × (born_of local.new ≡ born_of local.old) }
         ensures own { (flag : Bool) × (own_of local.new ≡ record (own_of local.old) { garbage = flag }) }
+        ensures copied { IfSome result (λ c. HasCopied local.old (cell_number self.now) (cell_number c) local.new) }
+        ensures cells { IfNone result (StepsOnNoCell local.old local.new) }
     {
         let cell = AtomicShared::null(domain, local)?;
         if let Some(owner) = self.get_shared(domain, guard, local) {
@@ -149,6 +161,7 @@ impl AtomicShared {
         requires mine { kept_in owner ≡ (place_of domain.now).0 }
         ensures same { IsInNest local.old local.new × (born_of local.new ≡ born_of local.old) }
         ensures own { (flag : Bool) × (own_of local.new ≡ record (own_of local.old) { garbage = flag }) }
+        ensures put { (t : ℕ) × (k : ℕ) × HasExchanged local.old (cell_number self.now) t k 0 (owner_code (Some owner)) local.new }
     {
         if let (Some(old), _) = self.swap((Some(owner), Tag::None), domain, local) {
             old.release(domain, local);
@@ -156,17 +169,23 @@ impl AtomicShared {
     }
 
     /// Whether the cell owns nothing, as it is found in one step.
-    pub fn is_null<T: Holds>(&self, domain: &Domain<T>) -> bool
+    pub fn is_null<T: Holds>(&self, domain: &Domain<T>, local: &mut Local<T>) -> bool
+        requires home { home_of local.old ≡ place_of domain.now }
         requires inside { cell_number self.now < cell_count domain.now }
+        ensures looked { (t : ℕ) × (k : ℕ) × HasReadCell local.old (cell_number self.now) t k local.new × (IsTrue result ↔ (k ≡ 0)) }
+        ensures same { IsInNest local.old local.new × (own_of local.new ≡ own_of local.old) × (born_of local.new ≡ born_of local.old) × (waiting_of local.new ≡ waiting_of local.old) }
     {
-        is_null(domain.words(), &domain.sizes, self.cell)
+        slot_named(local.read(domain, self.cell)).is_none()
     }
 
     /// The tag of the cell, as it is found in one step.
-    pub fn tag<T: Holds>(&self, domain: &Domain<T>) -> Tag
+    pub fn tag<T: Holds>(&self, domain: &Domain<T>, local: &mut Local<T>) -> Tag
+        requires home { home_of local.old ≡ place_of domain.now }
         requires inside { cell_number self.now < cell_count domain.now }
+        ensures looked { (k : ℕ) × HasReadCell local.old (cell_number self.now) (tag_number result) k local.new }
+        ensures same { IsInNest local.old local.new × (own_of local.new ≡ own_of local.old) × (born_of local.new ≡ born_of local.old) × (waiting_of local.new ≡ waiting_of local.old) }
     {
-        tag(domain.words(), &domain.sizes, self.cell)
+        tag_in(local.read(domain, self.cell))
     }
 
     /// What the cell names and its tag, as both are found in one step. The item stays, as it is, until the outermost guard
@@ -181,6 +200,7 @@ impl AtomicShared {
         requires mine { nest_of guard.now ≡ nest_in local.old }
         requires open { 0 < (own_of local.old).nesting }
         requires inside { cell_number self.now < cell_count domain.now }
+        ensures looked { HasReadCell local.old (cell_number self.now) (tag_number (ptr_tag result)) (code_of (ptr_slot result)) local.new }
         ensures same { IsInNest local.old local.new × (own_of local.new ≡ own_of local.old) × (born_of local.new ≡ born_of local.old) × (waiting_of local.new ≡ waiting_of local.old) }
     {
         let (loaded, tag) = self.found(domain, guard, local);
@@ -200,6 +220,7 @@ impl AtomicShared {
         requires inside { cell_number self.now < cell_count domain.now }
         ensures under { IsUnder result guard.now }
         ensures same { IsInNest local.old local.new × (own_of local.new ≡ own_of local.old) × (born_of local.new ≡ born_of local.old) × (waiting_of local.new ≡ waiting_of local.old) }
+        ensures looked { (t : ℕ) × HasReadCell local.old (cell_number self.now) t (code_of (loaded_slot result)) local.new }
     {
         let (loaded, _) = self.found(domain, guard, local);
         loaded
@@ -217,20 +238,26 @@ impl AtomicShared {
         requires open { 0 < (own_of local.old).nesting }
         requires inside { cell_number self.now < cell_count domain.now }
         ensures under { IsUnder result.0 guard.now }
+        ensures looked { HasReadCell local.old (cell_number self.now) (tag_number result.1) (code_of (loaded_slot result.0)) local.new }
         ensures same { IsInNest local.old local.new × (own_of local.new ≡ own_of local.old) × (born_of local.new ≡ born_of local.old) × (waiting_of local.new ≡ waiting_of local.old) }
     {
         let (seen, tag) = local.lease(domain, self.cell);
-        let loaded = match seen {
-            Some((slot, seen)) => Loaded {
-                slot,
-                seen: Some(seen),
-            },
-            None => Loaded {
-                slot: 0,
-                seen: None,
-            },
-        };
-        (loaded, tag)
+        match seen {
+            Some((slot, seen)) => (
+                Loaded {
+                    slot,
+                    seen: Some(seen),
+                },
+                tag,
+            ),
+            None => (
+                Loaded {
+                    slot: 0,
+                    seen: None,
+                },
+                tag,
+            ),
+        }
     }
 
     /// One more owner of the item that the cell names, as it is found in one step: none where it names nothing, or where
@@ -247,6 +274,7 @@ impl AtomicShared {
         requires inside { cell_number self.now < cell_count domain.now }
         ensures home { IfSome result (λ s. kept_in s ≡ (place_of domain.now).0) }
         ensures same { IsInNest local.old local.new × (own_of local.new ≡ own_of local.old) × (born_of local.new ≡ born_of local.old) × (waiting_of local.new ≡ waiting_of local.old) }
+        ensures looked { (t : ℕ) × (k : ℕ) × HasReadCell local.old (cell_number self.now) t k local.new × IfSome result (λ s. owner_code (Some s) ≡ k) }
     {
         self.load(domain, guard, local).get_shared(domain, local)
     }
@@ -262,6 +290,7 @@ impl AtomicShared {
         requires inside { cell_number self.now < cell_count domain.now }
         requires mine { IfSome new.0 (λ s. kept_in s ≡ (place_of domain.now).0) }
         ensures home { IfSome result.0 (λ s. kept_in s ≡ (place_of domain.now).0) }
+        ensures exchanged { HasExchanged local.old (cell_number self.now) (tag_number result.1) (owner_code result.0) (tag_number new.1) (owner_code new.0) local.new }
         ensures same { IsInNest local.old local.new × (own_of local.new ≡ own_of local.old) × (born_of local.new ≡ born_of local.old) × (waiting_of local.new ≡ waiting_of local.old) }
     {
         let Local { place, spare, .. } = local;
@@ -291,9 +320,11 @@ impl AtomicShared {
         requires mine { IfSome new.0 (λ s. kept_in s ≡ (place_of domain.now).0) }
         ensures home { IfOk result (λ r. IfSome r.0 (λ s. kept_in s ≡ (place_of domain.now).0)) }
         ensures exact { IfOk result (λ r. owner_slot r.0 ≡ ptr_slot current.entry) }
+        ensures exchanged { IfOk result (λ r. HasExchanged local.old (cell_number self.now) (tag_number (ptr_tag current.entry)) (owner_code r.0) (tag_number new.1) (owner_code new.0) local.new) }
         ensures stands { IfOk result (λ r. (named_slot r.1 ≡ owner_slot new.0) × (named_tag r.1 ≡ new.1)) }
         ensures back { IfErr result (λ r. IsBack new.0 r.0) }
         ensures same { IsInNest local.old local.new × (own_of local.new ≡ own_of local.old) × (born_of local.new ≡ born_of local.old) × (waiting_of local.new ≡ waiting_of local.old) }
+        ensures looked { IfErr result (λ r. HasReadCell local.old (cell_number self.now) (tag_number (ptr_tag r.1)) (code_of (ptr_slot r.1)) local.new) }
     {
         let word = word_of(domain.words(), &domain.sizes, self.cell);
         if !names(word, current) {
@@ -326,6 +357,8 @@ impl AtomicShared {
         ensures stands { IfOk result (λ r. (named_slot r.1 ≡ owner_slot new.0) × (named_tag r.1 ≡ new.1)) }
         ensures back { IfErr result (λ r. IsBack new.0 r.0) }
         ensures same { IsInNest local.old local.new × (own_of local.new ≡ own_of local.old) × (born_of local.new ≡ born_of local.old) × (waiting_of local.new ≡ waiting_of local.old) }
+        ensures exchanged { IfOk result (λ r. HasExchanged local.old (cell_number self.now) (tag_number (ptr_tag current.entry)) (owner_code r.0) (tag_number new.1) (owner_code new.0) local.new) }
+        ensures looked { IfErr result (λ r. HasReadCell local.old (cell_number self.now) (tag_number (ptr_tag r.1)) (code_of (ptr_slot r.1)) local.new) }
     {
         self.compare_exchange(current, new, domain, guard, local)
     }
@@ -348,6 +381,8 @@ impl AtomicShared {
         requires callable { F.IsAlwaysCallable f }
         ensures asked { (r : Ptr T) × (b : Bool) × F.post f r b × (IsTrue result → IsTrue b) }
         ensures same { IsInNest local.old local.new × (own_of local.new ≡ own_of local.old) × (born_of local.new ≡ born_of local.old) × (waiting_of local.new ≡ waiting_of local.old) }
+        ensures set { IsTrue result → (r : Ptr T) × F.post f r true × HasRetagged local.old (cell_number self.now) (tag_number (ptr_tag r)) (code_of (ptr_slot r)) (tag_number tag) local.new }
+        ensures kept { IsFalse result → HasOnlyRead local.old (cell_number self.now) local.new }
     {
         for _ in 0..TRIES {
             if let Some(answer) = self.try_update(tag, &f, domain, guard, local) {
@@ -377,16 +412,23 @@ impl AtomicShared {
         ensures asked { IfSome result (λ b. (r : Ptr T) × F.post f.now r b) }
         ensures slow { IfNone result ((r : Ptr T) × F.post f.now r true) }
         ensures same { IsInNest local.old local.new × (own_of local.new ≡ own_of local.old) × (born_of local.new ≡ born_of local.old) × (waiting_of local.new ≡ waiting_of local.old) }
+        ensures set { IfSome result (λ b. IsTrue b → (r : Ptr T) × F.post f.now r true × HasRetagged local.old (cell_number self.now) (tag_number (ptr_tag r)) (code_of (ptr_slot r)) (tag_number tag) local.new) }
+        ensures kept { IfSome result (λ b. IsFalse b → HasOnlyRead local.old (cell_number self.now) local.new) }
+        ensures looked { IfNone result (HasOnlyRead local.old (cell_number self.now) local.new) }
     {
         let found = self.load(domain, guard, local);
         if !f(found) {
             return Some(false);
         }
         let word = word_of(domain.words(), &domain.sizes, self.cell);
-        if names(word, found) && try_tag(local, domain, self.cell, word, tag) {
-            return Some(true);
+        if !names(word, found) {
+            return None;
         }
-        None
+        if try_tag(local, domain, self.cell, word, tag) {
+            Some(true)
+        } else {
+            None
+        }
     }
 
     /// What the cell owned. The cell is the next one's that asks for one.
@@ -399,6 +441,7 @@ impl AtomicShared {
         requires inside { cell_number self < cell_count domain.now }
         ensures home { IfSome result (λ s. kept_in s ≡ (place_of domain.now).0) }
         ensures same { IsInNest local.old local.new × (own_of local.new ≡ own_of local.old) × (born_of local.new ≡ born_of local.old) × (waiting_of local.new ≡ waiting_of local.old) }
+        ensures taken { (t : ℕ) × HasExchanged local.old (cell_number self) t (owner_code result) 0 0 local.new }
     {
         let (owner, _) = self.swap((None, Tag::None), domain, local);
         let AtomicShared { cell } = self;
@@ -411,6 +454,7 @@ impl AtomicShared {
         requires home { home_of local.old ≡ place_of domain.now }
         requires inside { cell_number self < cell_count domain.now }
         ensures same { IsInNest local.old local.new × (born_of local.new ≡ born_of local.old) × (own_of local.new ≡ record (own_of local.old) { garbage = (own_of local.old).garbage || result }) }
+        ensures taken { (t : ℕ) × (k : ℕ) × HasExchanged local.old (cell_number self) t k 0 0 local.new }
     {
         match self.into_shared(domain, local) {
             Some(owner) => owner.release(domain, local),

@@ -1,17 +1,18 @@
 //! One try to exchange what a cell owns, where it names what was loaded from it.
 
-ghost use Rattle.std.specs.Prelude.{◌≡◌, ℕ, ◌+◌, ◌*◌, ◌^◌, ◌<◌, ◌≤◌, ◌∷◌, ◌↔◌, List, map, IsTrue, IfSome, IfOk, IfErr};
+ghost use Rattle.std.specs.Prelude.{◌≡◌, ℕ, ◌+◌, ◌*◌, ◌^◌, ◌<◌, ◌≤◌, ◌∷◌, [], ◌↔◌, List, map, IsTrue, IsFalse, IfSome, IfOk, IfErr};
 ghost use Rattle.std.specs.Option.{ForSome};
 ghost use Rattle.std.specs.VecDeque.{deque_capacity, deque_len};
 ghost use Rattle.sdd_homes.specs.declared.Lease.{Lease};
 ghost use Rattle.sdd_domain.specs.Comparing.{owner_code, owner_slot, code_of, IsBack, HasTried};
 ghost use Rattle.domain_table.specs.Fitting.{FitsSizes};
-ghost use Rattle.domain_table.specs.Layout.{packed, all_words, IsSized};
-ghost use Rattle.domain_table.specs.Leases.{row_told, lease_told, HasRows, KeepsRows, CanExchange};
+ghost use Rattle.domain_table.specs.Layout.{cell_word, packed, NamesWith, all_words, IsSized};
+ghost use Rattle.domain_table.specs.Leases.{row_told, lease_told, HasCode, IsFoundAs, HasRows, KeepsRows, CanExchange};
 ghost use Rattle.sdd_base.specs.Epochs.{tag_number};
-ghost use Rattle.sdd_domain.specs.Pointers.{ptr_slot, ptr_tag, named_slot, named_tag};
-ghost use Rattle.domain_table.specs.Plays.{own_spare};
+ghost use Rattle.sdd_domain.specs.Pointers.{ptr_slot, ptr_tag, loaded_slot, named_slot, named_tag};
+ghost use Rattle.domain_table.specs.Plays.{with_step, own_spare};
 ghost use Rattle.sdd_domain.specs.Sharing.{kept_in};
+ghost use Rattle.sdd_domain.specs.CellSteps.{HasMade, HasReadCell, HasStored, HasExchanged, step_on};
 ghost use Rattle.sdd_domain.specs.Tokens.{place_of, home_of, number_of, own_of, born_of, waiting_of, cell_count, nest_in, IsInNest};
 ghost use Rattle.domain_table.specs.declared.board.Home.{Home};
 ghost use Rattle.domain_table.specs.declared.board.Home.TheVariants.{Blank};
@@ -46,6 +47,7 @@ pub(crate) fn names<T>(word: u64, current: Ptr<T>) -> bool
     ensures item { (y t c : ℕ) → y < 2 ^ 31 → t < 4 → word ≡ packed y t c → IsTrue result → c ≡ code_of (ptr_slot current.entry) }
     ensures tag { (y t c : ℕ) → y < 2 ^ 31 → t < 4 → word ≡ packed y t c → IsTrue result → t ≡ tag_number (ptr_tag current.entry) }
     ensures both { (y t c : ℕ) → y < 2 ^ 31 → t < 4 → word ≡ packed y t c → c ≡ code_of (ptr_slot current.entry) → t ≡ tag_number (ptr_tag current.entry) → IsTrue result }
+    ensures word { IsTrue result → NamesWith word (tag_number (ptr_tag current.entry)) (code_of (ptr_slot current.entry)) }
 {
     names_slot(word, current.slot) && has_tag(word, current.tag)
 }
@@ -72,6 +74,8 @@ pub(crate) fn try_tag<T: Holds>(
 ) -> bool
     requires home { home_of local.old ≡ place_of domain.now }
     requires inside { cell < cell_count domain.now }
+    ensures set { (t k : ℕ) → NamesWith expected t k → IsTrue result → HasExchanged local.old cell t k (tag_number tag) k local.new }
+    ensures kept { IsFalse result → (w : ℕ) × HasMade local.old (step_on local.old cell w w ∷ []) local.new }
     ensures same { IsInNest local.old local.new × (own_of local.new ≡ own_of local.old) × (born_of local.new ≡ born_of local.old) × (waiting_of local.new ≡ waiting_of local.old) }
 {
     cells::change_tag(
@@ -109,7 +113,7 @@ pub(crate) fn exchange_owner<T: Holds>(
     requires mine { IfSome new.0 (λ s. kept_in s ≡ words.now.table_id) }
     ensures seat { (place.new.table_id ≡ place.old.table_id) × (place.new.id ≡ place.old.id) }
     ensures spare { result.0 < 2 ^ 31 }
-    ensures tried { (tail : List (ℕ × Home T)) → place.old.me.1 ≡ (own_spare place.old.me.0 spare, Blank) ∷ tail → HasTried place.old.me result.0 tail place.new.me }
+    ensures tried { (w : ℕ) × (v : ℕ) × ((tail : List (ℕ × Home T)) → place.old.me.1 ≡ (own_spare place.old.me.0 spare, Blank) ∷ tail → HasTried (with_step (cell_word words.now.key.sizes cell) w v place.old.me) result.0 tail place.new.me) × IfOk result.1 (λ _. (w ≡ expected) × (v ≡ packed spare (tag_number new.1) (owner_code new.0)) × (tag_number new.1 < 4)) × IfErr result.1 (λ t. (v ≡ w) × IsFoundAs w (tag_number t.2) rows.new.items t.1) }
     ensures rows { KeepsRows life.now.id sizes.now.slots place.new.me.0.leases rows.new.items (deque_capacity rows.old) (deque_capacity rows.new) }
     ensures mine { IfOk result.1 (λ old. IfSome old (λ s. kept_in s ≡ words.now.table_id)) }
     ensures hit { IfOk result.1 (λ old. (y t c : ℕ) → y < 2 ^ 31 → t < 4 → expected ≡ packed y t c → owner_code old ≡ c) }
@@ -130,7 +134,8 @@ pub(crate) fn exchange_owner<T: Holds>(
 /// What the item of a row is read by, or nothing.
 fn loaded_at<T: Holds>(rows: &VecDeque<Row<T>>, at: Option<usize>) -> Loaded<T>
     requires { IfSome at (λ i. i < deque_len rows.now) }
-    ensures { ForSome result.seen (λ s. (life : ℕ) (ls : List Lease) → map row_told rows.now.items ≡ map (lease_told life) ls → s.life ≡ life) }
+    ensures code { (k : ℕ) → HasCode rows.now.items at k → code_of (loaded_slot result) ≡ k }
+    ensures under { ForSome result.seen (λ s. (life : ℕ) (ls : List Lease) → map row_told rows.now.items ≡ map (lease_told life) ls → s.life ≡ life) }
 {
     if let Some((slot, seen)) = seen_at(rows, at) {
         return Loaded {
@@ -157,8 +162,10 @@ pub(crate) fn try_exchange<T: Holds>(
     requires inside { cell < cell_count domain.now }
     requires mine { IfSome new.0 (λ s. kept_in s ≡ (place_of domain.now).0) }
     ensures home { IfOk result (λ old. IfSome old (λ s. kept_in s ≡ (place_of domain.now).0)) }
+    ensures exchanged { IfOk result (λ _. HasStored local.old cell expected (tag_number new.1) (owner_code new.0) local.new) }
     ensures hit { IfOk result (λ old. (y t c : ℕ) → y < 2 ^ 31 → t < 4 → expected ≡ packed y t c → owner_code old ≡ c) }
     ensures back { IfErr result (λ t. IsBack new.0 t.0) }
+    ensures looked { IfErr result (λ t. HasReadCell local.old cell (tag_number t.2) (code_of (loaded_slot t.1)) local.new) }
     ensures seen { IfErr result (λ t. ForSome t.1.seen (λ s. (number_of local.old, s.life) ≡ nest_in local.old)) }
     ensures same { IsInNest local.old local.new × (own_of local.new ≡ own_of local.old) × (born_of local.new ≡ born_of local.old) × (waiting_of local.new ≡ waiting_of local.old) }
 {

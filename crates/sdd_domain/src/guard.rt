@@ -29,6 +29,7 @@ pub struct Guard {
 }
 
 impl Guard {
+    ghost use Rattle.sdd_domain.specs.CellSteps.{StepsOnNoCell};
     ghost use Rattle.sdd_domain.specs.Tokens.{place_of, home_of, number_of, own_of, hand_of, born_of, misses_of, participant_of, waiting_of, nest_of, nest_in, begun, closed, IsSame, IsInNest};
 
     /// Opens a guard of a participant, within those that it has open. An outermost opening reads the count of raises,
@@ -44,6 +45,7 @@ impl Guard {
         ensures inner { 0 < (own_of local.old).nesting → (born_of local.new ≡ born_of local.old) × (nest_in local.new ≡ nest_in local.old) }
         ensures counted { OnOk result (0 < (own_of local.old).nesting → own_of local.new ≡ record (own_of local.old) { nesting = (own_of local.old).nesting + 1 }) }
         ensures same { IsSame local.old local.new }
+        ensures cells { StepsOnNoCell local.old local.new }
     {
         let Some(nesting) = deeper(local.own.nesting) else {
             return Err(Nested);
@@ -73,6 +75,7 @@ impl Guard {
         requires open { 0 < (own_of local.old).nesting }
         ensures epoch { (count : ℕ) × (result ≡ count % 64) × (born_of local.old ≤ count) × (count ≤ born_of local.old + 1) }
         ensures same { IsInNest local.old local.new × (own_of local.new ≡ own_of local.old) × (born_of local.new ≡ born_of local.old) }
+        ensures cells { StepsOnNoCell local.old local.new }
     {
         let epoch = local.own.previous;
         Epoch::of_count(steps::count_under(domain.words(), &mut local.place, epoch))
@@ -91,6 +94,7 @@ impl Guard {
         requires { nest_of self.now ≡ nest_in local.old }
         ensures set { own_of local.new ≡ record (own_of local.old) { garbage = true } }
         ensures same { IsInNest local.old local.new × (born_of local.new ≡ born_of local.old) }
+        ensures cells { StepsOnNoCell local.old local.new }
     {
         local.own.garbage = true;
     }
@@ -100,6 +104,7 @@ impl Guard {
         requires { nest_of self.now ≡ nest_in local.old }
         ensures set { own_of local.new ≡ record (own_of local.old) { accelerated = true } }
         ensures same { IsInNest local.old local.new × (born_of local.new ≡ born_of local.old) }
+        ensures cells { StepsOnNoCell local.old local.new }
     {
         local.own.accelerated = true;
     }
@@ -127,6 +132,7 @@ impl Guard {
         ensures own { (flag : Bool) × (own_of local.new ≡ record (own_of local.old) { garbage = flag }) }
         ensures nest { (nest_in local.new ≡ nest_in local.old) × (born_of local.new ≡ born_of local.old) }
         ensures same { (home_of local.new ≡ home_of local.old) × (number_of local.new ≡ number_of local.old) }
+        ensures cells { StepsOnNoCell local.old local.new }
     {
         let owner = Shared::new(job, domain, local)?;
         owner.release(domain, local);
@@ -144,6 +150,7 @@ impl Guard {
         ensures closed { own_of local.new ≡ closed (own_of local.old) }
         ensures inner { 1 < (own_of local.old).nesting → (born_of local.new ≡ born_of local.old) × (nest_in local.new ≡ nest_in local.old) }
         ensures same { IsSame local.old local.new }
+        ensures cells { StepsOnNoCell local.old local.new }
     {
         let Guard {
             participant: _,

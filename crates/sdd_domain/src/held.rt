@@ -22,6 +22,7 @@ pub struct Held<T> {
 impl<T> Held<T> {
     ghost use Rattle.sdd_domain.specs.Holding.{told_of, IsHeldOf};
     ghost use Rattle.sdd_domain.specs.Sharing.{kept_in, IsOwnerOf};
+    ghost use Rattle.sdd_domain.specs.CellSteps.{StepsOnNoCell};
     ghost use Rattle.sdd_domain.specs.Tokens.{place_of, home_of, hand_of, IsSameButHand};
 
     /// The item.
@@ -45,6 +46,7 @@ impl<T> Held<T> {
         ensures hand { (hs : List (ℕ × ℕ)) → hand_of local.old ≡ told_of self ∷ hs → hand_of local.new ≡ hs }
         ensures item { (x : T) → IsHeldOf self x → IsOwnerOf result x }
         ensures same { IsSameButHand local.old local.new }
+        ensures cells { StepsOnNoCell local.old local.new }
     {
         let Held { slot, part } = self;
         let seat = part_with(domain.words(), &mut local.place);

@@ -3,6 +3,7 @@
 ghost use Rattle.std.specs.Prelude.{◌≡◌, ◌+◌, ◌<◌, [], IfSome, IfNone, vec_len, vec_capacity};
 ghost use Rattle.sdd_domain.specs.Holding.{all_told, IsLast};
 ghost use Rattle.sdd_domain.specs.Sharing.{kept_in, IsHeldAs, IsOwnedAs};
+ghost use Rattle.sdd_domain.specs.CellSteps.{StepsOnNoCell};
 ghost use Rattle.sdd_domain.specs.Tokens.{place_of, home_of, hand_of, IsSameButHand};
 
 use crate::domain::Domain;
@@ -28,6 +29,7 @@ pub fn hold_last<T: Holds>(
     ensures more { vec_len held.new ≡ vec_len held.old + 1 }
     ensures last { IsLast held.old.items (IsHeldAs owner) held.new.items }
     ensures same { IsSameButHand local.old local.new }
+    ensures cells { StepsOnNoCell local.old local.new }
 {
     held.push_reserved(owner.hold(domain, local));
 }
@@ -45,6 +47,7 @@ pub fn own_last<T: Holds>(
     ensures last { IfSome result (λ s. IsLast held.new.items (IsOwnedAs s) held.old.items) }
     ensures hand { hand_of local.new ≡ all_told held.new.items }
     ensures same { IsSameButHand local.old local.new }
+    ensures cells { StepsOnNoCell local.old local.new }
 {
     Some(held.pop()?.own(domain, local))
 }

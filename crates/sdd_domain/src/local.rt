@@ -103,6 +103,10 @@ fn turn<T: Holds>(
 impl<T: Holds> Local<T> {
     ghost use Rattle.domain_table.specs.Ledgers.{IsEmpty};
     ghost use Rattle.sdd_domain.specs.Tokens.{cell_count, place_of, home_of, number_of, own_of, hand_of, born_of, begun, closed, waiting_of, nest_in, IsSame, IsInNest};
+    ghost use Rattle.sdd_domain.specs.CellSteps.{HasMade, HasReadCell, StepsOnNoCell, step_on};
+    ghost use Rattle.domain_table.specs.Layout.{NamesWith};
+    ghost use Rattle.sdd_base.specs.Epochs.{tag_number};
+    ghost use Rattle.domain_table.specs.Leases.{code_told};
 
     /// The participant that a seat has just come to act for. What was left where it ended before is taken over.
     pub(crate) fn registered(
@@ -164,6 +168,7 @@ impl<T: Holds> Local<T> {
         ensures same { IsSame self.old self.new }
         ensures life { (result.count ≡ 1) × ((number_of self.old, result.id) ≡ nest_in self.new) }
         ensures begun { (count : ℕ) × (count ≤ born_of self.new) × (own_of self.new ≡ begun count (nat_lt 0 (waiting_of self.new)) (own_of self.old)) }
+        ensures cells { StepsOnNoCell self.old self.new }
     {
         let Local {
             place,
@@ -196,6 +201,7 @@ impl<T: Holds> Local<T> {
         ensures same { IsInNest self.old self.new × (born_of self.new ≡ born_of self.old) × (waiting_of self.new ≡ waiting_of self.old) }
         ensures life { (result.count ≡ 1) × ((number_of self.old, result.id) ≡ nest_in self.new) }
         ensures deeper { own_of self.new ≡ record (own_of self.old) { nesting = nesting } }
+        ensures cells { StepsOnNoCell self.old self.new }
     {
         self.own.nesting = nesting;
         match &mut self.life {
@@ -210,12 +216,29 @@ impl<T: Holds> Local<T> {
         requires { (1 < (own_of self.old).nesting) × (life.count ≡ 1) × ((number_of self.old, life.id) ≡ nest_in self.old) }
         ensures same { IsInNest self.old self.new × (born_of self.new ≡ born_of self.old) × (waiting_of self.new ≡ waiting_of self.old) }
         ensures closed { own_of self.new ≡ record (own_of self.old) { nesting = (own_of self.old).nesting - 1 } }
+        ensures cells { StepsOnNoCell self.old self.new }
     {
         self.own.nesting -= 1;
         match &mut self.life {
             Some(rest) => rest.join(life),
             None => unreachable!(),
         }
+    }
+
+    /// Reads the word of a cell, in one step: nothing is loaded.
+    pub(crate) fn read(&mut self, domain: &Domain<T>, cell: usize) -> u64
+        requires home { home_of self.old ≡ place_of domain.now }
+        requires inside { cell < cell_count domain.now }
+        ensures named { (t : ℕ) × (k : ℕ) × NamesWith result t k }
+        ensures looked { HasMade self.old (step_on self.old cell result result ∷ []) self.new }
+        ensures same { IsInNest self.old self.new × (own_of self.new ≡ own_of self.old) × (born_of self.new ≡ born_of self.old) × (waiting_of self.new ≡ waiting_of self.old) }
+    {
+        cells::read_cell(
+            domain.words(),
+            &mut self.place,
+            domain.sizes.participants,
+            cell,
+        )
     }
 
     /// Loads a cell under an open guard: what the item in which slot is seen as under the nest of guards, if the cell
@@ -229,6 +252,7 @@ impl<T: Holds> Local<T> {
         requires open { 0 < (own_of self.old).nesting }
         requires inside { cell < cell_count domain.now }
         ensures seen { IfSome result.0 (λ t. ((number_of self.old, t.1.life) ≡ nest_in self.old) × IsSome t.1.value) }
+        ensures looked { HasReadCell self.old cell (tag_number result.1) (code_told result.0) self.new }
         ensures same { IsInNest self.old self.new × (own_of self.new ≡ own_of self.old) × (born_of self.new ≡ born_of self.old) × (waiting_of self.new ≡ waiting_of self.old) }
     {
         let Local {
@@ -259,6 +283,7 @@ impl<T: Holds> Local<T> {
         requires last { (token.count ≡ 1) × ((number_of self.old, token.id) ≡ nest_in self.old) }
         ensures same { IsSame self.old self.new }
         ensures closed { own_of self.new ≡ closed (own_of self.old) }
+        ensures cells { StepsOnNoCell self.old self.new }
     {
         let Local {
             place,

@@ -142,6 +142,7 @@ impl<'g, T: Holds> Ptr<'g, T> {
     ghost use Rattle.sdd_domain.specs.Comparing.{owner_slot};
     ghost use Rattle.sdd_domain.specs.Pointers.{ptr_slot};
     ghost use Rattle.sdd_domain.specs.Sharing.{kept_in};
+    ghost use Rattle.sdd_domain.specs.CellSteps.{StepsOnNoCell};
     ghost use Rattle.sdd_domain.specs.Tokens.{place_of, home_of, own_of, born_of, waiting_of, IsInNest};
 
     /// One more owner of the item, beside those that it has: so it is kept for longer than the guard is open under which it
@@ -153,6 +154,7 @@ impl<'g, T: Holds> Ptr<'g, T> {
         ensures home { IfSome result (λ s. kept_in s ≡ (place_of domain.now).0) }
         ensures exact { IfSome result (λ s. owner_slot (Some s) ≡ ptr_slot self.entry) }
         ensures same { IsInNest local.old local.new × (own_of local.new ≡ own_of local.old) × (born_of local.new ≡ born_of local.old) × (waiting_of local.new ≡ waiting_of local.old) }
+        ensures cells { StepsOnNoCell local.old local.new }
     {
         Shared::of_leased(self.slot?, domain, local)
     }
@@ -182,7 +184,9 @@ impl<T> Loaded<T> {
     }
 
     /// Whether the cell named nothing.
-    pub fn is_null(&self) -> bool {
+    pub fn is_null(&self) -> bool
+        ensures { IsTrue result ↔ (loaded_slot self.now ≡ None) }
+    {
         self.seen.is_none()
     }
 

@@ -33,6 +33,7 @@ pub struct PrivateCollector {
 }
 
 impl PrivateCollector {
+    ghost use Rattle.sdd_domain.specs.CellSteps.{StepsOnNoCell};
     ghost use Rattle.sdd_domain.specs.Tokens.{place_of, home_of, own_of, born_of, waiting_of, nest_of, nest_in, IsInNest};
     ghost use Rattle.sdd_domain.specs.Sharing.{kept_in};
     ghost use Rattle.sdd_domain.specs.Collecting.{collects_in, held_in, slot_in, IsSwept};
@@ -71,6 +72,7 @@ impl PrivateCollector {
         ensures held { (count : ℕ) × (kept : List (ℕ × ℕ)) × IsSwept count (held_in self) kept × (held_in result.0 ≡ cond result.1 ((slot_in shared, count) ∷ kept) kept) × (born_of local.old ≤ count) × (count ≤ born_of local.old + 1) }
         ensures own { own_of local.new ≡ record (own_of local.old) { garbage = (own_of local.old).garbage || nat_lt 0 (waiting_of local.new) } }
         ensures same { IsInNest local.old local.new × (born_of local.new ≡ born_of local.old) }
+        ensures cells { StepsOnNoCell local.old local.new }
     {
         let PrivateCollector {
             sizes,
@@ -129,6 +131,7 @@ impl PrivateCollector {
         ensures waits { waiting_of local.new ≡ waiting_of local.old + length (held_in self) }
         ensures own { own_of local.new ≡ record (own_of local.old) { garbage = (own_of local.old).garbage || nat_lt 0 (waiting_of local.new) } }
         ensures same { IsInNest local.old local.new × (born_of local.new ≡ born_of local.old) }
+        ensures cells { StepsOnNoCell local.old local.new }
     {
         let PrivateCollector {
             sizes: _,

@@ -36,6 +36,7 @@ impl<T: Holds> Shared<T> {
     ghost use Rattle.sdd_domain.specs.Comparing.{owner_slot};
     ghost use Rattle.sdd_domain.specs.Pointers.{ptr_slot};
     ghost use Rattle.sdd_domain.specs.Tokens.{place_of, home_of, own_of, hand_of, born_of, waiting_of, misses_of, number_of, nest_of, nest_in, IsInNest, IsInNestButMisses, IsSameButHand, IsSameButHandAndMisses};
+    ghost use Rattle.sdd_domain.specs.CellSteps.{StepsOnNoCell};
     ghost use Rattle.sdd_domain.specs.Holding.{told_of, IsHeldOf};
     ghost use Rattle.sdd_domain.specs.Sharing.{kept_in, IsOwnerOf};
 
@@ -53,6 +54,7 @@ impl<T: Holds> Shared<T> {
         ensures hit { OnOk result (misses_of local.new ≡ misses_of local.old) }
         ensures missed { OnErr result (misses_of local.new ≡ misses_of local.old + 1) }
         ensures same { IsSameButHandAndMisses local.old local.new }
+        ensures cells { StepsOnNoCell local.old local.new }
     {
         let Local {
             place,
@@ -83,6 +85,7 @@ impl<T: Holds> Shared<T> {
         ensures hit { OnOk result (misses_of local.new ≡ misses_of local.old) }
         ensures missed { OnErr result (misses_of local.new ≡ misses_of local.old + 1) }
         ensures same { IsSameButHandAndMisses local.old local.new }
+        ensures cells { StepsOnNoCell local.old local.new }
     {
         let (place, from, misses) = (&mut local.place, local.next, &mut local.misses);
         let (slot, part) = place_made(domain.words(), place, &domain.sizes, from, f, misses)?;
@@ -124,6 +127,7 @@ impl<T: Holds> Shared<T> {
         ensures hit { OnOk result (misses_of local.new ≡ misses_of local.old) }
         ensures missed { OnErr result (misses_of local.new ≡ misses_of local.old + 1) }
         ensures same { IsInNestButMisses local.old local.new × (own_of local.new ≡ own_of local.old) × (born_of local.new ≡ born_of local.old) × (waiting_of local.new ≡ waiting_of local.old) }
+        ensures cells { StepsOnNoCell local.old local.new }
     {
         let Shared { slot, part, seat } = self;
         let Local {
@@ -175,6 +179,7 @@ impl<T: Holds> Shared<T> {
         ensures home { IfSome result (λ s. kept_in s ≡ (place_of domain.now).0) }
         ensures slot { IfSome result (λ s. s.slot ≡ slot) }
         ensures same { IsInNest local.old local.new × (own_of local.new ≡ own_of local.old) × (born_of local.new ≡ born_of local.old) × (waiting_of local.new ≡ waiting_of local.old) }
+        ensures cells { StepsOnNoCell local.old local.new }
     {
         let Local { place, rows, .. } = local;
         let part = own_leased(domain.words(), place, &domain.sizes, rows, slot)?;
@@ -193,6 +198,7 @@ impl<T: Holds> Shared<T> {
         ensures exact { IfOk result (λ s. owner_slot (Some s) ≡ ptr_slot pointer.entry) }
         ensures back { IfErr result (λ back. back ≡ pointer.entry) }
         ensures same { IsInNest local.old local.new × (own_of local.new ≡ own_of local.old) × (born_of local.new ≡ born_of local.old) × (waiting_of local.new ≡ waiting_of local.old) }
+        ensures cells { StepsOnNoCell local.old local.new }
     {
         match pointer.get_shared(domain, local) {
             Some(owner) => Ok(owner),
@@ -216,6 +222,7 @@ impl<T: Holds> Shared<T> {
         ensures item { (x : T) → IsOwnerOf self x → IsOwnerOf result.0 x }
         ensures exact { ptr_slot result.1 ≡ owner_slot (Some self) }
         ensures same { IsInNest local.old local.new × (own_of local.new ≡ own_of local.old) × (born_of local.new ≡ born_of local.old) × (waiting_of local.new ≡ waiting_of local.old) }
+        ensures cells { StepsOnNoCell local.old local.new }
     {
         let (owner, loaded) = self.loaded(domain, local);
         (owner, loaded.under(guard))
@@ -235,6 +242,7 @@ impl<T: Holds> Shared<T> {
         ensures home { kept_in result.0 ≡ kept_in self }
         ensures item { (x : T) → IsOwnerOf self x → IsOwnerOf result.0 x }
         ensures same { IsInNest local.old local.new × (own_of local.new ≡ own_of local.old) × (born_of local.new ≡ born_of local.old) × (waiting_of local.new ≡ waiting_of local.old) }
+        ensures cells { StepsOnNoCell local.old local.new }
     {
         let (owner, loaded) = self.loaded(domain, local);
         match loaded.as_ref(guard) {
@@ -253,6 +261,7 @@ impl<T: Holds> Shared<T> {
         ensures seen { IsSomeAnd result.1.seen (λ s. (number_of local.old, s.life) ≡ nest_in local.old) }
         ensures slot { result.1.slot ≡ self.slot }
         ensures same { IsInNest local.old local.new × (own_of local.new ≡ own_of local.old) × (born_of local.new ≡ born_of local.old) × (waiting_of local.new ≡ waiting_of local.old) }
+        ensures cells { StepsOnNoCell local.old local.new }
     {
         let Shared { slot, part, seat } = self;
         let Local {
@@ -290,6 +299,7 @@ impl<T: Holds> Shared<T> {
         ensures hand { hand_of local.new ≡ told_of result ∷ hand_of local.old }
         ensures item { (x : T) → IsOwnerOf self x → IsHeldOf result x }
         ensures same { IsSameButHand local.old local.new }
+        ensures cells { StepsOnNoCell local.old local.new }
     {
         let Shared { slot, part, seat } = self;
         take_in(domain.words(), &mut local.place, seat);
@@ -305,6 +315,7 @@ impl<T: Holds> Shared<T> {
         ensures more { IsFalse result → waiting_of local.new ≡ waiting_of local.old }
         ensures own { own_of local.new ≡ record (own_of local.old) { garbage = (own_of local.old).garbage || result } }
         ensures same { IsInNest local.old local.new × (born_of local.new ≡ born_of local.old) }
+        ensures cells { StepsOnNoCell local.old local.new }
     {
         let Shared { slot, part, seat } = self;
         let Local {

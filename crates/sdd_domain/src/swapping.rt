@@ -9,8 +9,8 @@ ghost use Rattle.sdd_domain.specs.Comparing.{owner_code, IsInFront};
 ghost use Rattle.domain_table.specs.Contents.{IsIn};
 ghost use Rattle.sdd_base.specs.Epochs.{tag_number};
 ghost use Rattle.domain_table.specs.Fitting.{FitsSizes};
-ghost use Rattle.domain_table.specs.Layout.{packed};
-ghost use Rattle.domain_table.specs.Plays.{own_spare, GetsBack};
+ghost use Rattle.domain_table.specs.Layout.{packed, cell_word};
+ghost use Rattle.domain_table.specs.Plays.{own_spare, with_step, GetsBack};
 ghost use Rattle.sdd_domain.specs.Sharing.{kept_in};
 ghost use Rattle.domain_table.specs.declared.board.Acting.{Acting};
 ghost use Rattle.domain_table.specs.declared.board.Home.{Home};
@@ -108,7 +108,8 @@ pub(crate) fn swap_owner<T: Holds>(
     requires mine { IfSome new.0 (λ s. kept_in s ≡ words.now.table_id) }
     ensures seat { (place.new.table_id ≡ place.old.table_id) × (place.new.id ≡ place.old.id) }
     ensures spare { result.0 < 2 ^ 31 }
-    ensures swapped { HasSwapped place.old.me spare result.0 place.new.me }
+    ensures swapped { (w : ℕ) × (v : ℕ) × HasSwapped (with_step (cell_word sizes.now cell) w v place.old.me) spare result.0 place.new.me × (w ≡ packed result.0 (tag_number result.1.1) (owner_code result.1.0)) × (v ≡ packed spare (tag_number new.1) (owner_code new.0)) }
+    ensures few { (tag_number result.1.1 < 4) × (tag_number new.1 < 4) }
     ensures mine { IfSome result.1.0 (λ s. kept_in s ≡ words.now.table_id) }
 {
     let word = bring(words, place, sizes, spare, new);

@@ -5,7 +5,7 @@ use Rattle.atomic_table.specs.Table.{step, Allows}
 use Rattle.domain_table.specs.Contents.{IsIn}
 use Rattle.domain_table.specs.Layout.{cell_word}
 use Rattle.domain_table.specs.Rule.{Shows}
-use Rattle.domain_table.specs.Plays.{still_then}
+use Rattle.domain_table.specs.Plays.{retag_then}
 use Rattle.domain_table.proofs.Retags.{retags}
 use Rattle.domain_table.proofs.cells.change_tag.Goals as goal
 
@@ -14,6 +14,6 @@ compare_exchange-requires g c = let t = c.requires.table in let plan = c.args.wo
     let old : ℕ = c.args.expected in let new : ℕ = c.args.word in let word : cell_word plan.sizes c.args.cell ≡ 8 * c.args.participants + 16 + c.args.cell = omega arith in (
       t.0,
       omega arith,
-      subst (λ i. Allows (Shows (IsIn g.H.Holding.holds) plan) slots place.id place.me i (λ n. either (eqb n old) new n) (still_then (step slots i old new none) place.me)) word
-          (retags _ (IsIn g.H.Holding.holds) plan slots place.id c.args.cell old new place.me inside (omega arith) c.requires.alike),
+      subst (λ i. Allows (Shows (IsIn g.H.Holding.holds) plan) slots place.id place.me i (λ n. either (eqb n old) new n) (retag_then (step slots i old new none) place.me)) word
+          (retags _ (IsIn g.H.Holding.holds) plan slots place.id c.args.cell old new place.me c.requires.acts inside (omega arith) c.requires.alike),
     )

@@ -5,6 +5,7 @@ use Rattle.atomic_table.specs.Table.{step, Allows}
 use Rattle.domain_table.specs.Contents.{IsIn}
 use Rattle.domain_table.specs.Layout.{cell_word}
 use Rattle.domain_table.specs.Rule.{Shows}
+use Rattle.domain_table.specs.Outcomes.{Exchanges}
 use Rattle.domain_table.specs.Plays.{exchange_then}
 use Rattle.domain_table.proofs.Exchanges.{exchanges}
 use Rattle.domain_table.proofs.cells.compare_exchange.Goals as goal
@@ -17,3 +18,7 @@ compare_exchange-requires g c = let t = c.requires.table in let plan = c.args.wo
       subst (λ i. Allows (Shows (IsIn g.H.Holding.holds) plan) slots place.id place.me i (λ n. either (eqb n old) new n) (exchange_then (IsIn g.H.Holding.holds) (step slots i old new none) place.me)) word
           (exchanges _ (IsIn g.H.Holding.holds) plan slots place.id c.args.cell old new place.me b.0 b.1 b.2 r.0 r.1 r.2 r.3 inside (omega arith) b.3),
     )
+
+pub returns-clause-hit : goal.returns-clause-hit
+returns-clause-hit g c = let plan = c.args.words.now.key in let same = c.requires.table.1 in let word : 8 * c.args.participants + 16 + c.args.cell ≡ cell_word plan.sizes c.args.cell = omega arith in
+    λ hit. subst (λ i. Exchanges (IsIn g.H.Holding.holds) i c.args.place.now.me c.args.word c.compare_exchange.result c.compare_exchange.new.seat.me) word (c.compare_exchange.ensures.2.0 hit)

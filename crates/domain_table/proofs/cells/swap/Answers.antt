@@ -4,6 +4,7 @@ use Rattle.atomic_table.specs.Table.{step, Allows}
 use Rattle.domain_table.specs.Contents.{IsIn}
 use Rattle.domain_table.specs.Layout.{cell_word}
 use Rattle.domain_table.specs.Rule.{Shows}
+use Rattle.domain_table.specs.Outcomes.{Exchanges}
 use Rattle.domain_table.specs.Plays.{swap_then}
 use Rattle.domain_table.proofs.Exchanges.{swaps}
 use Rattle.domain_table.proofs.cells.swap.Goals as goal
@@ -16,3 +17,7 @@ swap-requires g c = let t = c.requires.table in let plan = c.args.words.now.key 
       subst (λ i. Allows (Shows (IsIn g.H.Holding.holds) plan) slots place.id place.me i (λ _. c.args.word) (swap_then (IsIn g.H.Holding.holds) (step slots i c.args.word 0 none) place.me)) word
           (swaps _ (IsIn g.H.Holding.holds) plan slots place.id c.args.cell c.args.word place.me b.0 b.1 b.2 c.requires.ready.0 c.requires.ready.1 c.requires.ready.2 inside (omega arith) b.3),
     )
+
+pub returns-clause-swapped : goal.returns-clause-swapped
+returns-clause-swapped g c = let plan = c.args.words.now.key in let same = c.requires.table.1 in let word : 8 * c.args.participants + 16 + c.args.cell ≡ cell_word plan.sizes c.args.cell = omega arith in
+    subst (λ i. Exchanges (IsIn g.H.Holding.holds) i c.args.place.now.me c.args.word c.swap.result c.swap.new.seat.me) word c.swap.ensures.2

@@ -1,4 +1,4 @@
-use Rattle.std.proofs.Common.{◌≡◌, ◌<◌, ◌≤◌, true, ◌∷◌, map, vec_capacity, sym, ap, ◌∙◌, subst}
+use Rattle.std.proofs.Common.{◌≡◌, ◌<◌, ◌≤◌, true, false, Bool, ℕ, IsTrue, IsFalse, [], ◌∷◌, ◌++◌, map, length, vec_capacity, refl, sym, ap, ◌∙◌, subst}
 use Rattle.std.specs.VecDeque.{deque_capacity}
 use Rattle.atomic_table.specs.Seated.{TableId}
 use Rattle.atomic_table.specs.Table.{Me}
@@ -6,11 +6,22 @@ use Rattle.domain_table.specs.Bags.{ages, Waits}
 use Rattle.domain_table.specs.Contents.{is_blank}
 use Rattle.domain_table.specs.Layout.{claim_word}
 use Rattle.domain_table.specs.Leases.{lease_told, life_number, leased_homes, has_all, row_slots, all_below}
-use Rattle.domain_table.specs.Plays.{own_spare, own_bag}
+use Rattle.domain_table.specs.Plays.{with_step, own_spare, own_bag}
+use Rattle.domain_table.specs.Owners.{told}
+use Rattle.domain_table.specs.Layout.{cell_word}
+use Rattle.domain_table.specs.declared.board.Plan.{Plan}
+use Rattle.sdd_base.specs.declared.sizes.Sizes.{Sizes}
+use Rattle.domain_table.specs.declared.board.Acting.{Acting}
+use Rattle.sdd_domain.proofs.CellSteps.{tag_few}
 use Rattle.sdd_domain.proofs.comparing.try_tag.Goals as goal
 
+-- whichever word was found, the step is told
+stepped : {S : Type 0} (i e v : ℕ) (m m' : Me S Acting) (r : Bool) → (IsTrue r → m' ≡ with_step i e v m) → (IsFalse r → (w : ℕ) × (m' ≡ with_step i w w m)) → (w : ℕ) × (x : ℕ) × (m' ≡ with_step i w x m)
+stepped i e v m m' true set _ = (e, v, set refl)
+stepped i e v m m' false _ kept = let n = kept refl in (n.0, n.0, n.1)
+
 pub invariant_of-local : goal.invariant_of-local
-invariant_of-local g c = let l = c.args.local.now in let all = c.change_tag.ensures.same in let table = c.change_tag.ensures.seat.0 in record {
+invariant_of-local g c = let l = c.args.local.now in let all = (stepped (cell_word c.words.result.now.key.sizes c.args.cell) c.args.expected c.with_tag.result l.place.me c.change_tag.new.place.me c.change_tag.result c.change_tag.ensures.set c.change_tag.ensures.kept).2 in let table = c.change_tag.ensures.seat.0 in record {
   acts = (
     ap (λ (z : Me _ _). z.0.kind) all ∙ l.acts.0,
     ap (λ (z : Me _ _). z.0.number) all ∙ l.acts.1,
@@ -34,3 +45,16 @@ invariant_of-local g c = let l = c.args.local.now in let all = c.change_tag.ensu
   fills = (ap (λ (z : Me _ _). z.0.filling) all ∙ l.fills.0, l.fills.1, subst (λ (z : Me _ _). l.number < z.0.sizes.participants) (sym all) l.fills.2);
   waits = (subst (λ (z : Me _ _). Waits z.0.waits l.bags.slots.items (ages l.bags.current l.bags.previous l.bags.next l.bags.due)) (sym all) l.waits.0, l.waits.1, l.waits.2 ∙ sym (ap (λ (z : Me _ _). z.0.sizes.slots) all));
 }
+
+pub returns-clause-set : goal.returns-clause-set
+returns-clause-set g c = λ t k n yes. let l = c.args.local.now in let home : c.words.result.now.key.sizes ≡ l.place.me.0.sizes = ap (λ (z : Plan). z.sizes) c.words.ensures.1 ∙ sym (ap (λ (t : TableId × Sizes). t.1) c.requires.home) in
+    let v = c.with_tag.result in let made = ap (λ (z : Me _ _). z.0.cell_steps) (c.change_tag.ensures.set yes) ∙ (λ j. l.place.me.0.cell_steps ++ record { word = cell_word (home j) c.args.cell; found = c.args.expected; left = v } ∷ []) in
+    (c.args.expected, n, (v, (n.0, n.1, tag_few c.args.tag, c.with_tag.ensures.1 n.0 t k n.1 n.2 n.3), made))
+
+pub returns-clause-kept : goal.returns-clause-kept
+returns-clause-kept g c = λ no. let l = c.args.local.now in let home : c.words.result.now.key.sizes ≡ l.place.me.0.sizes = ap (λ (z : Plan). z.sizes) c.words.ensures.1 ∙ sym (ap (λ (t : TableId × Sizes). t.1) c.requires.home) in
+    let w = c.change_tag.ensures.kept no in (w.0, ap (λ (z : Me _ _). z.0.cell_steps) w.1 ∙ (λ j. l.place.me.0.cell_steps ++ record { word = cell_word (home j) c.args.cell; found = w.0; left = w.0 } ∷ []))
+
+pub returns-clause-same : goal.returns-clause-same
+returns-clause-same g c = let l = c.args.local.now in let all = (stepped (cell_word c.words.result.now.key.sizes c.args.cell) c.args.expected c.with_tag.result l.place.me c.change_tag.new.place.me c.change_tag.result c.change_tag.ensures.set c.change_tag.ensures.kept).2 in let table = c.change_tag.ensures.seat.0 in
+    (((λ j. (table j, ap (λ (z : Me _ _). z.0.sizes) all j), refl, ap (λ (z : Me _ _). map told z.0.hand) all, refl), refl), refl, ap (λ (z : Me _ _). z.0.born) all, ap (λ (z : Me _ _). length z.0.waits) all)

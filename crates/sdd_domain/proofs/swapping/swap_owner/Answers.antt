@@ -1,7 +1,8 @@
-use Rattle.std.proofs.Common.{ℕ, ◌∷◌, ap, ◌∙◌}
+use Rattle.std.proofs.Common.{ℕ, [], ◌∷◌, ◌++◌, ap, ◌∙◌}
 use Rattle.atomic_table.specs.Table.{Me}
 use Rattle.sdd_steps.specs.Steps.{is_ready}
-use Rattle.domain_table.specs.Plays.{own_spare}
+use Rattle.domain_table.specs.Plays.{own_spare, with_step}
+use Rattle.domain_table.specs.Layout.{cell_word}
 use Rattle.domain_table.specs.declared.board.Acting.{Acting}
 use Rattle.domain_table.specs.declared.board.Home.{Home}
 use Rattle.sdd_domain.proofs.swapping.swap_owner.Goals as goal
@@ -21,8 +22,15 @@ take_back-requires-clause-ready g c = let b = c.bring-word.ensures.brings c.requ
     (ap (λ (z : Me _ Acting). z.0.kind) back.2.2.2 ∙ (ap (λ (z : Acting). z.kind) b.2 ∙ r.0), ap (λ (z : Me _ Acting). z.0.releasing) back.2.2.2 ∙ (ap (λ (z : Acting). z.releasing) b.2 ∙ r.2))
 
 pub take_back-requires-clause-back : goal.take_back-requires-clause-back
-take_back-requires-clause-back g c = let b = c.bring-word.ensures.brings c.requires.out.0 c.requires.out.1 in let back = c.swap-found.ensures.swapped b.0 c.args.place.now.me.0.hand c.requires.out.0 b.1 in (c.bring-word.new.place.me, c.args.place.now.me.0.hand, c.requires.out.0, back)
+take_back-requires-clause-back g c = let b = c.bring-word.ensures.brings c.requires.out.0 c.requires.out.1 in let back = c.swap-found.ensures.swapped b.0 c.args.place.now.me.0.hand c.requires.out.0 b.1 in (with_step (cell_word c.args.words.now.key.sizes c.args.cell) c.swap-found.result c.bring-word.result c.bring-word.new.place.me, c.args.place.now.me.0.hand, c.requires.out.0, back)
 
 pub returns-clause-swapped : goal.returns-clause-swapped
-returns-clause-swapped g c = λ tail is. let b = c.bring-word.ensures.brings tail is in let back = c.swap-found.ensures.swapped b.0 c.args.place.now.me.0.hand tail b.1 in let y : ℕ = c.take_back.result.0 in
-    c.take_back.ensures.back c.bring-word.new.place.me c.args.place.now.me.0.hand tail back ∙ λ j. (record (b.2 j) { spare = y; hand = c.args.place.now.me.0.hand }, (own_spare (b.2 j) y, Rattle.domain_table.specs.declared.board.Home.TheVariants.Blank) ∷ tail)
+returns-clause-swapped g c = let w : ℕ = c.swap-found.result in let v : ℕ = c.bring-word.result in let place = c.args.place.now.me in let i : ℕ = cell_word c.args.words.now.key.sizes c.args.cell in (
+  w,
+  v,
+  (λ tail is. let b = c.bring-word.ensures.brings tail is in let back = c.swap-found.ensures.swapped b.0 place.0.hand tail b.1 in let y : ℕ = c.take_back.result.0 in
+      c.take_back.ensures.back (with_step i w v c.bring-word.new.place.me) place.0.hand tail back
+      ∙ λ j. (record (b.2 j) { spare = y; hand = place.0.hand; cell_steps = (b.2 j).cell_steps ++ record { word = cell_word (c.requires.table.0.1 j) c.args.cell; found = w; left = v } ∷ [] }, (own_spare (b.2 j) y, Rattle.domain_table.specs.declared.board.Home.TheVariants.Blank) ∷ tail)),
+  c.take_back.ensures.code.0,
+  c.bring-word.ensures.code.0,
+)

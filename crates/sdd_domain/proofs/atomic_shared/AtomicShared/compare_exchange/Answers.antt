@@ -1,6 +1,8 @@
-use Rattle.std.proofs.Common.{◌≡◌, ◌<◌, ◌+◌, ◌*◌, ◌/◌, ◌%◌, ℕ, Option, None, Some, refl, ap, ◌∙◌, arith}
+use Rattle.std.proofs.Common.{◌≡◌, ℕ, Option, None, Some, sym, refl, ap, ◌∙◌, arith}
+use Rattle.sdd_base.specs.Epochs.{tag_number}
+use Rattle.domain_table.specs.Layout.{packed}
 use Rattle.sdd_domain.specs.Comparing.{owner_code, owner_slot, code_of}
-use Rattle.sdd_domain.specs.Pointers.{ptr_slot}
+use Rattle.sdd_domain.specs.Pointers.{ptr_slot, ptr_tag}
 use Rattle.sdd_domain.specs.declared.shared.Shared.{Shared}
 use Rattle.sdd_domain.proofs.atomic_shared.AtomicShared.compare_exchange.Goals as goal
 
@@ -13,5 +15,9 @@ slot_is (Some o) (Some k) e = let same : o.slot ≡ k = omega arith in ap Some s
 
 -- the word that was exchanged names what was given
 pub returns-in-Ok-clause-exact : goal.returns-in-Ok-clause-exact
-returns-in-Ok-clause-exact g c = let w : ℕ = c.word_of-word.result in let y : ℕ = w % 2147483648 in let t : ℕ = w / 2147483648 % 4 in let k : ℕ = w / 8589934592 in let low : y < 2147483648 = omega arith in let few : t < 4 = omega arith in let is : w ≡ y + 2147483648 * (t + 4 * k) = omega arith in
-    slot_is c.in-Ok.old (ptr_slot c.args.current) (c.in-Ok.ensures.hit y t k low few is ∙ c.if-not-names.ensures.item y t k low few is refl)
+returns-in-Ok-clause-exact g c = let n = c.if-not-names.ensures.word refl in slot_is c.in-Ok.old (ptr_slot c.args.current) (c.in-Ok.ensures.hit n.0 (tag_number (ptr_tag c.args.current)) (code_of (ptr_slot c.args.current)) n.1 n.2 n.3)
+
+-- the word that was found is the one that was expected
+pub returns-in-Ok-clause-exchanged : goal.returns-in-Ok-clause-exchanged
+returns-in-Ok-clause-exchanged g c = let n = c.if-not-names.ensures.word refl in let t : ℕ = tag_number (ptr_tag c.args.current) in let k : ℕ = code_of (ptr_slot c.args.current) in let hit = c.in-Ok.ensures.hit n.0 t k n.1 n.2 n.3 in let e = c.in-Ok.ensures.exchanged in
+    (c.word_of-word.result, (n.0, n.1, n.2, n.3 ∙ ap (packed n.0 t) (sym hit)), e)

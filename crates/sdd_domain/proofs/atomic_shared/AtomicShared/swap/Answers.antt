@@ -1,11 +1,12 @@
-use Rattle.std.proofs.Common.{◌≡◌, ◌<◌, ◌≤◌, true, ℕ, List, ◌∷◌, length, map, vec_capacity, sym, refl, ap, ◌∙◌, subst}
+use Rattle.std.proofs.Common.{◌≡◌, ◌<◌, ◌≤◌, true, ℕ, List, [], ◌∷◌, ◌++◌, length, map, vec_capacity, sym, refl, ap, ◌∙◌, subst}
 use Rattle.std.specs.VecDeque.{deque_capacity}
 use Rattle.atomic_table.specs.Seated.{TableId}
 use Rattle.atomic_table.specs.Table.{Me}
 use Rattle.domain_table.specs.Bags.{ages, Waits}
 use Rattle.domain_table.specs.Contents.{blanks}
 use Rattle.domain_table.specs.Owners.{told}
-use Rattle.domain_table.specs.Layout.{claim_word}
+use Rattle.domain_table.specs.Layout.{claim_word, cell_word}
+use Rattle.sdd_base.specs.declared.sizes.Sizes.{Sizes}
 use Rattle.domain_table.specs.Leases.{lease_told, life_number, leased_homes, row_slots, all_below}
 use Rattle.domain_table.specs.Plays.{own_spare, own_bag}
 use Rattle.domain_table.specs.declared.board.Acting.{Acting}
@@ -31,7 +32,7 @@ pub swap_owner-free-requires-clause-out : goal.swap_owner-free-requires-clause-o
 swap_owner-free-requires-clause-out g c = let l = c.args.local.now in (behind l, out l)
 
 pub invariant_of-local : goal.invariant_of-local
-invariant_of-local g c = let l = c.args.local.now in let d = l.place.me.0 in let m = c.swap_owner-free.new.place.me in let y : ℕ = c.swap_owner-free.result.0 in let all = c.swap_owner-free.ensures.swapped (behind l) (out l) in let table = c.swap_owner-free.ensures.seat.0 in record {
+invariant_of-local g c = let l = c.args.local.now in let d = l.place.me.0 in let m = c.swap_owner-free.new.place.me in let y : ℕ = c.swap_owner-free.result.0 in let all = c.swap_owner-free.ensures.swapped.2 (behind l) (out l) in let table = c.swap_owner-free.ensures.seat.0 in record {
   acts = (
     ap (λ (z : Me _ Acting). z.0.kind) all ∙ l.acts.0,
     ap (λ (z : Me _ Acting). z.0.number) all ∙ l.acts.1,
@@ -61,5 +62,10 @@ invariant_of-local g c = let l = c.args.local.now in let d = l.place.me.0 in let
 }
 
 pub returns-clause-same : goal.returns-clause-same
-returns-clause-same g c = let l = c.args.local.now in let all = c.swap_owner-free.ensures.swapped (behind l) (out l) in let table = c.swap_owner-free.ensures.seat.0 in
+returns-clause-same g c = let l = c.args.local.now in let all = c.swap_owner-free.ensures.swapped.2 (behind l) (out l) in let table = c.swap_owner-free.ensures.seat.0 in
     (((λ j. (table j, ap (λ (z : Me _ Acting). z.0.sizes) all j), refl, ap (λ (z : Me _ Acting). map told z.0.hand) all, refl), refl), refl, ap (λ (z : Me _ Acting). z.0.born) all, ap (λ (z : Me _ Acting). length z.0.waits) all)
+
+pub returns-clause-exchanged : goal.returns-clause-exchanged
+returns-clause-exchanged g c = let l = c.args.local.now in let e = c.swap_owner-free.ensures in let all = e.swapped.2 (behind l) (out l) in let home : c.args.domain.now.sizes ≡ l.place.me.0.sizes = c.args.domain.now.sized.0 ∙ sym (ap (λ (t : TableId × Sizes). t.1) c.requires.home) in
+    let made = ap (λ (z : Me _ Acting). z.0.cell_steps) all ∙ (λ j. l.place.me.0.cell_steps ++ record { word = cell_word (home j) c.args.self.now.cell; found = e.swapped.0; left = e.swapped.1 } ∷ []) in
+    (e.swapped.0, (c.swap_owner-free.result.0, e.spare, e.few.0, e.swapped.3), (e.swapped.1, (l.spare, l.has_spare.1, e.few.1, e.swapped.4), made))

@@ -79,3 +79,7 @@ pub returns-clause-same : goal.returns-clause-same
 returns-clause-same g c = let l = c.args.self.now in let d = l.place.me.0 in let m1 = c.scan_due.new.place.me in let s = c.scan_due.ensures.seat.2 in let f = c.give_home.ensures.filled (own_spare d l.spare) (own_bag d) (out g.T.Holds.holds l m1 s) in
     let all = closed g.T.Holds.holds l m1 s c.give_home.new.place.me f.0 f.1 f.2 c.close.new.place.me c.close.ensures.closed in let table = c.close.ensures.seat.0 ∙ (c.give_home.ensures.seat.0 ∙ c.scan_due.ensures.seat.0) in
     (λ j. (table j, (ap (λ (z : Me _ Acting). z.0.sizes) all ∙ s.3) j), refl, ap (λ (z : Me _ Acting). map told z.0.hand) all ∙ ap (map told) s.5, refl)
+
+pub returns-clause-cells : goal.returns-clause-cells
+returns-clause-cells g c = let l = c.args.self.now in let d = l.place.me.0 in let m1 = c.scan_due.new.place.me in let s = c.scan_due.ensures.seat.2 in let f = c.give_home.ensures.filled (own_spare d l.spare) (own_bag d) (out g.T.Holds.holds l m1 s) in
+    ap (λ (z : Me _ Acting). z.0.cell_steps) (closed g.T.Holds.holds l m1 s c.give_home.new.place.me f.0 f.1 f.2 c.close.new.place.me c.close.ensures.closed) ∙ s.13
