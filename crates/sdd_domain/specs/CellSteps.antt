@@ -1,7 +1,8 @@
 -- what calls tell of a participant's steps on cells
 use Rattle.std.specs.Prelude.{◌≡◌, ◌⊎◌, ℕ, ◌++◌, ◌∷◌, [], List, All}
-use Rattle.domain_table.specs.Layout.{cell_word, NamesWith}
-use Rattle.domain_table.specs.declared.board.CellStep.{CellStep}
+use Rattle.domain_table.specs.Layout.{cell_word}
+pub use Rattle.domain_table.specs.Layout.{packed, NamesWith}
+pub use Rattle.domain_table.specs.declared.board.CellStep.{CellStep}
 use Rattle.sdd_domain.specs.Tokens.{home_of}
 use Rattle.sdd_domain.specs.declared.local.Local.{Local}
 
@@ -16,6 +17,14 @@ StepsOnNoCell old new = cell_steps_of new ≡ cell_steps_of old
 -- it made just these steps on cells
 abbrev pub HasMade : {T : Type 0} → Local T → List CellStep → Local T → Type 0
 HasMade old xs new = cell_steps_of new ≡ cell_steps_of old ++ xs
+
+-- it made some steps on cells, maybe none
+abbrev pub HasMadeSome : {T : Type 0} → Local T → Local T → Type 0
+HasMadeSome old new = (xs : List CellStep) × HasMade old xs new
+
+-- one of the steps that it made on cells was this one
+abbrev pub HasMadeOne : {T : Type 0} → Local T → CellStep → Local T → Type 0
+HasMadeOne old x new = (xs : List CellStep) × (ys : List CellStep) × HasMade old (xs ++ x ∷ ys) new
 
 -- a step on this cell of its place, which found the one word and left the other
 abbrev pub step_on : {T : Type 0} → Local T → ℕ → ℕ → ℕ → CellStep

@@ -3,7 +3,7 @@ use Rattle.std.specs.Prelude.{◌≡◌, ℕ, ◌<◌, Option, None, Some}
 use Rattle.atomic_table.specs.Seated.{TableId}
 use Rattle.sdd_base.specs.declared.tag.Tag.{Tag}
 use Rattle.sdd_domain.specs.Cells.{cell_number}
-use Rattle.sdd_domain.specs.Comparing.{owner_slot, IsBack}
+use Rattle.sdd_domain.specs.Comparing.{owner_code, owner_slot, IsBack}
 use Rattle.sdd_domain.specs.Pointers.{ptr_slot, ptr_tag, ptr_item}
 use Rattle.sdd_domain.specs.Sharing.{kept_in, IsOwnerOf}
 use Rattle.sdd_domain.specs.Tokens.{cell_count, own_of, IsInNestButMisses}
@@ -35,6 +35,10 @@ IsSoleOwnerOf o x = IsOwnerOf o.owner x
 abbrev pub sole_slot : {T : Type 0} → Option (Owned T) → Option ℕ
 sole_slot o = owner_slot (owner_in o)
 
+-- 0 for none, else one more than that slot
+abbrev pub sole_code : {T : Type 0} → Option (Owned T) → ℕ
+sole_code o = owner_code (owner_in o)
+
 -- an owner of the same item, with the same value, in the same place; or none for none
 abbrev pub IsSoleBack : {T : Type 0} → Option (Owned T) → Option (Owned T) → Type 0
 IsSoleBack new back = IsBack (owner_in new) (owner_in back)
@@ -48,6 +52,10 @@ pointer_tag r = ptr_tag r.of
 
 abbrev pub pointer_item : {T : Type 0} → OwnedPtr T → Option T
 pointer_item r = ptr_item r.of
+
+-- the number of a cell, among the cells of its place
+abbrev pub cell_of : AtomicOwned → ℕ
+cell_of c = cell_number c.cell
 
 -- it is a cell of a place with as many cells as this one
 abbrev pub IsCellOf : {T : Type 0} → AtomicOwned → Domain T → Type 0

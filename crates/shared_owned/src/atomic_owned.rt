@@ -1,6 +1,6 @@
 //! Cells of owners that are alone.
 
-ghost use Rattle.std.specs.Prelude.{◌≡◌, ◌<◌, ◌+◌, ◌||◌, Bool, [], IsTrue, IfSome, IfNone, IfOk, IfErr, OnOk, OnErr};
+ghost use Rattle.std.specs.Prelude.{◌≡◌, ◌<◌, ◌+◌, ◌||◌, ◌⊎◌, ◌↔◌, ℕ, Bool, true, [], Some, IsTrue, IsFalse, IfSome, IfNone, IfOk, IfErr, OnOk, OnErr};
 ghost use Rattle.shared_owned.specs.Alone.{owner_in};
 
 use crate::owned::Owned;
@@ -40,9 +40,12 @@ fn alone<T>(owner: Option<Shared<T>>) -> Option<Owned<T>>
 }
 
 impl AtomicOwned {
+    ghost use Rattle.sdd_base.specs.Epochs.{tag_number};
+    ghost use Rattle.sdd_domain.specs.CellSteps.{StepsOnNoCell, HasReadCell, HasExchanged, HasOnlyRead, HasRetagged};
+    ghost use Rattle.sdd_domain.specs.Comparing.{code_of};
     ghost use Rattle.sdd_domain.specs.Pointers.{named_slot, named_tag};
     ghost use Rattle.sdd_domain.specs.Tokens.{place_of, home_of, number_of, own_of, hand_of, born_of, waiting_of, misses_of, nest_of, nest_in, IsInNest, IsInNestButMisses};
-    ghost use Rattle.shared_owned.specs.Alone.{IsCellOf, place_in, sole_slot, IsSoleBack, pointer_slot};
+    ghost use Rattle.shared_owned.specs.Alone.{IsCellOf, cell_of, place_in, sole_slot, sole_code, IsSoleBack, pointer_slot, pointer_tag};
     ghost use Rattle.shared_owned.specs.declared.pointer.OwnedPtr.{OwnedPtr};
 
     /// A cell that owns nothing, without a tag, if nobody has one of those that the place has: each is tried once. None is a
@@ -52,6 +55,7 @@ impl AtomicOwned {
         ensures hit { IfSome result (λ c. misses_of local.new ≡ misses_of local.old) }
         ensures missed { IfNone result (misses_of local.new ≡ misses_of local.old + 1) }
         ensures same { IsInNestButMisses local.old local.new × (own_of local.new ≡ own_of local.old) × (born_of local.new ≡ born_of local.old) × (waiting_of local.new ≡ waiting_of local.old) }
+        ensures cells { StepsOnNoCell local.old local.new }
     {
         match AtomicShared::null(domain, local) {
             Some(cell) => Some(AtomicOwned { cell }),
@@ -73,6 +77,8 @@ impl AtomicOwned {
         ensures missed { OnErr result (misses_of local.new ≡ misses_of local.old + 1) }
         ensures same { IsInNestButMisses local.old local.new × (born_of local.new ≡ born_of local.old) }
         ensures own { (flag : Bool) × (own_of local.new ≡ record (own_of local.old) { garbage = flag }) }
+        ensures put { IfOk result (λ c. (t : ℕ) × (k : ℕ) × HasExchanged local.old (cell_of c) t k 0 (sole_code (Some owned)) local.new) }
+        ensures cells { OnErr result (StepsOnNoCell local.old local.new) }
     {
         let Owned { owner } = owned;
         match AtomicShared::from(owner, domain, local) {
@@ -99,6 +105,8 @@ impl AtomicOwned {
         ensures nest { nest_in local.new ≡ nest_in local.old }
         ensures home { (home_of local.new ≡ home_of local.old) × (number_of local.new ≡ number_of local.old) }
         ensures own { (flag : Bool) × (own_of local.new ≡ record (own_of local.old) { garbage = flag }) }
+        ensures put { IfOk result (λ c. (t : ℕ) × (k : ℕ) × (slot : ℕ) × HasExchanged local.old (cell_of c) t k 0 (slot + 1) local.new) }
+        ensures cells { OnErr result (StepsOnNoCell local.old local.new ⊎ ((cell : ℕ) × (t : ℕ) × (k : ℕ) × HasExchanged local.old cell t k 0 0 local.new)) }
     {
         match AtomicShared::new(item, domain, local) {
             Ok(cell) => Ok(AtomicOwned { cell }),
@@ -107,17 +115,23 @@ impl AtomicOwned {
     }
 
     /// Whether the cell owns nothing, as it is found in one step.
-    pub fn is_null<T: Holds>(&self, domain: &Domain<T>) -> bool
+    pub fn is_null<T: Holds>(&self, domain: &Domain<T>, local: &mut Local<T>) -> bool
+        requires home { home_of local.old ≡ place_of domain.now }
         requires cell { IsCellOf self.now domain.now }
+        ensures looked { (t : ℕ) × (k : ℕ) × HasReadCell local.old (cell_of self.now) t k local.new × (IsTrue result ↔ (k ≡ 0)) }
+        ensures same { IsInNest local.old local.new × (own_of local.new ≡ own_of local.old) × (born_of local.new ≡ born_of local.old) × (waiting_of local.new ≡ waiting_of local.old) }
     {
-        self.cell.is_null(domain)
+        self.cell.is_null(domain, local)
     }
 
     /// The tag of the cell, as it is found in one step.
-    pub fn tag<T: Holds>(&self, domain: &Domain<T>) -> Tag
+    pub fn tag<T: Holds>(&self, domain: &Domain<T>, local: &mut Local<T>) -> Tag
+        requires home { home_of local.old ≡ place_of domain.now }
         requires cell { IsCellOf self.now domain.now }
+        ensures looked { (k : ℕ) × HasReadCell local.old (cell_of self.now) (tag_number result) k local.new }
+        ensures same { IsInNest local.old local.new × (own_of local.new ≡ own_of local.old) × (born_of local.new ≡ born_of local.old) × (waiting_of local.new ≡ waiting_of local.old) }
     {
-        self.cell.tag(domain)
+        self.cell.tag(domain, local)
     }
 
     /// What the cell names and its tag, as both are found in one step. The item stays, as it is, until the outermost guard
@@ -133,6 +147,7 @@ impl AtomicOwned {
         requires open { 0 < (own_of local.old).nesting }
         requires cell { IsCellOf self.now domain.now }
         ensures same { IsInNest local.old local.new × (own_of local.new ≡ own_of local.old) × (born_of local.new ≡ born_of local.old) × (waiting_of local.new ≡ waiting_of local.old) }
+        ensures looked { HasReadCell local.old (cell_of self.now) (tag_number (pointer_tag result)) (code_of (pointer_slot result)) local.new }
     {
         OwnedPtr {
             of: self.cell.load(domain, guard, local),
@@ -152,6 +167,7 @@ impl AtomicOwned {
         requires mine { IfSome new.0 (λ o. place_in o ≡ (place_of domain.now).0) }
         ensures home { IfSome result.0 (λ o. place_in o ≡ (place_of domain.now).0) }
         ensures same { IsInNest local.old local.new × (own_of local.new ≡ own_of local.old) × (born_of local.new ≡ born_of local.old) × (waiting_of local.new ≡ waiting_of local.old) }
+        ensures exchanged { HasExchanged local.old (cell_of self.now) (tag_number result.1) (sole_code result.0) (tag_number new.1) (sole_code new.0) local.new }
     {
         let (owned, tag) = new;
         let (old, found) = self.cell.swap((any(owned), tag), domain, local);
@@ -181,6 +197,8 @@ impl AtomicOwned {
         ensures stands { IfOk result (λ r. (named_slot r.1 ≡ sole_slot new.0) × (named_tag r.1 ≡ new.1)) }
         ensures back { IfErr result (λ r. IsSoleBack new.0 r.0) }
         ensures same { IsInNest local.old local.new × (own_of local.new ≡ own_of local.old) × (born_of local.new ≡ born_of local.old) × (waiting_of local.new ≡ waiting_of local.old) }
+        ensures exchanged { IfOk result (λ r. HasExchanged local.old (cell_of self.now) (tag_number (pointer_tag current.entry)) (sole_code r.0) (tag_number new.1) (sole_code new.0) local.new) }
+        ensures looked { IfErr result (λ r. HasReadCell local.old (cell_of self.now) (tag_number (pointer_tag r.1)) (code_of (pointer_slot r.1)) local.new) }
     {
         let (owned, tag) = new;
         let new = (any(owned), tag);
@@ -212,6 +230,8 @@ impl AtomicOwned {
         ensures stands { IfOk result (λ r. (named_slot r.1 ≡ sole_slot new.0) × (named_tag r.1 ≡ new.1)) }
         ensures back { IfErr result (λ r. IsSoleBack new.0 r.0) }
         ensures same { IsInNest local.old local.new × (own_of local.new ≡ own_of local.old) × (born_of local.new ≡ born_of local.old) × (waiting_of local.new ≡ waiting_of local.old) }
+        ensures exchanged { IfOk result (λ r. HasExchanged local.old (cell_of self.now) (tag_number (pointer_tag current.entry)) (sole_code r.0) (tag_number new.1) (sole_code new.0) local.new) }
+        ensures looked { IfErr result (λ r. HasReadCell local.old (cell_of self.now) (tag_number (pointer_tag r.1)) (code_of (pointer_slot r.1)) local.new) }
     {
         self.compare_exchange(current, new, domain, guard, local)
     }
@@ -234,6 +254,8 @@ impl AtomicOwned {
         requires callable { F.IsAlwaysCallable f }
         ensures asked { (r : OwnedPtr T) × (b : Bool) × F.post f r b × (IsTrue result → IsTrue b) }
         ensures same { IsInNest local.old local.new × (own_of local.new ≡ own_of local.old) × (born_of local.new ≡ born_of local.old) × (waiting_of local.new ≡ waiting_of local.old) }
+        ensures set { IsTrue result → (r : OwnedPtr T) × F.post f r true × HasRetagged local.old (cell_of self.now) (tag_number (pointer_tag r)) (code_of (pointer_slot r)) (tag_number tag) local.new }
+        ensures kept { IsFalse result → HasOnlyRead local.old (cell_of self.now) local.new }
     {
         let ask = |of|
             requires { F.IsAlwaysCallable f }
@@ -248,6 +270,7 @@ impl AtomicOwned {
         requires cell { IsCellOf self domain.now }
         ensures home { IfSome result (λ o. place_in o ≡ (place_of domain.now).0) }
         ensures same { IsInNest local.old local.new × (own_of local.new ≡ own_of local.old) × (born_of local.new ≡ born_of local.old) × (waiting_of local.new ≡ waiting_of local.old) }
+        ensures taken { (t : ℕ) × HasExchanged local.old (cell_of self) t (sole_code result) 0 0 local.new }
     {
         let AtomicOwned { cell } = self;
         alone(cell.into_shared(domain, local))
@@ -259,6 +282,7 @@ impl AtomicOwned {
         requires home { home_of local.old ≡ place_of domain.now }
         requires cell { IsCellOf self domain.now }
         ensures same { IsInNest local.old local.new × (born_of local.new ≡ born_of local.old) × (own_of local.new ≡ record (own_of local.old) { garbage = (own_of local.old).garbage || result }) }
+        ensures taken { (t : ℕ) × (k : ℕ) × HasExchanged local.old (cell_of self) t k 0 0 local.new }
     {
         let AtomicOwned { cell } = self;
         cell.retire(domain, local)

@@ -16,6 +16,7 @@ pub struct Owned<T> {
 }
 
 impl<T: Holds> Owned<T> {
+    ghost use Rattle.sdd_domain.specs.CellSteps.{StepsOnNoCell};
     ghost use Rattle.sdd_domain.specs.Tokens.{place_of, home_of, own_of, hand_of, born_of, waiting_of, misses_of, nest_of, nest_in, IsInNest, IsSameButHandAndMisses};
     ghost use Rattle.shared_owned.specs.Alone.{place_in, IsSoleOwnerOf, sole_slot, owner_of, pointer_slot};
 
@@ -33,6 +34,7 @@ impl<T: Holds> Owned<T> {
         ensures hit { OnOk result (misses_of local.new ≡ misses_of local.old) }
         ensures missed { OnErr result (misses_of local.new ≡ misses_of local.old + 1) }
         ensures same { IsSameButHandAndMisses local.old local.new }
+        ensures cells { StepsOnNoCell local.old local.new }
     {
         match Shared::new(item, domain, local) {
             Ok(owner) => Ok(Owned { owner }),
@@ -58,6 +60,7 @@ impl<T: Holds> Owned<T> {
         ensures hit { OnOk result (misses_of local.new ≡ misses_of local.old) }
         ensures missed { OnErr result (misses_of local.new ≡ misses_of local.old + 1) }
         ensures same { IsSameButHandAndMisses local.old local.new }
+        ensures cells { StepsOnNoCell local.old local.new }
     {
         match Shared::new_with(f, domain, local) {
             Ok(owner) => Ok(Owned { owner }),
@@ -95,6 +98,7 @@ impl<T: Holds> Owned<T> {
         ensures item { (x : T) → IsSoleOwnerOf self x → IsSoleOwnerOf result.0 x }
         ensures exact { pointer_slot result.1 ≡ sole_slot (Some self) }
         ensures same { IsInNest local.old local.new × (own_of local.new ≡ own_of local.old) × (born_of local.new ≡ born_of local.old) × (waiting_of local.new ≡ waiting_of local.old) }
+        ensures cells { StepsOnNoCell local.old local.new }
     {
         let Owned { owner } = self;
         let (owner, of) = owner.get_guarded_ptr(domain, guard, local);
@@ -115,6 +119,7 @@ impl<T: Holds> Owned<T> {
         ensures home { place_in result.0 ≡ place_in self }
         ensures item { (x : T) → IsSoleOwnerOf self x → IsSoleOwnerOf result.0 x }
         ensures same { IsInNest local.old local.new × (own_of local.new ≡ own_of local.old) × (born_of local.new ≡ born_of local.old) × (waiting_of local.new ≡ waiting_of local.old) }
+        ensures cells { StepsOnNoCell local.old local.new }
     {
         let Owned { owner } = self;
         let (owner, item) = owner.get_guarded_ref(domain, guard, local);
@@ -139,6 +144,7 @@ impl<T: Holds> Owned<T> {
         ensures more { IsFalse result → waiting_of local.new ≡ waiting_of local.old }
         ensures own { own_of local.new ≡ record (own_of local.old) { garbage = (own_of local.old).garbage || result } }
         ensures same { IsInNest local.old local.new × (born_of local.new ≡ born_of local.old) }
+        ensures cells { StepsOnNoCell local.old local.new }
     {
         let Owned { owner } = self;
         owner.release(domain, local)
