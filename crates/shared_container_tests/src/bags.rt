@@ -110,9 +110,9 @@ fn plays(scene: &Scene, local: &mut Local<u64>) -> Found
     let one = scene.len(local);
     let pushed = [scene.push(local, 2), scene.push(local, 3)];
     let two = scene.len(local);
-    let full = scene.bag.is_empty(scene.domain);
+    let full = scene.bag.is_empty(scene.domain, local);
     let popped = [scene.pop(local), scene.pop(local), scene.pop(local)];
-    let empty = scene.bag.is_empty(scene.domain);
+    let empty = scene.bag.is_empty(scene.domain, local);
     // the primary has room again, but what was popped isn't reclaimed yet
     let late = scene.try_push(local, 4);
     four(scene.domain, local);

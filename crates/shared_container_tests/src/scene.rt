@@ -165,7 +165,9 @@ impl Made {
             queue,
             bag,
         } = self;
-        let empty = stack.is_empty(domain) && queue.is_empty(domain) && bag.is_empty(domain);
+        let empty = stack.is_empty(domain, local)
+            && queue.is_empty(domain, local)
+            && bag.is_empty(domain, local);
         stack.end(domain, &links, local);
         queue.end(domain, &links, local);
         bag.end(domain, &links, local);

@@ -1,1 +1,2 @@
 pub mod StillLemmas
+pub mod TakenLemmas

@@ -1,5 +1,5 @@
 -- what links and containers show to clauses
-use Rattle.std.specs.Prelude.{◌≡◌, ◌<◌, ℕ, []}
+use Rattle.std.specs.Prelude.{◌≡◌, ◌<◌, ℕ, true, false, []}
 use Rattle.sdd_domain.specs.Cells.{cell_number}
 use Rattle.sdd_domain.specs.Tokens.{place_of, home_of, hand_of, cell_count, own_of, nest_of, nest_in, IsInNest, IsSameButMisses}
 use Rattle.sdd_domain.specs.declared.domain.Domain.{Domain}
@@ -23,13 +23,13 @@ AreLinksOf links d = IsRowOf links.row d
 abbrev pub IsStackOf : {T : Type 0} → Stack → Domain T → Type 0
 IsStackOf s d = cell_number s.first < cell_count d
 
--- and both cells of a queue
+-- and both cells of a queue, whose front is one
 abbrev pub IsQueueOf : {T : Type 0} → Queue → Domain T → Type 0
-IsQueueOf q d = IsStackOf q.front d × (cell_number q.last < cell_count d)
+IsQueueOf q d = IsStackOf q.front d × (cell_number q.last < cell_count d) × (q.front.is_front ≡ true)
 
--- and all of a bag
+-- and all of a bag, whose overflow is no front of a queue
 abbrev pub IsBagOf : {T : Type 0} → {n : ℕ} → Bag n → Domain T → Type 0
-IsBagOf b d = IsRowOf b.primary d × IsStackOf b.overflow d
+IsBagOf b d = IsRowOf b.primary d × IsStackOf b.overflow d × (b.overflow.is_front ≡ false)
 
 -- a participant of the place, without owners in hand, that can open a guard more
 abbrev pub IsReady : {T : Type 0} → Local T → Domain T → Type 0

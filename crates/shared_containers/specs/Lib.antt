@@ -1,3 +1,4 @@
 pub mod Containers
 pub mod Outcomes
+pub mod Taken
 pub mod Walks

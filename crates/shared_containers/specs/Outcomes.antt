@@ -37,6 +37,13 @@ IsFrom (Item s) place said = (kept_in s ≡ place) × said true
 IsFrom (Kept s) place said = (kept_in s ≡ place) × said false
 IsFrom Again place said = Unit {0}
 
+-- an owner that comes out is such a one
+abbrev pub IfItem : {T : Type 0} → Popped T → (Shared T → Type 0) → Type 0
+IfItem Empty P = Unit {0}
+IfItem (Item s) P = P s
+IfItem (Kept s) P = Unit {0}
+IfItem Again P = Unit {0}
+
 -- the owner is taken in where the condition said yes, and back where it said no, or where others were faster
 abbrev pub IsPushed : {T : Type 0} → Pushed T → Shared T → TableId → (Bool → Type 0) → Type 0
 IsPushed Done owner place said = said true

@@ -1,10 +1,13 @@
 //! Bags without locks: a row of places for a value each, and a stack for what has no room there.
 
-ghost use Rattle.std.specs.Prelude.{◌≡◌, [], IfOk, IfErr, IfSome};
+ghost use Rattle.std.specs.Prelude.{◌≡◌, ◌<◌, ℕ, [], IfOk, IfErr, IfSome};
+ghost use Rattle.sdd_domain.specs.Cells.{cell_number};
+ghost use Rattle.sdd_domain.specs.CellSteps.{HasMadeSome};
 ghost use Rattle.sdd_domain.specs.Sharing.{kept_in, IsOwnerOf};
-ghost use Rattle.sdd_domain.specs.Tokens.{place_of, home_of};
+ghost use Rattle.sdd_domain.specs.Tokens.{place_of, home_of, own_of, cell_count, IsInNest};
 ghost use Rattle.shared_containers.specs.Containers.{AreLinksOf, IsBagOf, IsAsBefore, IsReady, IsOpenIn, IsStill};
 ghost use Rattle.shared_containers.specs.Outcomes.{Gives, IfPartly, IfUnmade, IsRefused};
+ghost use Rattle.shared_containers.specs.Taken.{HasPoppedOf, HasTakenOut, IsCellAt};
 ghost use Rattle.std.specs.Iterator.{IsFiniteIterable};
 
 use crate::iter::IntoIter;
@@ -13,6 +16,7 @@ use crate::moves::{TRIES, exchange, place};
 use crate::outcome::{FromIterRefused, NotMade, PushRefused};
 use crate::stack::Stack;
 use sdd_base::tag::Tag;
+use sdd_domain::atomic_shared::AtomicShared;
 use sdd_domain::domain::Domain;
 use sdd_domain::guard::Guard;
 use sdd_domain::holds::Holds;
@@ -90,24 +94,28 @@ impl<const ARRAY_LEN: usize> Bag<ARRAY_LEN> {
         ensures same { IsAsBefore local.old local.new }
     {
         let overflow = self.overflow.len(domain, links, local);
-        self.taken(domain).saturating_add(overflow)
+        self.taken(domain, local).saturating_add(overflow)
     }
 
     /// Whether it has no item, as each place of the primary, and the overflow before, is found.
-    pub fn is_empty<T: Holds>(&self, domain: &Domain<T>) -> bool
-        requires { IsBagOf self.now domain.now }
+    pub fn is_empty<T: Holds>(&self, domain: &Domain<T>, local: &mut Local<T>) -> bool
+        requires home { home_of local.old ≡ place_of domain.now }
+        requires bag { IsBagOf self.now domain.now }
+        ensures same { IsInNest local.old local.new × (own_of local.new ≡ own_of local.old) }
     {
-        self.overflow.is_empty(domain) && self.taken(domain) == 0
+        self.overflow.is_empty(domain, local) && self.taken(domain, local) == 0
     }
 
     /// How many places of the primary are taken, each looked at in one step.
-    fn taken<T: Holds>(&self, domain: &Domain<T>) -> usize
-        requires { IsBagOf self.now domain.now }
+    fn taken<T: Holds>(&self, domain: &Domain<T>, local: &mut Local<T>) -> usize
+        requires home { home_of local.old ≡ place_of domain.now }
+        requires bag { IsBagOf self.now domain.now }
+        ensures same { IsInNest local.old local.new × (own_of local.new ≡ own_of local.old) }
     {
         let mut taken = 0usize;
         for i in 0..ARRAY_LEN {
             if let Some(cell) = self.primary.at(i) {
-                if !cell.is_null(domain) {
+                if !cell.is_null(domain, local) {
                     taken = taken.saturating_add(1);
                 }
             }
@@ -151,7 +159,7 @@ impl<const ARRAY_LEN: usize> Bag<ARRAY_LEN> {
         ensures refused { IfErr result (λ r. IsRefused r value (place_of domain.now).0 ⊥ (Unit {0})) }
         ensures same { IsAsBefore local.old local.new }
     {
-        if self.taken(domain) >= ARRAY_LEN {
+        if self.taken(domain, local) >= ARRAY_LEN {
             return Err(PushRefused::Full(value));
         }
         let owner = place(value, domain, local)?;
@@ -201,7 +209,7 @@ impl<const ARRAY_LEN: usize> Bag<ARRAY_LEN> {
             let Some(cell) = self.primary.at(i) else {
                 break;
             };
-            if cell.is_null(domain) {
+            if cell.is_null(domain, local) {
                 owner = exchange(cell, Ptr::null(), owner, domain, guard, local)?;
             }
         }
@@ -220,6 +228,7 @@ impl<const ARRAY_LEN: usize> Bag<ARRAY_LEN> {
         requires bag { IsBagOf self.now domain.now × AreLinksOf links.now domain.now }
         ensures home { IfSome result (λ s. kept_in s ≡ (place_of domain.now).0) }
         ensures same { IsAsBefore local.old local.new }
+        ensures taken { IfSome result (λ s. HasPoppedOf local.old self.now s local.new) }
     {
         match self.overflow.pop(domain, links, local) {
             Some(owner) => Some(owner),
@@ -233,15 +242,14 @@ impl<const ARRAY_LEN: usize> Bag<ARRAY_LEN> {
         requires bag { IsBagOf self.now domain.now }
         ensures home { IfSome result (λ s. kept_in s ≡ (place_of domain.now).0) }
         ensures same { IsAsBefore local.old local.new }
+        ensures taken { IfSome result (λ s. (i : ℕ) × (cell : ℕ) × IsCellAt self.now.primary i cell × HasTakenOut local.old cell s local.new) }
     {
         for i in 0..ARRAY_LEN {
             let Some(cell) = self.primary.at(i) else {
                 break;
             };
-            if !cell.is_null(domain) {
-                if let (Some(owner), _) = cell.swap((None, Tag::None), domain, local) {
-                    return Some(owner);
-                }
+            if let Some(owner) = take_from(cell, domain, local) {
+                return Some(owner);
             }
         }
         None
@@ -286,4 +294,24 @@ impl<const ARRAY_LEN: usize> Bag<ARRAY_LEN> {
         overflow.end(domain, links, local);
         primary.end(domain, local);
     }
+}
+
+/// Takes the item out of a cell, if it has one, by a swap with nothing.
+fn take_from<T: Holds>(
+    cell: &AtomicShared,
+    domain: &Domain<T>,
+    local: &mut Local<T>,
+) -> Option<Shared<T>>
+    requires home { home_of local.old ≡ place_of domain.now }
+    requires inside { cell_number cell.now < cell_count domain.now }
+    ensures home { IfSome result (λ s. kept_in s ≡ (place_of domain.now).0) }
+    ensures same { IsStill local.old local.new }
+    ensures taken { IfSome result (λ s. HasTakenOut local.old (cell_number cell.now) s local.new) }
+    ensures some { HasMadeSome local.old local.new }
+{
+    if cell.is_null(domain, local) {
+        return None;
+    }
+    let (owner, _) = cell.swap((None, Tag::None), domain, local);
+    owner
 }

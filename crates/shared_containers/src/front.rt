@@ -1,11 +1,15 @@
 //! Taking items out in front of a stack, and of a queue.
 
-ghost use Rattle.std.specs.Prelude.{◌≡◌, ◌<◌, IfSome};
+ghost use Rattle.std.specs.Prelude.{◌≡◌, ◌<◌, true, Some, IsTrue, IfSome};
 ghost use Rattle.sdd_domain.specs.Cells.{cell_number};
+ghost use Rattle.sdd_domain.specs.CellSteps.{HasMadeSome};
+ghost use Rattle.sdd_domain.specs.Comparing.{owner_slot};
+ghost use Rattle.sdd_domain.specs.Pointers.{ptr_slot, ptr_tag};
 ghost use Rattle.sdd_domain.specs.Sharing.{kept_in};
 ghost use Rattle.sdd_domain.specs.Tokens.{place_of, cell_count};
 ghost use Rattle.shared_containers.specs.Containers.{AreLinksOf, IsStackOf, IsAsBefore, IsReady, IsOpenIn, IsStill};
-ghost use Rattle.shared_containers.specs.Outcomes.{IsFrom, Said};
+ghost use Rattle.shared_containers.specs.Outcomes.{IfItem, IsFrom, Said};
+ghost use Rattle.shared_containers.specs.Taken.{HasTakenOut, HasMarked, HasPopped, IsPlain};
 
 use crate::links::Links;
 use crate::moves::{TRIES, follow, let_go};
@@ -58,6 +62,8 @@ impl Stack {
         requires callable { F.IsAlwaysCallable f.now }
         ensures home { IsFrom result (place_of domain.now).0 (Said (F.post f.now)) }
         ensures same { IsAsBefore local.old local.new }
+        ensures popped { IfItem result (λ s. HasPopped local.old self.now links.now s local.new) }
+        ensures some { HasMadeSome local.old local.new }
     {
         let Ok(guard) = Guard::new(domain, local) else {
             unreachable!();
@@ -81,6 +87,8 @@ impl Stack {
         requires callable { F.IsAlwaysCallable f.now }
         ensures home { IsFrom result (place_of domain.now).0 (Said (F.post f.now)) }
         ensures same { IsStill local.old local.new }
+        ensures popped { IfItem result (λ s. HasPopped local.old self.now links.now s local.new) }
+        ensures some { HasMadeSome local.old local.new }
     {
         let found = self.first.load(domain, guard, local);
         let Some(item) = found.as_ref() else {
@@ -115,6 +123,9 @@ impl Stack {
         requires inside { IsStackOf self.now domain.now × (cell_number link.now < cell_count domain.now) }
         ensures home { IfSome result (λ s. kept_in s ≡ (place_of domain.now).0) }
         ensures same { IsStill local.old local.new }
+        ensures taken { IsPlain self.now → IfSome result (λ s. HasTakenOut local.old (cell_number self.now.first) s local.new) }
+        ensures marked { self.now.is_front ≡ true → IfSome result (λ s. (owner_slot (Some s) ≡ ptr_slot found.entry) × HasMarked local.old (cell_number link.now) local.new) }
+        ensures some { HasMadeSome local.old local.new }
     {
         if self.is_front {
             self.take_marked(found, link, domain, guard, local)
@@ -136,6 +147,7 @@ impl Stack {
         requires inside { IsStackOf self.now domain.now × (cell_number link.now < cell_count domain.now) }
         ensures home { IfSome result (λ s. kept_in s ≡ (place_of domain.now).0) }
         ensures same { IsStill local.old local.new }
+        ensures some { HasMadeSome local.old local.new }
     {
         if self.take_out(found, link, domain, guard, local) {
             return None;
@@ -156,8 +168,14 @@ impl Stack {
         requires inside { IsStackOf self.now domain.now × (cell_number link.now < cell_count domain.now) }
         ensures home { IfSome result (λ s. kept_in s ≡ (place_of domain.now).0) }
         ensures same { IsStill local.old local.new }
+        ensures taken { IfSome result (λ s. HasTakenOut local.old (cell_number self.now.first) s local.new) }
+        ensures some { HasMadeSome local.old local.new }
     {
         let next = link.load(domain, guard, local);
+        // No item follows itself.
+        if next.slot() == found.slot() {
+            return None;
+        }
         let owner = next.get_shared(domain, local);
         // The item may have been popped and its link emptied since.
         let is_there = owner.is_some() || next.is_null();
@@ -193,12 +211,16 @@ impl Stack {
         requires inside { IsStackOf self.now domain.now × (cell_number link.now < cell_count domain.now) }
         ensures home { IfSome result (λ s. kept_in s ≡ (place_of domain.now).0) }
         ensures same { IsStill local.old local.new }
+        ensures marked { IfSome result (λ s. (owner_slot (Some s) ≡ ptr_slot found.entry) × HasMarked local.old (cell_number link.now) local.new) }
+        ensures some { HasMadeSome local.old local.new }
     {
         // An owner is had before the tag is set: behind that others may take the item out and release theirs.
         let owner = found.get_shared(domain, local)?;
         let is_mine = link.update_tag_if(
             Tag::Second,
-            |next| next.tag() == Tag::None,
+            |next|
+                ensures { IsTrue result → ptr_tag next.entry ≡ Tag.None }
+            { next.tag() == Tag::None },
             domain,
             guard,
             local,
@@ -224,6 +246,7 @@ impl Stack {
         requires open { IsOpenIn guard.now local.old domain.now }
         requires inside { IsStackOf self.now domain.now × (cell_number link.now < cell_count domain.now) }
         ensures same { IsStill local.old local.new }
+        ensures some { HasMadeSome local.old local.new }
     {
         let next = link.load(domain, guard, local);
         if next.tag() == Tag::None {

@@ -4,6 +4,7 @@ ghost use Rattle.std.specs.Prelude.{◌≡◌, ◌+◌, IfNone, IfSome, OnSome};
 ghost use Rattle.sdd_domain.specs.Sharing.{kept_in};
 ghost use Rattle.sdd_domain.specs.Tokens.{place_of};
 ghost use Rattle.shared_containers.specs.Containers.{AreLinksOf, IsBagOf, IsAsBefore, IsReady, IsOpenIn, IsStill};
+ghost use Rattle.shared_containers.specs.Taken.{HasPoppedOf};
 
 use crate::bag::Bag;
 use crate::links::Links;
@@ -77,6 +78,7 @@ impl<const ARRAY_LEN: usize> IntoIter<ARRAY_LEN> {
         ensures home { IfSome result (λ s. kept_in s ≡ (place_of domain.now).0) }
         ensures bag { self.new ≡ self.old }
         ensures same { IsAsBefore local.old local.new }
+        ensures taken { IfSome result (λ s. HasPoppedOf local.old self.old.bag s local.new) }
     {
         self.bag.pop(domain, links, local)
     }

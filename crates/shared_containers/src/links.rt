@@ -19,7 +19,9 @@ pub struct Links {
 }
 
 impl Links {
+    ghost use Rattle.sdd_domain.specs.Pointers.{ptr_slot};
     ghost use Rattle.sdd_domain.specs.Tokens.{place_of, home_of};
+    ghost use Rattle.shared_containers.specs.Taken.{IsCellAt};
     ghost use Rattle.shared_containers.specs.Containers.{AreLinksOf, IsAsBefore, IsOpenIn, IsStill};
 
     /// Links for the slots of a place. It takes as many cells as the place has slots, and memory for their names.
@@ -38,7 +40,8 @@ impl Links {
 
     /// The link of an item: none of nothing.
     pub(crate) fn of_item<T: Holds>(&self, item: Ptr<T>) -> Option<&AtomicShared>
-        ensures { IfSome result (λ c. cell_number c.now < self.now.row.cells_of_place) }
+        ensures inside { IfSome result (λ c. cell_number c.now < self.now.row.cells_of_place) }
+        ensures link { IfSome result (λ c. IfSome (ptr_slot item.entry) (λ i. IsCellAt self.now.row i (cell_number c.now))) }
     {
         self.row.at(item.slot()?)
     }
@@ -82,6 +85,7 @@ pub(crate) struct Row {
 
 impl Row {
     ghost use Rattle.sdd_domain.specs.Tokens.{place_of, home_of, cell_count};
+    ghost use Rattle.shared_containers.specs.Taken.{IsCellAt};
     ghost use Rattle.shared_containers.specs.Containers.{IsRowOf, IsAsBefore};
 
     /// So many cells, which own nothing, and memory for their names.
@@ -113,7 +117,8 @@ impl Row {
 
     /// One of them: none behind the last.
     pub(crate) fn at(&self, index: usize) -> Option<&AtomicShared>
-        ensures { IfSome result (λ c. cell_number c.now < self.now.cells_of_place) }
+        ensures inside { IfSome result (λ c. cell_number c.now < self.now.cells_of_place) }
+        ensures at { IfSome result (λ c. IsCellAt self.now index (cell_number c.now)) }
     {
         self.cells.get(index)
     }

@@ -2,6 +2,7 @@
 
 ghost use Rattle.std.specs.Prelude.{◌≡◌, ◌<◌, [], IfOk, IfErr, IfSome};
 ghost use Rattle.sdd_domain.specs.Cells.{cell_number};
+ghost use Rattle.sdd_domain.specs.CellSteps.{HasMadeSome, StepsOnNoCell};
 ghost use Rattle.sdd_domain.specs.Sharing.{kept_in, IsOwnerOf};
 ghost use Rattle.sdd_domain.specs.Tokens.{place_of, home_of, hand_of, cell_count};
 ghost use Rattle.shared_containers.specs.Containers.{IsAsBefore, IsOpenIn, IsStill};
@@ -25,6 +26,7 @@ pub(crate) fn let_go<T: Holds>(owner: Option<Shared<T>>, domain: &Domain<T>, loc
     requires home { home_of local.old ≡ place_of domain.now }
     requires mine { IfSome owner (λ s. kept_in s ≡ (place_of domain.now).0) }
     ensures same { IsStill local.old local.new }
+    ensures cells { StepsOnNoCell local.old local.new }
 {
     if let Some(owner) = owner {
         owner.release(domain, local);
@@ -42,6 +44,7 @@ pub(crate) fn follow<T: Holds>(
     requires inside { cell_number link.now < cell_count domain.now }
     requires mine { IfSome next (λ s. kept_in s ≡ (place_of domain.now).0) }
     ensures same { IsStill local.old local.new }
+    ensures some { HasMadeSome local.old local.new }
 {
     let (old, _) = link.swap((next, Tag::None), domain, local);
     let_go(old, domain, local);

@@ -1,11 +1,13 @@
 //! Queues without locks: a list that is appended to at its end, from which items are taken in front once they are marked.
 
-ghost use Rattle.std.specs.Prelude.{◌≡◌, ◌<◌, true, false, [], OnOk, IfOk, IfErr, IfSome};
+ghost use Rattle.std.specs.Prelude.{◌≡◌, ◌<◌, ◌↔◌, ℕ, true, false, [], IsTrue, OnOk, IfOk, IfErr, IfSome};
 ghost use Rattle.sdd_domain.specs.Cells.{cell_number};
+ghost use Rattle.sdd_domain.specs.CellSteps.{HasReadCell};
 ghost use Rattle.sdd_domain.specs.Sharing.{kept_in, IsOwnerOf};
-ghost use Rattle.sdd_domain.specs.Tokens.{place_of, home_of, cell_count, slot_count};
+ghost use Rattle.sdd_domain.specs.Tokens.{place_of, home_of, own_of, cell_count, slot_count, IsInNest};
 ghost use Rattle.shared_containers.specs.Containers.{AreLinksOf, IsQueueOf, IsAsBefore, IsReady, IsOpenIn, IsStill};
 ghost use Rattle.shared_containers.specs.Outcomes.{Gives, IfPartly, IfPartlyCopied, IfUncopied, IfUnmade, IsNotCloned, IsPushed, IsRefused, Said};
+ghost use Rattle.shared_containers.specs.Taken.{HasMarkedLink};
 ghost use Rattle.shared_containers.specs.Walks.{left_of};
 ghost use Rattle.std.specs.Iterator.{IsFiniteIterable};
 
@@ -111,10 +113,13 @@ impl Queue {
     }
 
     /// Whether it has no item, as it is found in one step. One that was popped may still be found.
-    pub fn is_empty<T: Holds>(&self, domain: &Domain<T>) -> bool
-        requires { IsQueueOf self.now domain.now }
+    pub fn is_empty<T: Holds>(&self, domain: &Domain<T>, local: &mut Local<T>) -> bool
+        requires home { home_of local.old ≡ place_of domain.now }
+        requires queue { IsQueueOf self.now domain.now }
+        ensures looked { (t : ℕ) × (k : ℕ) × HasReadCell local.old (cell_number self.now.front.first) t k local.new × (IsTrue result ↔ (k ≡ 0)) }
+        ensures same { IsInNest local.old local.new × (own_of local.new ≡ own_of local.old) }
     {
-        self.front.is_empty(domain)
+        self.front.is_empty(domain, local)
     }
 
     /// The first item, or nothing. One that was popped it takes out first, and tries again.
@@ -364,6 +369,7 @@ impl Queue {
         requires queue { IsQueueOf self.now domain.now × AreLinksOf links.now domain.now }
         ensures home { IfSome result (λ s. kept_in s ≡ (place_of domain.now).0) }
         ensures same { IsAsBefore local.old local.new }
+        ensures taken { IfSome result (λ s. HasMarkedLink local.old links.now s local.new) }
     {
         self.front.pop(domain, links, local)
     }
@@ -386,6 +392,7 @@ impl Queue {
         ensures popped { IfOk result (λ o. IfSome o (λ s. (kept_in s ≡ (place_of domain.now).0) × Said (F.post f) true)) }
         ensures kept { IfErr result (λ s. (kept_in s ≡ (place_of domain.now).0) × Said (F.post f) false) }
         ensures same { IsAsBefore local.old local.new }
+        ensures taken { IfOk result (λ o. IfSome o (λ s. HasMarkedLink local.old links.now s local.new)) }
     {
         self.front.pop_if(f, domain, links, local)
     }

@@ -1,11 +1,16 @@
 //! Stacks without locks, after Treiber.
 
-ghost use Rattle.std.specs.Prelude.{◌≡◌, ◌<◌, true, false, [], OnOk, IfOk, IfErr, IfSome};
+ghost use Rattle.std.specs.Prelude.{◌≡◌, ◌<◌, ◌↔◌, ℕ, true, false, [], IsTrue, OnOk, IfOk, IfErr, IfSome};
+ghost use Rattle.sdd_base.specs.Epochs.{tag_number};
 ghost use Rattle.sdd_domain.specs.Cells.{cell_number};
+ghost use Rattle.sdd_domain.specs.CellSteps.{HasMadeSome, HasReadCell};
+ghost use Rattle.sdd_domain.specs.Comparing.{code_of};
+ghost use Rattle.sdd_domain.specs.Pointers.{ptr_slot, ptr_tag};
 ghost use Rattle.sdd_domain.specs.Sharing.{kept_in, IsOwnerOf};
 ghost use Rattle.sdd_domain.specs.Tokens.{place_of, home_of, own_of, cell_count, slot_count, IsInNest};
 ghost use Rattle.shared_containers.specs.Containers.{AreLinksOf, IsStackOf, IsAsBefore, IsReady, IsOpenIn, IsStill};
 ghost use Rattle.shared_containers.specs.Outcomes.{Gives, IfPartly, IfPartlyCopied, IfUncopied, IfUnmade, IsNotCloned, IsPushed, IsRefused, Said};
+ghost use Rattle.shared_containers.specs.Taken.{HasPopped, IsPlain};
 ghost use Rattle.shared_containers.specs.Walks.{left_of};
 ghost use Rattle.std.specs.Iterator.{IsFiniteIterable};
 
@@ -35,6 +40,7 @@ impl Stack {
     pub fn new<T: Holds>(domain: &Domain<T>, local: &mut Local<T>) -> Option<Stack>
         ensures stack { IfSome result (λ s. IsStackOf s domain.now) }
         ensures same { IsAsBefore local.old local.new }
+        ensures plain { IfSome result (λ s. IsPlain s) }
     {
         let first = AtomicShared::null(domain, local)?;
         Some(Stack {
@@ -61,6 +67,7 @@ impl Stack {
         ensures built { IfErr result (λ e. IfPartly e (λ s _. IsStackOf s domain.now)) }
         ensures partly { IfErr result (λ e. IfPartly e (λ _ r. (v : T) × Gives I.into_iter_gives I.IntoIter.next_gives values v × IsRefused r v (place_of domain.now).0 ⊥ ⊥)) }
         ensures same { IsAsBefore local.old local.new }
+        ensures plain { IfOk result (λ s. IsPlain s) }
     {
         let Some(stack) = Stack::new(domain, local) else {
             return Err(FromIterRefused::Unmade(NotMade::NoCell, values));
@@ -91,6 +98,7 @@ impl Stack {
         ensures built { IfErr result (λ e. IfPartlyCopied e (λ s _. IsStackOf s domain.now)) }
         ensures partly { IfErr result (λ e. IfPartlyCopied e (λ _ why. IsNotCloned why T.is_clone T.is_infallible (place_of domain.now).0)) }
         ensures same { IsAsBefore local.old local.new }
+        ensures plain { IfOk result (λ s. IsPlain s) }
     {
         let Some(copy) = Stack::new(domain, local) else {
             return Err(CloneRefused::Unmade(NotMade::NoCell));
@@ -102,10 +110,13 @@ impl Stack {
     }
 
     /// Whether it has no item, as it is found in one step.
-    pub fn is_empty<T: Holds>(&self, domain: &Domain<T>) -> bool
-        requires { IsStackOf self.now domain.now }
+    pub fn is_empty<T: Holds>(&self, domain: &Domain<T>, local: &mut Local<T>) -> bool
+        requires home { home_of local.old ≡ place_of domain.now }
+        requires stack { IsStackOf self.now domain.now }
+        ensures looked { (t : ℕ) × (k : ℕ) × HasReadCell local.old (cell_number self.now.first) t k local.new × (IsTrue result ↔ (k ≡ 0)) }
+        ensures same { IsInNest local.old local.new × (own_of local.new ≡ own_of local.old) }
     {
-        self.first.is_null(domain)
+        self.first.is_null(domain, local)
     }
 
     /// The first item, or nothing, as it is found in one step.
@@ -117,6 +128,7 @@ impl Stack {
     ) -> Ptr<'g, T>
         requires open { IsOpenIn guard.now local.old domain.now }
         requires stack { IsStackOf self.now domain.now }
+        ensures looked { HasReadCell local.old (cell_number self.now.first) (tag_number (ptr_tag result)) (code_of (ptr_slot result)) local.new }
         ensures same { IsInNest local.old local.new × (own_of local.new ≡ own_of local.old) }
     {
         self.first.load(domain, guard, local)
@@ -312,6 +324,8 @@ impl Stack {
         requires stack { IsStackOf self.now domain.now × AreLinksOf links.now domain.now }
         ensures home { IfSome result (λ s. kept_in s ≡ (place_of domain.now).0) }
         ensures same { IsAsBefore local.old local.new }
+        ensures taken { IfSome result (λ s. HasPopped local.old self.now links.now s local.new) }
+        ensures some { HasMadeSome local.old local.new }
     {
         match self.pop_if(|_| true, domain, links, local) {
             Ok(popped) => popped,
@@ -336,6 +350,8 @@ impl Stack {
         ensures popped { IfOk result (λ o. IfSome o (λ s. (kept_in s ≡ (place_of domain.now).0) × Said (F.post f) true)) }
         ensures kept { IfErr result (λ s. (kept_in s ≡ (place_of domain.now).0) × Said (F.post f) false) }
         ensures same { IsAsBefore local.old local.new }
+        ensures taken { IfOk result (λ o. IfSome o (λ s. HasPopped local.old self.now links.now s local.new)) }
+        ensures some { HasMadeSome local.old local.new }
     {
         for _i in 0..TRIES {
             match self.try_pop(&f, domain, links, local) {
@@ -355,6 +371,7 @@ impl Stack {
         requires stack { IsStackOf self.now domain.now }
         ensures stack { IfSome result (λ s. IsStackOf s domain.now) }
         ensures same { IsAsBefore local.old local.new }
+        ensures plain { IfSome result (λ s. IsPlain s) }
     {
         let all = Stack::new(domain, local)?;
         let (first, _) = self.first.swap((None, Tag::None), domain, local);
