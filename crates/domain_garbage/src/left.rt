@@ -91,10 +91,11 @@ pub fn take_left<T, H: Holding<T>>(
     left
 }
 
-/// An empty bag, filled with what still waits.
-pub fn filled(bag: Vec<usize>, bags: Bags) -> Vec<usize>
+/// An empty bag, filled with what still waits; and the bags, which are empty then and have the room that they had.
+pub fn filled(bag: Vec<usize>, bags: Bags) -> (Vec<usize>, Bags)
     requires { (bag.items ≡ []) × (deque_len bags.slots ≤ vec_capacity bag) }
-    ensures { (result.items ≡ bags.slots.items) × (vec_capacity bag ≤ vec_capacity result) }
+    ensures filled { (result.0.items ≡ bags.slots.items) × (vec_capacity bag ≤ vec_capacity result.0) }
+    ensures emptied { WaitsIn [] result.1 × (result.1.due ≡ 0) × (deque_capacity result.1.slots ≡ deque_capacity bags.slots) }
 {
     let Bags { mut slots, .. } = bags;
     let mut bag = bag;
@@ -104,5 +105,12 @@ pub fn filled(bag: Vec<usize>, bags: Bags) -> Vec<usize>
             Err(_) => unreachable!(),
         }
     }
-    bag
+    let emptied = Bags {
+        slots,
+        current: 0,
+        previous: 0,
+        next: 0,
+        due: 0,
+    };
+    (bag, emptied)
 }

@@ -194,6 +194,7 @@ const TABLES: &[Table] = &[
     tags::SWAPPED,
     tags::EQUAL,
     tags::REFUSED_FOR_THE_TAG,
+    tags::NOTHING_FOR_NOTHING,
     tags::SET,
 ];
 

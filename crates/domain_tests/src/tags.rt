@@ -1,10 +1,10 @@
 //! Tags of cells of a place that threads share, and of pointers.
 
-use crate::steps::Act::{Own, Place, Read, Release, Retire, Swap};
+use crate::steps::Act::{Null, Own, Place, Read, Release, Retire, Swap};
 use crate::steps::Found::{Is, No, Nothing, Tagged, Yes};
 use crate::steps::Part::{Apart, Under};
 use crate::steps::View::{
-    Do, Exchange, ExchangeWeak, IsSameTagged, IsSameUntagged, Label, Load, Relabel, Retag,
+    Do, Exchange, ExchangeWeak, IsNull, IsSameTagged, IsSameUntagged, Label, Load, Relabel, Retag,
 };
 use crate::steps::{Act, Table};
 use sdd_base::tag::Tag;
@@ -84,6 +84,30 @@ pub(crate) const REFUSED_FOR_THE_TAG: Table = Table {
             (ExchangeWeak(Tag::Second), Yes),
             (Do(Read), Is(9)),
             (Do(Release), Yes),
+        ]),
+        Apart(&[(Retire, No)]),
+    ],
+};
+
+/// An exchange of nothing for nothing sets the tag that it brings.
+pub(crate) const NOTHING_FOR_NOTHING: Table = Table {
+    participants: 1,
+    slots: 8,
+    cells: 4,
+    first: 0,
+    parts: &[
+        Apart(&[(Null, Yes)]),
+        Under(&[
+            (Load, Nothing),
+            (Exchange(Tag::Second), Yes),
+            (Do(Read), Nothing),
+            (Do(Act::Tag), Tagged(Tag::Second)),
+            (Exchange(Tag::First), Nothing),
+            (Do(Act::Tag), Tagged(Tag::Second)),
+            (Load, Nothing),
+            (IsNull, Yes),
+            (ExchangeWeak(Tag::None), Yes),
+            (Do(Act::Tag), Tagged(Tag::None)),
         ]),
         Apart(&[(Retire, No)]),
     ],

@@ -30,7 +30,7 @@ pub struct Array<K: Ord, V> {
     ghost retired_empty: { IsTrue retired → len ≡ 0 },
 }
 
-/// Invariant: specs/Places.antt, IsArray: the reachable pairs lie in the places by rising keys, each in a slot of its own.
+/// Invariant: specs/Arrays.antt, IsArray: the reachable pairs lie in the places by rising keys, each in a slot of its own.
 impl<K: Ord, V> Model for Array<K, V> {
     ghost use Rattle.leaf_array.specs.Cells.{Cells, cells_code};
     ghost use Rattle.leaf_array.specs.Arrays.{IsArray, cells_of};

@@ -40,8 +40,8 @@ pub struct World<T, J: Deferred = Job> {
     pub(crate) table: Table<T, J>,
 }
 
-/// Invariant: specs/Place.antt, IsPlace: what waits is in one bag of one participant, and an open guard is at most one count
-/// behind.
+/// Invariant: specs/Place.antt of `sdd_table`, IsPlace: what waits is in one bag of one participant, and an open guard is at
+/// most one count behind.
 impl<T, J: Deferred> Model for World<T, J> {
     ghost use Rattle.sdd_table.specs.State.{State};
 

@@ -3,6 +3,8 @@
 ghost use Rattle.std.specs.Prelude.{◌≡◌, ◌+◌, ◌*◌, ◌^◌, ◌<◌, ◌≤◌, [], ◌++◌, replicate, vec_len, IfOk, OnOk, IfErr};
 ghost use Rattle.sdd_base.specs.State.{no_local};
 ghost use Rattle.domain_table.specs.Layout.{all_words, IsSized};
+ghost use Rattle.domain_table.specs.Ledgers.{IsEmpty};
+ghost use Rattle.std.specs.Option.{ForSome};
 
 use crate::board::{Board, Told, Words};
 use crate::guard::Guard;
@@ -27,17 +29,19 @@ pub struct Domain<T: Holds> {
     pub(crate) heap: Global,
     /// Which cells somebody has.
     pub(crate) taken: Vec<AtomicBool>,
+    /// What `close` notes items in, as a participant does.
+    closing: Option<Ledger<T>>,
     ghost cells: { vec_len taken ≡ sizes.cells },
+    ghost noted: { ForSome closing (IsEmpty sizes.slots) },
     ghost sized: { (sizes ≡ table.shared.key.sizes) × IsSized sizes × (all_words sizes ≤ table.shared.table_id.words) },
 }
 
 impl<T: Holds> Domain<T> {
-    ghost use Rattle.domain_table.specs.Ledgers.{IsEmpty};
     ghost use Rattle.sdd_domain.specs.Tokens.{participants_of, slot_count, cell_count, first_of, place_of, home_of, number_of, own_of, hand_of};
 
     /// A place without items, for as many participants as its sizes name, none of them registered. It takes all memory
-    /// of the place but what `register` takes: homes for slots times participants, and a box for the item of each slot.
-    /// Without memory nothing is kept.
+    /// of the place but what `register` takes: homes for slots times participants, a box for the item of each slot, and 48
+    /// bytes a slot for `close`. Without memory nothing is kept.
     pub fn new(alloc: Global, sizes: Sizes) -> Result<Domain<T>, AllocError>
         requires { IsSized sizes }
         ensures participants { IfOk result (λ d. participants_of d ≡ sizes.participants) }
@@ -59,18 +63,24 @@ impl<T: Holds> Domain<T> {
         let words = words_from(alloc, &plan)?;
         let taken = free_cells(alloc, sizes.cells)?;
         let homes = homes_from::<T, Told>(alloc, &plan.sizes)?;
-        match Board::new(alloc, &words, homes, &plan) {
-            Ok((table, _)) => Ok(Domain {
-                table,
-                sizes,
-                heap: alloc,
-                taken,
-            }),
+        let table = match Board::new(alloc, &words, homes, &plan) {
+            Ok((table, _)) => table,
             Err(Refused { slots }) => {
                 clear(slots);
-                Err(AllocError)
+                return Err(AllocError);
             }
-        }
+        };
+        let Ok(ledger) = Ledger::new(alloc, sizes.slots) else {
+            empty(table.close());
+            return Err(AllocError);
+        };
+        Ok(Domain {
+            table,
+            sizes,
+            heap: alloc,
+            taken,
+            closing: Some(ledger),
+        })
     }
 
     pub(crate) fn words(&self) -> &Words<T>
@@ -118,9 +128,10 @@ impl<T: Holds> Domain<T> {
     }
 
     /// Opens and closes accelerated guards of a participant until nothing waits for it, four for each slot at most, and
-    /// ends it: what an item held waits only once the item is reclaimed.
-    fn run_out(&self, local: Local<T>)
+    /// ends it: what an item held waits only once the item is reclaimed. Its ledger is back, empty.
+    fn run_out(&self, local: Local<T>) -> Ledger<T>
         requires { (home_of local ≡ place_of self.now) × ((own_of local).nesting ≡ 0) × (hand_of local ≡ []) }
+        ensures { IsEmpty self.now.sizes.slots result }
     {
         let mut local = local;
         for _i in 0..4 * self.sizes.slots {
@@ -132,20 +143,22 @@ impl<T: Holds> Domain<T> {
                 guard.close(self, &mut local);
             }
         }
-        local.end(self);
+        local.leave(self)
     }
 
-    /// Reclaims all that participants left, where nobody has a guard open and memory isn't refused.
-    fn reclaim_left(&self) {
+    /// Reclaims all that participants left, where nobody has a guard open, with a ledger that is back, empty.
+    fn reclaim_left(&self, ledger: Ledger<T>) -> Ledger<T>
+        requires { IsEmpty self.now.sizes.slots ledger }
+        ensures { IsEmpty self.now.sizes.slots result }
+    {
+        let mut ledger = ledger;
         for number in 0..self.sizes.participants {
-            let Ok(ledger) = Ledger::new(self.heap, self.sizes.slots) else {
-                return;
-            };
-            match self.acting_for(number, ledger) {
+            ledger = match self.acting_for(number, ledger) {
                 Ok(local) => self.run_out(local),
-                Err(ledger) => ledger.free(),
-            }
+                Err(back) => back,
+            };
         }
+        ledger
     }
 
     /// How many slots it has.
@@ -170,23 +183,33 @@ impl<T: Holds> Domain<T> {
     }
 
     /// Ends the place, and drops what still waits, with what that holds. It is handed back while a `Local`, an owner or
-    /// what a collector holds is out, and where memory is refused that reclaiming what waits takes.
+    /// what a collector holds is out, and where something waits at the last count. It takes no memory.
     pub fn close(self) -> Result<(), Domain<T>>
         ensures back { IfErr result (λ d. (place_of d ≡ place_of self) × (participants_of d ≡ participants_of self) × (first_of d ≡ first_of self)) }
     {
-        if any_claimed(self.words(), &self.sizes) {
-            return Err(self);
+        let mut domain = self;
+        if any_claimed(domain.words(), &domain.sizes) {
+            return Err(domain);
         }
-        self.reclaim_left();
-        if self.slots_in_use() > 0 {
-            return Err(self);
+        if let Some(ledger) = domain.closing.take() {
+            let ledger = domain.reclaim_left(ledger);
+            if let Some(other) = domain.closing.replace(ledger) {
+                other.free();
+            }
+        }
+        if domain.slots_in_use() > 0 {
+            return Err(domain);
         }
         let Domain {
             table,
             sizes: _,
             heap: _,
             taken: _,
-        } = self;
+            closing,
+        } = domain;
+        if let Some(ledger) = closing {
+            ledger.free();
+        }
         empty(table.close());
         Ok(())
     }

@@ -321,6 +321,16 @@ impl<T: Holds> Local<T> {
         requires closed { (own_of self).nesting ≡ 0 }
         requires bare { hand_of self ≡ [] }
     {
+        self.leave(domain).free();
+    }
+
+    /// The same, with the ledger, which is empty then.
+    pub(crate) fn leave(self, domain: &Domain<T>) -> Ledger<T>
+        requires home { home_of self ≡ place_of domain.now }
+        requires closed { (own_of self).nesting ≡ 0 }
+        requires bare { hand_of self ≡ [] }
+        ensures { IsEmpty domain.now.sizes.slots result }
+    {
         let Local {
             mut place,
             number,
@@ -334,9 +344,9 @@ impl<T: Holds> Local<T> {
             misses: _,
         } = self;
         no_token(life);
-        rows.destroy_empty();
-        let left = filled(bag, bags);
+        let (left, bags) = filled(bag, bags);
         bag_in(domain.words(), &mut place, &domain.sizes, number, left);
         steps::end(domain.words(), &mut place, number, spare);
+        Ledger { bags, rows }
     }
 }

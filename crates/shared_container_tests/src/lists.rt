@@ -17,27 +17,27 @@ use std::alloc::Global;
 use std::process::Abort;
 use std::test::Fail;
 
-type Found = ([Option<u64>; 4], [Option<u64>; 4]);
+/// What a full place gives back, what is popped, and whether it was empty before, with three values, with one, and behind.
+type Found = ([Option<u64>; 4], [Option<u64>; 4], [bool; 4]);
 
-/// What a participant finds for three slots: what a full place gives back, and what is popped, in this order.
+/// What a participant finds for three slots, in this order.
 fn plays(scene: &Scene, local: &mut Local<u64>) -> Found
     requires home { (home_of local.old ≡ place_of scene.now.domain.now) × (hand_of local.old ≡ []) }
     requires closed { (own_of local.old).nesting ≡ 0 }
     ensures same { IsAsBefore local.old local.new }
 {
+    let before = scene.is_empty();
     let pushed = [
         scene.push(local, 1),
         scene.push(local, 2),
         scene.push(local, 3),
         scene.push(local, 4),
     ];
-    let popped = [
-        scene.pop(local),
-        scene.pop(local),
-        scene.pop(local),
-        scene.pop(local),
-    ];
-    (pushed, popped)
+    let full = scene.is_empty();
+    let (first, second) = (scene.pop(local), scene.pop(local));
+    let one = scene.is_empty();
+    let popped = [first, second, scene.pop(local), scene.pop(local)];
+    (pushed, popped, [before, full, one, scene.is_empty()])
 }
 
 /// What is found so twice, with four guards in between, and whether nothing is left in the end.
@@ -68,6 +68,7 @@ fn a_stack_gives_the_last_value_first_and_a_full_place_one_back(
     let one = (
         [None, None, None, Some(4)],
         [Some(3), Some(2), Some(1), None],
+        [true, false, false, true],
     );
     assert!(rt; found == ([one; 2], true));
     Ok(())
@@ -83,11 +84,13 @@ fn a_queue_gives_the_first_value_first_and_a_full_place_one_back(
     let first = (
         [None, None, None, Some(4)],
         [Some(1), Some(2), Some(3), None],
+        [true, false, false, true],
     );
     // 3 stayed in its slot until another item was appended, and isn't reclaimed yet
     let again = (
         [None, None, Some(3), Some(4)],
         [Some(1), Some(2), None, None],
+        [true, false, true, true],
     );
     assert!(rt; found == ([first, again], true));
     Ok(())

@@ -206,6 +206,15 @@ impl<'a> Scene<'a> {
         }
     }
 
+    /// Whether it has no value.
+    pub(crate) fn is_empty(&self) -> bool {
+        match self.kind {
+            Kind::Stack => self.stack.is_empty(self.domain),
+            Kind::Queue => self.queue.is_empty(self.domain),
+            Kind::Bag => self.bag.is_empty(self.domain),
+        }
+    }
+
     /// Pops a value.
     pub(crate) fn pop(&self, local: &mut Local<u64>) -> Option<u64>
         requires home { (home_of local.old ≡ place_of self.now.domain.now) × (hand_of local.old ≡ []) }

@@ -228,6 +228,62 @@ fn a_swap_takes_out_the_owner_and_the_tag(rt: HostRuntime) -> Result<(), Fail> {
     Ok(())
 }
 
+/// What is seen of a cell: whether it is empty, its tag, and the value and the tag that a guard loads.
+type Looked = (bool, Tag, Option<u64>, Tag);
+
+fn looks(cell: &AtomicOwned, domain: &Domain<u64>, local: &mut Local<u64>) -> Looked
+    requires home { (home_of local.old ≡ place_of domain.now) × (hand_of local.old ≡ []) }
+    requires closed { (own_of local.old).nesting ≡ 0 }
+    requires cell { IsCellOf cell.now domain.now }
+    ensures same { IsAsBefore local.old local.new }
+{
+    let (empty, tag) = (cell.is_null(domain), cell.tag(domain));
+    let Ok(guard) = Guard::new(domain, local) else {
+        unreachable!();
+    };
+    let found = cell.load(domain, &guard, local);
+    let (value, loaded) = (found.as_ref().copied(), found.tag());
+    guard.close(domain, local);
+    (empty, tag, value, loaded)
+}
+
+/// What is seen of a cell that is made empty, then has 14 with both tags, and then nothing with the second one.
+fn three_looks<R: Abort>(rt: &R, domain: &Domain<u64>, local: &mut Local<u64>) -> [Looked; 3]
+    requires home { (home_of local.old ≡ place_of domain.now) × (hand_of local.old ≡ []) }
+    requires closed { (own_of local.old).nesting ≡ 0 }
+    ensures same { IsAsBefore local.old local.new }
+{
+    let Some(cell) = AtomicOwned::null(domain, local) else {
+        panic!(rt; "a cell is free");
+    };
+    let made = looks(&cell, domain, local);
+    let fourteen = owned(rt, 14, domain, local);
+    let (none, _) = cell.swap((Some(fourteen), Tag::Both), domain, local);
+    last_value(none, domain, local);
+    let full = looks(&cell, domain, local);
+    let (taken, _) = cell.swap((None, Tag::Second), domain, local);
+    last_value(taken, domain, local);
+    let emptied = looks(&cell, domain, local);
+    cell.retire(domain, local);
+    [made, full, emptied]
+}
+
+#[test]
+fn a_cell_is_seen_as_it_was_left(rt: HostRuntime) -> Result<(), Fail> {
+    let domain = Domain::new(rt.alloc(), sized(1, 1, 1))?;
+    let mut local = member(&rt, &domain);
+    let found = three_looks(&rt, &domain, &mut local);
+    local.end(&domain);
+    end(&rt, domain);
+    let rows = [
+        (true, Tag::None, None, Tag::None),
+        (false, Tag::Both, Some(14), Tag::Both),
+        (true, Tag::Second, None, Tag::Second),
+    ];
+    assert!(rt; found == rows);
+    Ok(())
+}
+
 /// What a guard finds in a cell of 14: its value, by a pointer with another tag; whether the tag is set where the pointer is
 /// asked for 14 and where for 15; what an exchange for nothing gives of a pointer with the tag before, and with the tag.
 type Exchanged = (Option<u64>, [bool; 2], Option<u64>, Option<u64>);
@@ -479,6 +535,15 @@ fn a_word_has_the_raw_pointer_that_was_written(rt: HostRuntime) -> Result<(), Fa
     assert!(rt; !it.is_null() && empty && read == [tagged, tagged]);
     assert!(rt; tried == [Err(it), Ok(it)] && more == [Ok(tagged), Err(it)]);
     assert!(rt; set == [false, true] && now == (Tag::Second, it.with_tag(Tag::Second)));
+    let made = AtomicRaw::new(tagged);
+    let of_it = (made.is_null(), made.tag(), made.load());
+    let from_null = [
+        made.compare_exchange(null, it),
+        made.compare_exchange(tagged, null),
+        made.compare_exchange(null, tagged),
+    ];
+    assert!(rt; of_it == (false, Tag::Both, tagged) && made.load() == tagged);
+    assert!(rt; from_null == [Err(tagged), Ok(tagged), Ok(null)]);
     Ok(())
 }
 

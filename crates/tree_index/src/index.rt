@@ -38,7 +38,8 @@ pub struct TreeIndex<K: Ord, V> {
     pub(crate) arenas: Arenas<K, V>,
 }
 
-/// Invariant: specs/Content.antt, IsSound: no tree or one whose keys rise from leaf to leaf, with leaves linked in that order.
+/// Invariant: specs/Content.antt of `tree_nodes`, IsSound: no tree, or one whose keys rise from leaf to leaf, with leaves
+/// linked in that order.
 impl<K: Ord, V> Model for TreeIndex<K, V> {
     ghost use Rattle.tree_index.specs.Tree.{Tree, tree_code};
     ghost use Rattle.tree_nodes.specs.Content.{pairs_of, IsSound};

@@ -14,7 +14,8 @@ pub(crate) struct ChangeScan<'t, K: Ord, V> {
     cursor: Iter<'t, K, V>,
 }
 
-/// Invariant: specs/ChangeScans.antt, IsReading: the cursor goes over all pairs of the tree, and has begun if there are some.
+/// Invariant: specs/ChangeScans.antt of `version_views`, IsReading: the cursor goes over all pairs of the tree, and has
+/// begun if there are some.
 impl<'t, K: Ord, V> Model for ChangeScan<'t, K, V> {
     ghost use Rattle.std.specs.Prelude.{List};
     ghost use Rattle.version_views.specs.ChangeScans.{IsReading, unread};

@@ -135,7 +135,7 @@ pub(crate) struct Older<'a, K: Ord, V, const S: usize> {
     dir: &'a Directory<K, Kept>,
 }
 
-/// Invariant: specs/Versions.antt, IsVersion: the directory is a whole version of the place.
+/// Invariant: specs/Versions.antt of `version_views`, IsVersion: the directory is a whole version of the place.
 impl<'a, K: Ord, V, const S: usize> Model for Older<'a, K, V, S> {
     ghost use Rattle.sdd_base.specs.State.{value_at};
     ghost use Rattle.versions.specs.Placing.{Base};

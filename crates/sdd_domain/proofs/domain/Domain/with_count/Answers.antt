@@ -1,6 +1,7 @@
 use Rattle.std.proofs.Common.{◌≡◌, ℕ, ◌+◌, ◌++◌, ap, sym, ◌∙◌, subst, List, length, length-append, replicate, arith}
 use Rattle.sdd_steps.specs.State.{At}
 use Rattle.sdd_steps.proofs.ListLemmas.{at_replicate}
+use Rattle.domain_table.specs.Ledgers.{IsEmpty}
 use Rattle.domain_table.specs.Layout.{all_homes, all_spares, bag_place}
 use Rattle.domain_table.specs.declared.board.Home.{Home}
 use Rattle.domain_table.specs.declared.board.Home.TheVariants.{Blank}
@@ -22,4 +23,4 @@ new-requires g c = let sizes = c.args.sizes in let homes = c.in_ok-homes.ensures
 pub invariant_of-result : goal.invariant_of-result
 invariant_of-result g c = let sizes = c.args.sizes in let plan : Plan = record { sizes = sizes; first = c.args.count } in let told = c.in-Ok.ensures.ok in let key = ap (λ (z : Plan). z.sizes) told.5 in
     let long = told.0 ∙ (ap (λ (ws : List ℕ). length ws) (c.deref.ensures.value ∙ c.in_ok-words.ensures) ∙ long_first plan) in
-    record { cells = c.in_ok-taken.ensures; sized = (sym key, c.requires, omega (arith, long)) }
+    record { cells = c.in_ok-taken.ensures; noted = λ x e. (let same : c.in-Ok-new.ledger ≡ x = cc in subst (IsEmpty sizes.slots) same c.in-Ok-new.ensures); sized = (sym key, c.requires, omega (arith, long)) }

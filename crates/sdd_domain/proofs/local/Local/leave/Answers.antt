@@ -1,6 +1,9 @@
 use Rattle.std.proofs.Common.{◌≡◌, ◌≤◌, ◌++◌, List, [], ◌∷◌, ◌==◌, length, cond, ap, sym, ◌∙◌, subst, refl, arith}
 use lib.ListN.{length-map}
 use Rattle.atomic_table.specs.Table.{Me}
+use Rattle.atomic_table.specs.Seated.{TableId}
+use Rattle.sdd_base.specs.declared.sizes.Sizes.{Sizes}
+use Rattle.std.specs.VecDeque.{deque_capacity}
 use Rattle.sdd_steps.specs.declared.participant.Phase.TheVariants.{Idle, Opened}
 use Rattle.sdd_homes.specs.declared.Garbage.{Garbage}
 use Rattle.domain_table.specs.Contents.{garbage_slots}
@@ -12,13 +15,10 @@ use Rattle.sdd_domain.specs.declared.local.Local.{Local}
 use Rattle.sdd_domain.proofs.Bagged.{both_out}
 use Rattle.sdd_domain.proofs.Hands.{none_held}
 use Rattle.sdd_domain.proofs.Nested.{none_leased, no_rows}
-use Rattle.sdd_domain.proofs.local.Local.end.Goals as goal
+use Rattle.sdd_domain.proofs.local.Local.leave.Goals as goal
 
 out : {T : Type 0} (l : Local T) → l.own.nesting ≡ 0 → l.place.me.1 ≡ (own_spare l.place.me.0 l.spare, Blank) ∷ (own_bag l.place.me.0, Blank) ∷ []
 out l nothing = both_out l.place.me (own_spare l.place.me.0 l.spare) (own_bag l.place.me.0) (none_leased l nothing) l.has_spare.2
-
-pub destroy_empty-requires : goal.destroy_empty-requires
-destroy_empty-requires g c = let l = c.args.self in let none = no_rows (life_number l.life) l.place.me.0.leases l.rows.items l.lends.0 (none_leased l c.requires.closed) in let is = l.rows.ok.0 in omega arith
 
 pub bag_in-requires-clause-out : goal.bag_in-requires-clause-out
 bag_in-requires-clause-out g c = let l = c.args.self in (own_spare l.place.me.0 l.spare, Blank, out l c.requires.closed)
@@ -33,7 +33,7 @@ end-requires-clause-rests g c = let l = c.args.self in let e = c.bag_in.ensures.
 )
 
 pub end-requires-clause-spare : goal.end-requires-clause-spare
-end-requires-clause-spare g c = let l = c.args.self in let m = l.place.me in let v = c.filled-left.result in let e = c.bag_in.ensures.filled (own_spare m.0 l.spare) Blank (out l c.requires.closed) in let f = c.filled-left.ensures in
+end-requires-clause-spare g c = let l = c.args.self in let m = l.place.me in let v = c.filled-left.result.0 in let e = c.bag_in.ensures.filled (own_spare m.0 l.spare) Blank (out l c.requires.closed) in let f = c.filled-left.ensures.filled in
     let lost : m.0.left ++ m.0.waits ≡ m.0.waits = ap (λ (ws : List Garbage). ws ++ m.0.waits) l.leaves.0 in let slots = ap (λ (z : Me _ Acting). z.0.sizes.slots) e in let long = length-map m.0.waits (λ (w : Garbage). w.slot) in let many = ap length l.waits.0.0 in let room = l.waits.2 in let counts = l.bags.slots.ok.0 in let fits = l.bags.slots.small.1 in (
       ap (λ (z : Me _ Acting). z.0.spare) e ∙ l.has_spare.0,
       l.has_spare.1,
@@ -52,3 +52,17 @@ end-requires-clause-spare g c = let l = c.args.self in let m = l.place.me in let
         ),
       ),
     )
+
+no_items : {A : Type 0} (xs : List A) → length xs ≡ 0 → xs ≡ []
+no_items [] none = refl
+no_items (x ∷ xs) none = absurd (omega (arith, none))
+
+-- the ledger is empty, and has the room of the place
+pub returns : goal.returns
+returns g c = let l = c.args.self in let same = ap (λ (z : TableId × Sizes). z.1.slots) c.requires.home ∙ sym (ap (λ (z : Sizes). z.slots) c.args.domain.now.sized.0) in let e = c.filled-left.ensures.emptied in (
+  e.0,
+  e.1,
+  e.2 ∙ (l.waits.2 ∙ same),
+  no_items l.rows.items (no_rows (life_number l.life) l.place.me.0.leases l.rows.items l.lends.0 (none_leased l c.requires.closed)),
+  subst (λ n. n ≤ deque_capacity l.rows) same l.lends.1,
+)
