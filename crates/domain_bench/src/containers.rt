@@ -90,7 +90,7 @@ fn on_stack(scene: &Scene, local: &mut Local<u64>, rounds: u32) -> u64
     } = *scene;
     let mut sum: u64 = 0;
     for i in 0..rounds {
-        if let Err(refused) = stack.push(u64::from(i), domain, links, local) {
+        if let Err(refused) = stack.push(domain, u64::from(i), links, local) {
             let _ = refused.end(domain, local);
             let _ = pass(domain, local, true);
         }
@@ -117,7 +117,7 @@ fn on_queue(scene: &Scene, local: &mut Local<u64>, rounds: u32) -> u64
     } = *scene;
     let mut sum: u64 = 0;
     for i in 0..rounds {
-        if let Err(refused) = queue.push(u64::from(i), domain, links, local) {
+        if let Err(refused) = queue.push(domain, u64::from(i), links, local) {
             let _ = refused.end(domain, local);
             let _ = pass(domain, local, true);
         }

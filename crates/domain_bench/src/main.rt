@@ -122,7 +122,7 @@ fn items(domain: &Domain<u64>, local: &mut Local<u64>, rounds: u32) -> u64
 {
     let mut sum: u64 = 0;
     for i in 0..rounds {
-        if let Ok(owner) = Shared::new(u64::from(i), domain, local) {
+        if let Ok(owner) = Shared::new(domain, u64::from(i), local) {
             sum = sum.wrapping_add(*owner.as_ref());
             owner.release(domain, local);
         }
@@ -164,8 +164,8 @@ fn swaps(domain: &Domain<u64>, local: &mut Local<u64>, cell: &AtomicShared, roun
 {
     let mut sum: u64 = 0;
     for i in 0..rounds {
-        if let Ok(owner) = Shared::new(u64::from(i), domain, local) {
-            if let (Some(old), _) = cell.swap((Some(owner), Tag::None), domain, local) {
+        if let Ok(owner) = Shared::new(domain, u64::from(i), local) {
+            if let (Some(old), _) = cell.swap(domain, (Some(owner), Tag::None), local) {
                 sum = sum.wrapping_add(*old.as_ref());
                 old.release(domain, local);
             }
@@ -215,12 +215,12 @@ fn swaps_owners(
     ensures same { IsSameButMisses local.old local.new }
     ensures closed { (own_of local.new).nesting ≡ 0 }
 {
-    let Ok(mut owner) = Shared::new(2, domain, local) else {
+    let Ok(mut owner) = Shared::new(domain, 2, local) else {
         return 0;
     };
     let mut sum: u64 = 0;
     for _i in 0..rounds {
-        let (Some(old), _) = cell.swap((Some(owner), Tag::None), domain, local) else {
+        let (Some(old), _) = cell.swap(domain, (Some(owner), Tag::None), local) else {
             return sum;
         };
         sum = sum.wrapping_add(*old.as_ref());
@@ -238,7 +238,7 @@ fn clones(domain: &Domain<u64>, local: &mut Local<u64>, rounds: u32) -> u64
     ensures same { IsSameButMisses local.old local.new }
     ensures closed { (own_of local.new).nesting ≡ 0 }
 {
-    let Ok(mut owner) = Shared::new(1, domain, local) else {
+    let Ok(mut owner) = Shared::new(domain, 1, local) else {
         return 0;
     };
     let mut sum: u64 = 0;
@@ -287,8 +287,8 @@ fn with_cell(domain: &Domain<u64>, local: &mut Local<u64>, kind: Kind, rounds: u
     ensures closed { (own_of local.new).nesting ≡ 0 }
 {
     let cell = AtomicShared::null(domain, local)?;
-    if let Ok(owner) = Shared::new(1, domain, local) {
-        if let (Some(old), _) = cell.swap((Some(owner), Tag::None), domain, local) {
+    if let Ok(owner) = Shared::new(domain, 1, local) {
+        if let (Some(old), _) = cell.swap(domain, (Some(owner), Tag::None), local) {
             old.release(domain, local);
         }
     }

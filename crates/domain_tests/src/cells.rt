@@ -234,7 +234,7 @@ fn replace(domain: &Domain<u64>, local: &mut Local<u64>, cell: &AtomicShared, it
     requires inside { cell_number cell.now < cell_count domain.now }
     ensures same { IsInNestButMisses local.old local.new × ((own_of local.new).nesting ≡ (own_of local.old).nesting) }
 {
-    if let Ok(owner) = Shared::new(item, domain, local) {
+    if let Ok(owner) = Shared::new(domain, item, local) {
         put(domain, local, cell, owner);
     }
 }
@@ -285,7 +285,7 @@ fn puts(
     requires inside { cell_number cell.now < cell_count domain.now }
     ensures same { IsInNestButMisses local.old local.new × ((own_of local.new).nesting ≡ (own_of local.old).nesting) }
 {
-    let Ok(owner) = Shared::new(item, domain, local) else {
+    let Ok(owner) = Shared::new(domain, item, local) else {
         return Found::Nothing;
     };
     let (owner, found) = exchange(domain, guard, local, Some(owner), cell, current, Tag::None);

@@ -24,7 +24,7 @@ pub(crate) fn clones(domain: &Domain<u64>, local: &mut Local<u64>, cell: &Atomic
     ensures same { IsSameButMisses local.old local.new }
     ensures closed { (own_of local.new).nesting ≡ 0 }
 {
-    let (Some(owner), _) = cell.swap((None, Tag::None), domain, local) else {
+    let (Some(owner), _) = cell.swap(domain, (None, Tag::None), local) else {
         return Found::Nothing;
     };
     match owner.clone(domain, local) {

@@ -41,7 +41,7 @@ pub(crate) fn collected(
     if accelerated {
         guard.accelerate(local);
     }
-    let both = collector.collect_shared(owner, domain, &guard, local);
+    let both = collector.collect_shared(domain, owner, &guard, local);
     guard.close(domain, local);
     both
 }
@@ -73,7 +73,7 @@ pub(crate) fn collecting(domain: &Domain<u64>) -> Option<u32> {
     };
     let mut count: u32 = 0;
     for item in 0..1000u64 {
-        if let Ok(owner) = Shared::new(item, domain, &mut local) {
+        if let Ok(owner) = Shared::new(domain, item, &mut local) {
             let (next, last) = collected(domain, &mut local, collector, owner, true);
             collector = next;
             count = count.saturating_add(u32::from(last));

@@ -96,7 +96,7 @@ fn handed_back_twice<R: Abort>(
     domain: Domain<u64>,
 ) -> (Domain<u64>, (u64, bool), (Option<u64>, bool)) {
     let mut local = member(rt, &domain);
-    let Ok(owner) = Shared::new(1, &domain, &mut local) else {
+    let Ok(owner) = Shared::new(&domain, 1, &mut local) else {
         panic!(rt; "a slot is free");
     };
     local.end(&domain);
@@ -104,7 +104,7 @@ fn handed_back_twice<R: Abort>(
     let item = *owner.as_ref();
     let mut local = member(rt, &domain);
     let last = owner.release(&domain, &mut local);
-    let Ok(cell) = AtomicShared::new(1, &domain, &mut local) else {
+    let Ok(cell) = AtomicShared::new(&domain, 1, &mut local) else {
         panic!(rt; "a slot and a cell are free");
     };
     local.end(&domain);
@@ -122,7 +122,7 @@ fn handed_back_from_a_collector<R: Abort>(rt: &R, domain: Domain<u64>) -> (Domai
     let Ok(collector) = PrivateCollector::new(&domain) else {
         panic!(rt; "memory is there");
     };
-    let Ok(owner) = Shared::new(1, &domain, &mut local) else {
+    let Ok(owner) = Shared::new(&domain, 1, &mut local) else {
         panic!(rt; "a slot is free");
     };
     let (collector, last) = collected(&domain, &mut local, collector, owner, false);

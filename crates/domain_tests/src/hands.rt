@@ -72,7 +72,7 @@ fn swap(
     ensures ours { IsOurs domain.now result.0 }
     ensures stays { Stays local.old local.new }
 {
-    let (old, tag) = cell.swap((hand, tag), domain, local);
+    let (old, tag) = cell.swap(domain, (hand, tag), local);
     (old, Found::Tagged(tag))
 }
 
@@ -88,7 +88,7 @@ pub(crate) fn put(
     requires mine { kept_in owner ≡ (place_of domain.now).0 }
     ensures stays { Stays local.old local.new }
 {
-    if let (Some(older), _) = cell.swap((Some(owner), Tag::None), domain, local) {
+    if let (Some(older), _) = cell.swap(domain, (Some(owner), Tag::None), local) {
         older.release(domain, local);
     }
 }
@@ -168,7 +168,7 @@ fn own(
     ensures stays { Stays local.old local.new }
 {
     match hand {
-        Some(owner) => match AtomicShared::from(owner, domain, local) {
+        Some(owner) => match AtomicShared::from(domain, owner, local) {
             Ok(cell) => (None, Some(cell), Found::Yes),
             Err(owner) => (Some(owner), None, Found::No),
         },
@@ -182,7 +182,7 @@ fn make(domain: &Domain<u64>, local: &mut Local<u64>, item: u64) -> (Option<Atom
     ensures inside { IsInside domain.now result.0 }
     ensures stays { Stays local.old local.new }
 {
-    match AtomicShared::new(item, domain, local) {
+    match AtomicShared::new(domain, item, local) {
         Ok(cell) => (Some(cell), Found::Nothing),
         Err(item) => (None, Found::Is(item)),
     }
@@ -234,7 +234,7 @@ pub(crate) fn exchange(
     ensures ours { IsOurs domain.now result.0 }
     ensures stays { Stays local.old local.new }
 {
-    match cell.compare_exchange(current, (hand, tag), domain, guard, local) {
+    match cell.compare_exchange(domain, current, (hand, tag), guard, local) {
         Ok((old, _)) => (old, Found::Yes),
         Err((back, found)) => (back, item(found.as_ref())),
     }
@@ -257,7 +257,7 @@ pub(crate) fn exchange_weak(
     ensures ours { IsOurs domain.now result.0 }
     ensures stays { Stays local.old local.new }
 {
-    match cell.compare_exchange_weak(current, (hand, tag), domain, guard, local) {
+    match cell.compare_exchange_weak(domain, current, (hand, tag), guard, local) {
         Ok((old, named)) => (old, told(named == cell.load(domain, guard, local).named())),
         Err((back, _)) => (back, Found::Nothing),
     }

@@ -147,7 +147,7 @@ pub(crate) fn places(domain: &Domain<u64>, local: &mut Local<u64>, item: u64) ->
     ensures closed { (own_of local.new).nesting ≡ 0 }
 {
     let mut found = Found::Nothing;
-    if let Ok(owner) = Shared::new(item, domain, local) {
+    if let Ok(owner) = Shared::new(domain, item, local) {
         let same = *owner.as_ref() == item;
         if owner.release(domain, local) || !same {
             found = told(same);

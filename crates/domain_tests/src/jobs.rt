@@ -62,7 +62,7 @@ fn deferred(domain: &Domain<Count>, local: &mut Local<Count>, job: Count) -> Res
     let Ok(guard) = Guard::new(domain, local) else {
         unreachable!();
     };
-    let waits = guard.defer_execute(job, domain, local);
+    let waits = guard.defer_execute(domain, job, local);
     guard.accelerate(local);
     guard.close(domain, local);
     waits

@@ -60,7 +60,7 @@ fn leaf<R: Abort>(
     ensures place { kept_in result ≡ (place_of domain.now).0 }
     ensures same { IsSame local.old local.new × (own_of local.new ≡ own_of local.old) }
 {
-    match Shared::new(Node::Leaf(number), domain, local) {
+    match Shared::new(domain, Node::Leaf(number), local) {
         Ok(owner) => owner,
         Err(_) => panic!(rt; "a slot is free"),
     }
@@ -79,7 +79,7 @@ fn taken<R: Abort>(
     ensures hand { hand_of local.new ≡ all_told held.new.items }
     ensures same { IsSameButHand local.old local.new }
 {
-    match own_last(held, domain, local) {
+    match own_last(domain, held, local) {
         Some(owner) => owner,
         None => panic!(rt; "an owner is held"),
     }
@@ -103,15 +103,15 @@ fn directory<R: Abort>(
     let Ok(mut held) = Vec::with_capacity(alloc, 2) else {
         return Err((first, second));
     };
-    hold_last(&mut held, first, domain, local);
-    hold_last(&mut held, second, domain, local);
-    match Shared::new(Node::Directory(held), domain, local) {
+    hold_last(domain, &mut held, first, local);
+    hold_last(domain, &mut held, second, local);
+    match Shared::new(domain, Node::Directory(held), local) {
         Ok(owner) => Ok(owner),
         Err(Node::Directory(held)) => {
             let mut held = held;
             let second = taken(rt, domain, local, &mut held);
             let first = taken(rt, domain, local, &mut held);
-            match own_last(&mut held, domain, local) {
+            match own_last(domain, &mut held, local) {
                 None => held.destroy_empty(),
                 Some(_) => panic!(rt; "there were two"),
             }

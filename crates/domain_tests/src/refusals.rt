@@ -54,7 +54,7 @@ fn makes_and_ends<R: Abort>(rt: &R, alloc: Global) -> bool {
     };
     let (mut local, again) = registered(rt, &domain);
     let (collector, third) = collector(rt, &domain);
-    let Ok(owner) = Shared::new(7, &domain, &mut local) else {
+    let Ok(owner) = Shared::new(&domain, 7, &mut local) else {
         panic!(rt; "a slot is free");
     };
     let item = *owner.as_ref();

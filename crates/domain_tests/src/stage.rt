@@ -147,7 +147,7 @@ impl<'d> Stage<'d> {
     fn place(&mut self, item: u64) -> Found
         ensures stays { Stays self.old.here self.new.here }
     {
-        match Shared::new(item, self.domain, &mut self.here) {
+        match Shared::new(self.domain, item, &mut self.here) {
             Ok(owner) => {
                 self.put(Some(owner));
                 Found::Nothing

@@ -206,9 +206,9 @@ impl<'d> Stage<'d> {
     {
         match &self.cell {
             Some(cell) => told(cell.update_tag_if(
+                self.domain,
                 after,
                 |found| found.tag() == before,
-                self.domain,
                 guard,
                 &mut self.here,
             )),

@@ -69,8 +69,8 @@ impl AtomicShared {
 
     /// A cell that owns this item, without a tag. The owner is back where there is no cell, which is a miss.
     pub fn from<T: Holds>(
-        owner: Shared<T>,
         domain: &Domain<T>,
+        owner: Shared<T>,
         local: &mut Local<T>,
     ) -> Result<AtomicShared, Shared<T>>
         requires home { home_of local.old ≡ place_of domain.now }
@@ -87,15 +87,15 @@ impl AtomicShared {
         let Some(cell) = AtomicShared::null(domain, local) else {
             return Err(owner);
         };
-        cell.put(owner, domain, local);
+        cell.put(domain, owner, local);
         Ok(cell)
     }
 
     /// A cell that owns a new item, without a tag. The item is back where there is no cell or no free slot, which is a miss.
     /// Condition: it holds just the owners that are in the participant's hand.
     pub fn new<T: Holds>(
-        item: T,
         domain: &Domain<T>,
+        item: T,
         local: &mut Local<T>,
     ) -> Result<AtomicShared, T>
         requires home { home_of local.old ≡ place_of domain.now }
@@ -115,9 +115,9 @@ impl AtomicShared {
         let Some(cell) = AtomicShared::null(domain, local) else {
             return Err(item);
         };
-        match Shared::new(item, domain, local) {
+        match Shared::new(domain, item, local) {
             Ok(owner) => {
-                cell.put(owner, domain, local);
+                cell.put(domain, owner, local);
                 Ok(cell)
             }
             Err(item) => {
@@ -149,13 +149,13 @@ impl AtomicShared {
     {
         let cell = AtomicShared::null(domain, local)?;
         if let Some(owner) = self.get_shared(domain, guard, local) {
-            cell.put(owner, domain, local);
+            cell.put(domain, owner, local);
         }
         Some(cell)
     }
 
     /// Puts an owner into a cell that was just made. Whoever had the cell before left nothing in it.
-    fn put<T: Holds>(&self, owner: Shared<T>, domain: &Domain<T>, local: &mut Local<T>)
+    fn put<T: Holds>(&self, domain: &Domain<T>, owner: Shared<T>, local: &mut Local<T>)
         requires home { home_of local.old ≡ place_of domain.now }
         requires inside { cell_number self.now < cell_count domain.now }
         requires mine { kept_in owner ≡ (place_of domain.now).0 }
@@ -163,7 +163,7 @@ impl AtomicShared {
         ensures own { (flag : Bool) × (own_of local.new ≡ record (own_of local.old) { garbage = flag }) }
         ensures put { (t : ℕ) × (k : ℕ) × HasExchanged local.old (cell_number self.now) t k 0 (owner_code (Some owner)) local.new }
     {
-        if let (Some(old), _) = self.swap((Some(owner), Tag::None), domain, local) {
+        if let (Some(old), _) = self.swap(domain, (Some(owner), Tag::None), local) {
             old.release(domain, local);
         }
     }
@@ -282,8 +282,8 @@ impl AtomicShared {
     /// Swaps what the cell owns and its tag, in one step: the owner and the tag go in, and those that it had come out.
     pub fn swap<T: Holds>(
         &self,
-        new: (Option<Shared<T>>, Tag),
         domain: &Domain<T>,
+        new: (Option<Shared<T>>, Tag),
         local: &mut Local<T>,
     ) -> (Option<Shared<T>>, Tag)
         requires home { home_of local.old ≡ place_of domain.now }
@@ -307,9 +307,9 @@ impl AtomicShared {
     /// no memory.
     pub fn compare_exchange<'g, T: Holds>(
         &self,
+        domain: &Domain<T>,
         current: Ptr<T>,
         new: (Option<Shared<T>>, Tag),
-        domain: &Domain<T>,
         guard: &'g Guard,
         local: &mut Local<T>,
     ) -> Result<(Option<Shared<T>>, Named), (Option<Shared<T>>, Ptr<'g, T>)>
@@ -332,7 +332,7 @@ impl AtomicShared {
             return Err((new.0, found));
         }
         let stands = named_by(&new.0, new.1);
-        match try_exchange(local, domain, self.cell, word, new) {
+        match try_exchange(domain, self.cell, word, new, local) {
             Ok(old) => Ok((old, stands)),
             Err((back, found, tag)) => Err((back, found.under(guard).with_tag(tag))),
         }
@@ -341,9 +341,9 @@ impl AtomicShared {
     /// As `compare_exchange`: it fails for no other reason.
     pub fn compare_exchange_weak<'g, T: Holds>(
         &self,
+        domain: &Domain<T>,
         current: Ptr<T>,
         new: (Option<Shared<T>>, Tag),
-        domain: &Domain<T>,
         guard: &'g Guard,
         local: &mut Local<T>,
     ) -> Result<(Option<Shared<T>>, Named), (Option<Shared<T>>, Ptr<'g, T>)>
@@ -360,7 +360,7 @@ impl AtomicShared {
         ensures exchanged { IfOk result (λ r. HasExchanged local.old (cell_number self.now) (tag_number (ptr_tag current.entry)) (owner_code r.0) (tag_number new.1) (owner_code new.0) local.new) }
         ensures looked { IfErr result (λ r. HasReadCell local.old (cell_number self.now) (tag_number (ptr_tag r.1)) (code_of (ptr_slot r.1)) local.new) }
     {
-        self.compare_exchange(current, new, domain, guard, local)
+        self.compare_exchange(domain, current, new, guard, local)
     }
 
     /// Sets the tag, in one step, where `f` answers true of the pointer that is found: whether it did. Where other threads
@@ -368,9 +368,9 @@ impl AtomicShared {
     /// tells that it didn't. What the cell owns stays.
     pub fn update_tag_if<'g, T: Holds + 'g, F: Fn(Ptr<'g, T>) -> bool>(
         &self,
+        domain: &Domain<T>,
         tag: Tag,
         f: F,
-        domain: &Domain<T>,
         guard: &'g Guard,
         local: &mut Local<T>,
     ) -> bool
@@ -385,11 +385,11 @@ impl AtomicShared {
         ensures kept { IsFalse result → HasOnlyRead local.old (cell_number self.now) local.new }
     {
         for _ in 0..TRIES {
-            if let Some(answer) = self.try_update(tag, &f, domain, guard, local) {
+            if let Some(answer) = self.try_update(domain, tag, &f, guard, local) {
                 return answer;
             }
         }
-        match self.try_update(tag, &f, domain, guard, local) {
+        match self.try_update(domain, tag, &f, guard, local) {
             Some(answer) => answer,
             None => false,
         }
@@ -398,9 +398,9 @@ impl AtomicShared {
     /// The same once: what `f` answered, or none where it was true and others were faster.
     fn try_update<'g, T: Holds + 'g, F: Fn(Ptr<'g, T>) -> bool>(
         &self,
+        domain: &Domain<T>,
         tag: Tag,
         f: &F,
-        domain: &Domain<T>,
         guard: &'g Guard,
         local: &mut Local<T>,
     ) -> Option<bool>
@@ -424,7 +424,7 @@ impl AtomicShared {
         if !names(word, found) {
             return None;
         }
-        if try_tag(local, domain, self.cell, word, tag) {
+        if try_tag(domain, self.cell, word, tag, local) {
             Some(true)
         } else {
             None
@@ -443,7 +443,7 @@ impl AtomicShared {
         ensures same { IsInNest local.old local.new × (own_of local.new ≡ own_of local.old) × (born_of local.new ≡ born_of local.old) × (waiting_of local.new ≡ waiting_of local.old) }
         ensures taken { (t : ℕ) × HasExchanged local.old (cell_number self) t (owner_code result) 0 0 local.new }
     {
-        let (owner, _) = self.swap((None, Tag::None), domain, local);
+        let (owner, _) = self.swap(domain, (None, Tag::None), local);
         let AtomicShared { cell } = self;
         domain.taken[cell].store(false, Ordering::SeqCst);
         owner

@@ -66,11 +66,11 @@ pub(crate) fn named_by<T>(owner: &Option<Shared<T>>, tag: Tag) -> Named
 
 /// Sets the tag of a cell, in one step, where its word is `expected`. Whether it was.
 pub(crate) fn try_tag<T: Holds>(
-    local: &mut Local<T>,
     domain: &Domain<T>,
     cell: usize,
     expected: u64,
     tag: Tag,
+    local: &mut Local<T>,
 ) -> bool
     requires home { home_of local.old ≡ place_of domain.now }
     requires inside { cell < cell_count domain.now }
@@ -151,11 +151,11 @@ fn loaded_at<T: Holds>(rows: &VecDeque<Row<T>>, at: Option<usize>) -> Loaded<T>
 
 /// The same for a participant with an open guard: what was found is seen under its nest of guards.
 pub(crate) fn try_exchange<T: Holds>(
-    local: &mut Local<T>,
     domain: &Domain<T>,
     cell: usize,
     expected: u64,
     new: (Option<Shared<T>>, Tag),
+    local: &mut Local<T>,
 ) -> Result<Option<Shared<T>>, (Option<Shared<T>>, Loaded<T>, Tag)>
     requires home { home_of local.old ≡ place_of domain.now }
     requires open { 0 < (own_of local.old).nesting }

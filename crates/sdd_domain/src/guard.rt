@@ -117,8 +117,8 @@ impl Guard {
     /// and its `Holds::end`, which spends it, runs it. Condition: it holds just the owners that are in the participant's hand.
     pub fn defer_execute<T: Holds>(
         &self,
-        job: T,
         domain: &Domain<T>,
+        job: T,
         local: &mut Local<T>,
     ) -> Result<(), T>
         requires home { home_of local.old ≡ place_of domain.now }
@@ -134,7 +134,7 @@ impl Guard {
         ensures same { (home_of local.new ≡ home_of local.old) × (number_of local.new ≡ number_of local.old) }
         ensures cells { StepsOnNoCell local.old local.new }
     {
-        let owner = Shared::new(job, domain, local)?;
+        let owner = Shared::new(domain, job, local)?;
         owner.release(domain, local);
         Ok(())
     }

@@ -15,9 +15,9 @@ use crate::shared::Shared;
 /// Takes an owner into the participant's hand, and puts it behind those of an item to be placed. Conditions: these are
 /// all that are in its hand, and there is room for one more.
 pub fn hold_last<T: Holds>(
+    domain: &Domain<T>,
     held: &mut Vec<Held<T>>,
     owner: Shared<T>,
-    domain: &Domain<T>,
     local: &mut Local<T>,
 )
     requires home { home_of local.old ≡ place_of domain.now }
@@ -36,8 +36,8 @@ pub fn hold_last<T: Holds>(
 
 /// Takes the last one out again, if there is one: it has a seat of its own then.
 pub fn own_last<T: Holds>(
-    held: &mut Vec<Held<T>>,
     domain: &Domain<T>,
+    held: &mut Vec<Held<T>>,
     local: &mut Local<T>,
 ) -> Option<Shared<T>>
     requires home { home_of local.old ≡ place_of domain.now }

@@ -156,7 +156,7 @@ impl<'g, T: Holds> Ptr<'g, T> {
         ensures same { IsInNest local.old local.new × (own_of local.new ≡ own_of local.old) × (born_of local.new ≡ born_of local.old) × (waiting_of local.new ≡ waiting_of local.old) }
         ensures cells { StepsOnNoCell local.old local.new }
     {
-        Shared::of_leased(self.slot?, domain, local)
+        Shared::of_leased(domain, self.slot?, local)
     }
 }
 

@@ -58,8 +58,8 @@ impl PrivateCollector {
     /// count as its note. What reclaimed items held is released, and may wait for the participant. It takes no memory.
     pub fn collect_shared<T: Holds>(
         self,
-        shared: Shared<T>,
         domain: &Domain<T>,
+        shared: Shared<T>,
         guard: &Guard,
         local: &mut Local<T>,
     ) -> (PrivateCollector, bool)

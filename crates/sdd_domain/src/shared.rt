@@ -43,7 +43,7 @@ impl<T: Holds> Shared<T> {
     /// Places an item in a free slot, and gives its first owner. Where each slot was taken when it was tried, the item
     /// is back, which is a miss of the participant. The item holds all owners that are in the participant's hand, and no
     /// other one. It takes no memory.
-    pub fn new(item: T, domain: &Domain<T>, local: &mut Local<T>) -> Result<Shared<T>, T>
+    pub fn new(domain: &Domain<T>, item: T, local: &mut Local<T>) -> Result<Shared<T>, T>
         requires home { home_of local.old ≡ place_of domain.now }
         requires holds { T.holds item ≡ hand_of local.old }
         ensures home { IfOk result (λ s. kept_in s ≡ (place_of domain.now).0) }
@@ -71,8 +71,8 @@ impl<T: Holds> Shared<T> {
     /// Places what `f` gives, as [`new`](Shared::new) does with an item that is there: `f` is called once a slot is claimed
     /// for it. Where each slot was taken when it was tried, it isn't called, and that is a miss of the participant.
     pub fn new_with<F: FnOnce() -> T + Drop>(
-        f: F,
         domain: &Domain<T>,
+        f: F,
         local: &mut Local<T>,
     ) -> Result<Shared<T>, NoSlot>
         requires home { home_of local.old ≡ place_of domain.now }
@@ -171,8 +171,8 @@ impl<T: Holds> Shared<T> {
     /// One more owner of the item that the participant has leased in `slot`. None where it has leased none there, where that
     /// is retired or has `2^32 - 1` owners, or where the participant has only one part of it.
     pub(crate) fn of_leased(
-        slot: usize,
         domain: &Domain<T>,
+        slot: usize,
         local: &mut Local<T>,
     ) -> Option<Shared<T>>
         requires home { home_of local.old ≡ place_of domain.now }
@@ -189,8 +189,8 @@ impl<T: Holds> Shared<T> {
 
     /// An owner of the item that a pointer is to, as `Ptr::get_shared` gives it; else the pointer is back.
     pub fn try_from<'g>(
-        pointer: Ptr<'g, T>,
         domain: &Domain<T>,
+        pointer: Ptr<'g, T>,
         local: &mut Local<T>,
     ) -> Result<Shared<T>, Ptr<'g, T>>
         requires home { home_of local.old ≡ place_of domain.now }

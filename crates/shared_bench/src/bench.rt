@@ -105,7 +105,7 @@ fn alone<L: Naming, R: Wait>(
         refused = u64::from(task.last).wrapping_sub(rounds(rt, alloc, index, &mut share, task));
         sessions(alloc, domain, index.root(), &mut local, task, 1, fresh(77))
     };
-    leave(local, domain);
+    leave(domain, local);
     let times: Vec<u64> = Vec::new(alloc);
     (
         share,
@@ -131,7 +131,7 @@ pub fn run<L: Naming, R: Threads + Wait + Clock + Sync>(
     requires parts { (blank.parts ≡ L.parts) × (blank.parts ≡ 1) }
 {
     let Ok(mut all) = Vec::with_capacity(alloc, 1) else {
-        leave(local, domain);
+        leave(domain, local);
         return None;
     };
     let made: Result<(Index<'_, L>, Vec<Share<L>>), _> = SharedIndex::new(
@@ -140,7 +140,7 @@ pub fn run<L: Naming, R: Threads + Wait + Clock + Sync>(
     let (index, mut shares) = match made {
         Ok(made) => made,
         Err((local, _, _)) => {
-            leave(local, domain);
+            leave(domain, local);
             return None;
         }
     };
@@ -157,7 +157,7 @@ pub fn run<L: Naming, R: Threads + Wait + Clock + Sync>(
     };
     all.push_reserved(share);
     match index.close(all) {
-        Ok((local, _)) => leave(local, domain),
+        Ok((local, _)) => leave(domain, local),
         Err(_) => unreachable!(),
     }
     found

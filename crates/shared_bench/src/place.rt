@@ -19,7 +19,7 @@ pub fn registered(domain: &Domain<Item>) -> Option<Local<Item>>
 }
 
 /// Ends a participant.
-pub fn leave(local: Local<Item>, domain: &Domain<Item>)
+pub fn leave(domain: &Domain<Item>, local: Local<Item>)
     requires { IsUnengaged (place_of domain.now) local }
 {
     local.end(domain);

@@ -153,7 +153,7 @@ fn reads<R: Clock>(
             sample = fresh(sample.state);
         }
     }
-    leave(local, domain);
+    leave(domain, local);
     Some(sample)
 }
 

@@ -31,7 +31,7 @@ impl<'a> Scene<'a> {
         requires closed { (own_of local.old).nesting ≡ 0 }
         ensures same { IsAsBefore local.old local.new }
     {
-        match self.bag.push(value, self.domain, self.links, local) {
+        match self.bag.push(self.domain, value, self.links, local) {
             Ok(()) => None,
             Err(refused) => refused.end(self.domain, local),
         }
@@ -43,7 +43,7 @@ impl<'a> Scene<'a> {
         requires closed { (own_of local.old).nesting ≡ 0 }
         ensures same { IsAsBefore local.old local.new }
     {
-        match self.bag.try_push(value, self.domain, local) {
+        match self.bag.try_push(self.domain, value, local) {
             Ok(()) => None,
             Err(PushRefused::Full(value)) => Some((value, true)),
             Err(refused) => Some((refused.end(self.domain, local)?, false)),
@@ -56,7 +56,7 @@ impl<'a> Scene<'a> {
         ensures same { IsAsBefore local.old local.new }
     {
         let popped = self.bag.pop(self.domain, self.links, local);
-        read(popped, self.domain, local)
+        read(self.domain, popped, local)
     }
 
     fn len(&self, local: &mut Local<u64>) -> usize
@@ -91,8 +91,8 @@ fn pops_all(scene: &Scene, local: &mut Local<u64>) -> u64
     let _ = scene.push(local, 6);
     let mut sum = 0u64;
     scene.bag.pop_all(
-        |value| sum = sum.wrapping_add(*value),
         scene.domain,
+        |value| sum = sum.wrapping_add(*value),
         scene.links,
         local,
     );

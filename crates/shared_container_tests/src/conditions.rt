@@ -28,9 +28,9 @@ fn push_behind(
     let Scene { domain, links, .. } = *scene;
     let is_newest = |found: Option<&u64>| found.copied() == newest;
     let pushed = if scene.kind == Kind::Queue {
-        scene.queue.push_if(value, is_newest, domain, links, local)
+        scene.queue.push_if(domain, value, is_newest, links, local)
     } else {
-        scene.stack.push_if(value, is_newest, domain, links, local)
+        scene.stack.push_if(domain, value, is_newest, links, local)
     };
     match pushed {
         Ok(()) => None,
@@ -57,13 +57,13 @@ fn pop_this(scene: &Scene, local: &mut Local<u64>, value: u64) -> (Option<u64>, 
         ..
     } = *scene;
     let popped = if scene.kind == Kind::Queue {
-        queue.pop_if(|found| *found == value, domain, links, local)
+        queue.pop_if(domain, |found| *found == value, links, local)
     } else {
-        stack.pop_if(|found| *found == value, domain, links, local)
+        stack.pop_if(domain, |found| *found == value, links, local)
     };
     match popped {
-        Ok(popped) => (read(popped, domain, local), None),
-        Err(kept) => (None, read(Some(kept), domain, local)),
+        Ok(popped) => (read(domain, popped, local), None),
+        Err(kept) => (None, read(domain, Some(kept), local)),
     }
 }
 
@@ -81,9 +81,9 @@ fn peeks(scene: &Scene, local: &mut Local<u64>) -> [Option<u64>; 2]
         ..
     } = *scene;
     let seen = if scene.kind == Kind::Queue {
-        queue.peek_with(|found| found.copied(), domain, links, local)
+        queue.peek_with(domain, |found| found.copied(), links, local)
     } else {
-        stack.peek_with(|found| found.copied(), domain, links, local)
+        stack.peek_with(domain, |found| found.copied(), links, local)
     };
     let Ok(guard) = Guard::new(domain, local) else {
         unreachable!();
@@ -114,10 +114,10 @@ fn walks(scene: &Scene, local: &mut Local<u64>) -> (u64, usize)
     let mut digits = 0u64;
     let note = |found: &u64| digits = digits.wrapping_mul(10).wrapping_add(*found);
     if scene.kind == Kind::Queue {
-        queue.for_each(note, domain, links, local);
+        queue.for_each(domain, note, links, local);
         (digits, queue.len(domain, links, local))
     } else {
-        stack.for_each(note, domain, links, local);
+        stack.for_each(domain, note, links, local);
         (digits, stack.len(domain, links, local))
     }
 }

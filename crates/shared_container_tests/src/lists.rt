@@ -26,18 +26,18 @@ fn plays(scene: &Scene, local: &mut Local<u64>) -> Found
     requires closed { (own_of local.old).nesting ≡ 0 }
     ensures same { IsAsBefore local.old local.new }
 {
-    let before = scene.is_empty();
+    let before = scene.is_empty(local);
     let pushed = [
         scene.push(local, 1),
         scene.push(local, 2),
         scene.push(local, 3),
         scene.push(local, 4),
     ];
-    let full = scene.is_empty();
+    let full = scene.is_empty(local);
     let (first, second) = (scene.pop(local), scene.pop(local));
-    let one = scene.is_empty();
+    let one = scene.is_empty(local);
     let popped = [first, second, scene.pop(local), scene.pop(local)];
-    (pushed, popped, [before, full, one, scene.is_empty()])
+    (pushed, popped, [before, full, one, scene.is_empty(local)])
 }
 
 /// What is found so twice, with four guards in between, and whether nothing is left in the end.
@@ -134,9 +134,9 @@ fn under_an_open_guard_others_are_pushed_and_popped_and_what_was_popped_is_read(
 
 /// What comes out of a stack in front of all others, which is ended.
 fn last_two(
+    domain: &Domain<u64>,
     stack: Stack,
     links: &Links,
-    domain: &Domain<u64>,
     local: &mut Local<u64>,
 ) -> [Option<u64>; 3]
     requires home { (home_of local.old ≡ place_of domain.now) × (hand_of local.old ≡ []) }
@@ -145,11 +145,11 @@ fn last_two(
     ensures same { IsAsBefore local.old local.new }
 {
     let first = stack.pop(domain, links, local);
-    let first = read(first, domain, local);
+    let first = read(domain, first, local);
     let second = stack.pop(domain, links, local);
-    let second = read(second, domain, local);
+    let second = read(domain, second, local);
     let third = stack.pop(domain, links, local);
-    let third = read(third, domain, local);
+    let third = read(domain, third, local);
     stack.end(domain, links, local);
     [first, second, third]
 }
@@ -172,7 +172,7 @@ fn moves<R: Abort>(
     };
     let _ = scene.push(local, 3);
     let own = [scene.pop(local), scene.pop(local)];
-    (own, last_two(all, scene.links, scene.domain, local))
+    (own, last_two(scene.domain, all, scene.links, local))
 }
 
 #[test]
@@ -189,7 +189,7 @@ fn all_items_of_a_stack_are_taken_out_in_one_step(rt: HostRuntime) -> Result<(),
 }
 
 /// Gives a cell back that there may be.
-fn put_back(cell: Option<AtomicShared>, domain: &Domain<u64>, local: &mut Local<u64>)
+fn put_back(domain: &Domain<u64>, cell: Option<AtomicShared>, local: &mut Local<u64>)
     requires home { home_of local.old ≡ place_of domain.now }
     requires inside { IfSome cell (λ c. cell_number c < cell_count domain.now) }
     ensures same { IsAsBefore local.old local.new }
@@ -207,8 +207,8 @@ pub(crate) fn is_free(domain: &Domain<u64>, local: &mut Local<u64>) -> bool
     let first = AtomicShared::null(domain, local);
     let second = AtomicShared::null(domain, local);
     let both = first.is_some() && second.is_some();
-    put_back(first, domain, local);
-    put_back(second, domain, local);
+    put_back(domain, first, local);
+    put_back(domain, second, local);
     both
 }
 

@@ -50,21 +50,21 @@ impl<'a> Scene<'a> {
     {
         let Scene { domain, links, .. } = *self;
         match kind {
-            Kind::Stack => match Stack::from_iter(1..last, domain, links, local) {
+            Kind::Stack => match Stack::from_iter(domain, 1..last, links, local) {
                 Ok(stack) => (Some(Any::Stack(stack)), None),
                 Err(FromIterRefused::Unmade(_, back)) => (None, Some(back.start)),
                 Err(FromIterRefused::Partly(stack, refused)) => {
                     (Some(Any::Stack(stack)), refused.end(domain, local))
                 }
             },
-            Kind::Queue => match Queue::from_iter(1..last, domain, links, local) {
+            Kind::Queue => match Queue::from_iter(domain, 1..last, links, local) {
                 Ok(queue) => (Some(Any::Queue(queue)), None),
                 Err(FromIterRefused::Unmade(_, back)) => (None, Some(back.start)),
                 Err(FromIterRefused::Partly(queue, refused)) => {
                     (Some(Any::Queue(queue)), refused.end(domain, local))
                 }
             },
-            Kind::Bag => match Bag::from_iter(alloc, 1..last, domain, links, local) {
+            Kind::Bag => match Bag::from_iter(alloc, domain, 1..last, links, local) {
                 Ok(bag) => (Some(Any::Bag(bag)), None),
                 Err(FromIterRefused::Unmade(_, back)) => (None, Some(back.start)),
                 Err(FromIterRefused::Partly(bag, refused)) => {
@@ -126,21 +126,21 @@ impl<'a> Scene<'a> {
         let note = |found: &u64| digits = digits.wrapping_mul(10).wrapping_add(*found);
         match any {
             Any::Stack(stack) => {
-                let pushed = stack.push(9, domain, links, local);
+                let pushed = stack.push(domain, 9, links, local);
                 self.let_go(pushed, local);
-                stack.for_each(note, domain, links, local);
+                stack.for_each(domain, note, links, local);
                 stack.end(domain, links, local);
             }
             Any::Queue(queue) => {
-                let pushed = queue.push(9, domain, links, local);
+                let pushed = queue.push(domain, 9, links, local);
                 self.let_go(pushed, local);
-                queue.for_each(note, domain, links, local);
+                queue.for_each(domain, note, links, local);
                 queue.end(domain, links, local);
             }
             Any::Bag(bag) => {
-                let pushed = bag.push(9, domain, links, local);
+                let pushed = bag.push(domain, 9, links, local);
                 self.let_go(pushed, local);
-                bag.pop_all(note, domain, links, local);
+                bag.pop_all(domain, note, links, local);
                 bag.end(domain, links, local);
             }
         }
@@ -321,7 +321,7 @@ impl<'a> Rares<'a> {
         let value = Plain {
             value: Rare { number },
         };
-        if let Err(refused) = self.queue.push(value, self.domain, self.links, local) {
+        if let Err(refused) = self.queue.push(self.domain, value, self.links, local) {
             let _ = refused.end(self.domain, local);
         }
     }
@@ -345,7 +345,7 @@ impl<'a> Rares<'a> {
             Err(CloneRefused::Unmade(_)) => return (0, false),
             Ok(copy) => (copy, false),
         };
-        copy.for_each(note, self.domain, self.links, local);
+        copy.for_each(self.domain, note, self.links, local);
         copy.end(self.domain, self.links, local);
         (digits, refused)
     }
@@ -418,7 +418,7 @@ fn bag_of_three(
     requires links { AreLinksOf links.now domain.now }
     ensures same { IsAsBefore local.old local.new }
 {
-    match Bag::<2>::from_iter(alloc, 1..4u64, domain, links, local) {
+    match Bag::<2>::from_iter(alloc, domain, 1..4u64, links, local) {
         Ok(bag) => {
             bag.end(domain, links, local);
             Ok(())

@@ -3,7 +3,7 @@
 ghost use Rattle.std.specs.Prelude.{◌≡◌, ◌<◌, ◌≤◌, [], IfSome};
 ghost use Rattle.sdd_domain.specs.Layout.{IsSized};
 ghost use Rattle.sdd_domain.specs.Sharing.{kept_in};
-ghost use Rattle.sdd_domain.specs.Tokens.{place_of, home_of, hand_of, own_of};
+ghost use Rattle.sdd_domain.specs.Tokens.{place_of, home_of, hand_of, own_of, IsInNest};
 ghost use Rattle.shared_containers.specs.Containers.{AreLinksOf, IsBagOf, IsQueueOf, IsStackOf, IsAsBefore};
 
 use sdd_base::sizes::Sizes;
@@ -77,8 +77,8 @@ pub(crate) fn four(domain: &Domain<u64>, local: &mut Local<u64>)
 
 /// What an owner reads, which is released, if there is one.
 pub(crate) fn read(
-    owner: Option<Shared<u64>>,
     domain: &Domain<u64>,
+    owner: Option<Shared<u64>>,
     local: &mut Local<u64>,
 ) -> Option<u64>
     requires home { home_of local.old ≡ place_of domain.now }
@@ -196,9 +196,9 @@ impl<'a> Scene<'a> {
         ensures same { IsAsBefore local.old local.new }
     {
         let pushed = match self.kind {
-            Kind::Stack => self.stack.push(value, self.domain, self.links, local),
-            Kind::Queue => self.queue.push(value, self.domain, self.links, local),
-            Kind::Bag => self.bag.push(value, self.domain, self.links, local),
+            Kind::Stack => self.stack.push(self.domain, value, self.links, local),
+            Kind::Queue => self.queue.push(self.domain, value, self.links, local),
+            Kind::Bag => self.bag.push(self.domain, value, self.links, local),
         };
         match pushed {
             Ok(()) => None,
@@ -207,11 +207,14 @@ impl<'a> Scene<'a> {
     }
 
     /// Whether it has no value.
-    pub(crate) fn is_empty(&self) -> bool {
+    pub(crate) fn is_empty(&self, local: &mut Local<u64>) -> bool
+        requires home { home_of local.old ≡ place_of self.now.domain.now }
+        ensures same { IsInNest local.old local.new × (own_of local.new ≡ own_of local.old) }
+    {
         match self.kind {
-            Kind::Stack => self.stack.is_empty(self.domain),
-            Kind::Queue => self.queue.is_empty(self.domain),
-            Kind::Bag => self.bag.is_empty(self.domain),
+            Kind::Stack => self.stack.is_empty(self.domain, local),
+            Kind::Queue => self.queue.is_empty(self.domain, local),
+            Kind::Bag => self.bag.is_empty(self.domain, local),
         }
     }
 
@@ -226,6 +229,6 @@ impl<'a> Scene<'a> {
             Kind::Queue => self.queue.pop(self.domain, self.links, local),
             Kind::Bag => self.bag.pop(self.domain, self.links, local),
         };
-        read(popped, self.domain, local)
+        read(self.domain, popped, local)
     }
 }

@@ -172,12 +172,12 @@ fn push_next(scene: &Scene, local: &mut Local<u64>) -> bool
         stack,
         ..
     } = *scene;
-    let newest = stack.peek_with(|found| found.copied().unwrap_or(0), domain, links, local);
+    let newest = stack.peek_with(domain, |found| found.copied().unwrap_or(0), links, local);
     let next = newest.saturating_add(1);
     let pushed = stack.push_if(
+        domain,
         next,
         |found| found.copied().unwrap_or(0) == newest,
-        domain,
         links,
         local,
     );
@@ -220,7 +220,7 @@ fn in_order(scene: &Scene, local: &mut Local<u64>) -> u64
             next = next.saturating_sub(1);
         }
     };
-    scene.stack.for_each(note, scene.domain, scene.links, local);
+    scene.stack.for_each(scene.domain, note, scene.links, local);
     1000u64.saturating_sub(next)
 }
 

@@ -92,13 +92,13 @@ fn a_walk_gives_what_is_popped_meanwhile_and_ends_there(rt: HostRuntime) -> Resu
 }
 
 /// Pushes a value on a bag of two places.
-fn push(bag: &Bag<2>, value: u64, domain: &Domain<u64>, links: &Links, local: &mut Local<u64>)
+fn push(domain: &Domain<u64>, bag: &Bag<2>, value: u64, links: &Links, local: &mut Local<u64>)
     requires home { (home_of local.old ≡ place_of domain.now) × (hand_of local.old ≡ []) }
     requires closed { (own_of local.old).nesting ≡ 0 }
     requires made { IsBagOf bag.now domain.now × AreLinksOf links.now domain.now }
     ensures same { IsAsBefore local.old local.new }
 {
-    if let Err(refused) = bag.push(value, domain, links, local) {
+    if let Err(refused) = bag.push(domain, value, links, local) {
         let _ = refused.end(domain, local);
     }
 }
@@ -106,25 +106,25 @@ fn push(bag: &Bag<2>, value: u64, domain: &Domain<u64>, links: &Links, local: &m
 /// Puts 1, 2 and 3 into a bag of two places and its overflow, and takes it apart, by so many steps: the sum of what they gave,
 /// and how many gave nothing. What is left is released.
 fn takes_apart(
-    bag: Bag<2>,
     domain: &Domain<u64>,
+    bag: Bag<2>,
     links: &Links,
-    local: &mut Local<u64>,
     steps: u8,
+    local: &mut Local<u64>,
 ) -> (u64, u64)
     requires home { (home_of local.old ≡ place_of domain.now) × (hand_of local.old ≡ []) }
     requires closed { (own_of local.old).nesting ≡ 0 }
     requires made { IsBagOf bag domain.now × AreLinksOf links.now domain.now }
     ensures same { IsAsBefore local.old local.new }
 {
-    push(&bag, 1, domain, links, local);
-    push(&bag, 2, domain, links, local);
-    push(&bag, 3, domain, links, local);
+    push(domain, &bag, 1, links, local);
+    push(domain, &bag, 2, links, local);
+    push(domain, &bag, 3, links, local);
     let mut items = bag.into_iter();
     let mut found = (0u64, 0u64);
     for _step in 0..steps {
         let popped = items.next(domain, links, local);
-        match read(popped, domain, local) {
+        match read(domain, popped, local) {
             Some(value) => found.0 = found.0.wrapping_add(value),
             None => found.1 = found.1.wrapping_add(1),
         }
@@ -147,7 +147,7 @@ fn takes_apart_alone<R: Abort>(
     let Ok(bag) = Bag::<2>::new(alloc, domain, &mut local) else {
         panic!(rt; "three cells are free");
     };
-    let found = takes_apart(bag, domain, &links, &mut local, steps);
+    let found = takes_apart(domain, bag, &links, steps, &mut local);
     links.end(domain, &mut local);
     local.end(domain);
     found

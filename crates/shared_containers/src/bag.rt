@@ -44,7 +44,7 @@ impl<const ARRAY_LEN: usize> Bag<ARRAY_LEN> {
         ensures bag { IfOk result (λ b. IsBagOf b domain.now) }
         ensures same { IsAsBefore local.old local.new }
     {
-        let primary = Row::new(alloc, ARRAY_LEN, domain, local)?;
+        let primary = Row::new(alloc, domain, ARRAY_LEN, local)?;
         match Stack::new(domain, local) {
             Some(overflow) => Ok(Bag { primary, overflow }),
             None => {
@@ -59,8 +59,8 @@ impl<const ARRAY_LEN: usize> Bag<ARRAY_LEN> {
     /// let go. Conditions: the values end, they hold no owners, and none is in the participant's hand.
     pub fn from_iter<T: Holds, I: IntoIterator<Item = T>>(
         alloc: Global,
-        values: I,
         domain: &Domain<T>,
+        values: I,
         links: &Links,
         local: &mut Local<T>,
     ) -> Result<Bag<ARRAY_LEN>, FromIterRefused<Bag<ARRAY_LEN>, T, I>>
@@ -79,7 +79,7 @@ impl<const ARRAY_LEN: usize> Bag<ARRAY_LEN> {
             Err(why) => return Err(FromIterRefused::Unmade(why, values)),
         };
         for value in values {
-            match bag.push(value, domain, links, local) {
+            match bag.push(domain, value, links, local) {
                 Ok(()) => {}
                 Err(refused) => return Err(FromIterRefused::Partly(bag, refused)),
             }
@@ -127,8 +127,8 @@ impl<const ARRAY_LEN: usize> Bag<ARRAY_LEN> {
     /// after `2^64` tries its owner is. Conditions: the value holds no owners, and none is in the participant's hand.
     pub fn push<T: Holds>(
         &self,
-        value: T,
         domain: &Domain<T>,
+        value: T,
         links: &Links,
         local: &mut Local<T>,
     ) -> Result<(), PushRefused<T>>
@@ -138,9 +138,9 @@ impl<const ARRAY_LEN: usize> Bag<ARRAY_LEN> {
         ensures refused { IfErr result (λ r. IsRefused r value (place_of domain.now).0 ⊥ ⊥) }
         ensures same { IsAsBefore local.old local.new }
     {
-        let owner = place(value, domain, local)?;
-        match self.keep(owner, domain, local) {
-            Some(back) => self.overflow.insert(back, &|_| true, domain, links, local),
+        let owner = place(domain, value, local)?;
+        match self.keep(domain, owner, local) {
+            Some(back) => self.overflow.insert(domain, back, &|_| true, links, local),
             None => Ok(()),
         }
     }
@@ -149,8 +149,8 @@ impl<const ARRAY_LEN: usize> Bag<ARRAY_LEN> {
     /// where others took the places that were free (`Busy`). Conditions: as those of `push`.
     pub fn try_push<T: Holds>(
         &self,
-        value: T,
         domain: &Domain<T>,
+        value: T,
         local: &mut Local<T>,
     ) -> Result<(), PushRefused<T>>
         requires ready { IsReady local.old domain.now }
@@ -162,8 +162,8 @@ impl<const ARRAY_LEN: usize> Bag<ARRAY_LEN> {
         if self.taken(domain, local) >= ARRAY_LEN {
             return Err(PushRefused::Full(value));
         }
-        let owner = place(value, domain, local)?;
-        match self.keep(owner, domain, local) {
+        let owner = place(domain, value, local)?;
+        match self.keep(domain, owner, local) {
             Some(back) => Err(PushRefused::Busy(back)),
             None => Ok(()),
         }
@@ -172,8 +172,8 @@ impl<const ARRAY_LEN: usize> Bag<ARRAY_LEN> {
     /// Puts an owner's item into the primary, unless each place is found taken.
     fn keep<T: Holds>(
         &self,
-        owner: Shared<T>,
         domain: &Domain<T>,
+        owner: Shared<T>,
         local: &mut Local<T>,
     ) -> Option<Shared<T>>
         requires ready { IsReady local.old domain.now }
@@ -185,7 +185,7 @@ impl<const ARRAY_LEN: usize> Bag<ARRAY_LEN> {
         let Ok(guard) = Guard::new(domain, local) else {
             unreachable!();
         };
-        let back = self.keep_under(owner, domain, &guard, local);
+        let back = self.keep_under(domain, owner, &guard, local);
         guard.close(domain, local);
         back
     }
@@ -193,8 +193,8 @@ impl<const ARRAY_LEN: usize> Bag<ARRAY_LEN> {
     /// The same under a guard.
     fn keep_under<T: Holds>(
         &self,
-        owner: Shared<T>,
         domain: &Domain<T>,
+        owner: Shared<T>,
         guard: &Guard,
         local: &mut Local<T>,
     ) -> Option<Shared<T>>
@@ -210,7 +210,7 @@ impl<const ARRAY_LEN: usize> Bag<ARRAY_LEN> {
                 break;
             };
             if cell.is_null(domain, local) {
-                owner = exchange(cell, Ptr::null(), owner, domain, guard, local)?;
+                owner = exchange(domain, cell, Ptr::null(), owner, guard, local)?;
             }
         }
         Some(owner)
@@ -248,7 +248,7 @@ impl<const ARRAY_LEN: usize> Bag<ARRAY_LEN> {
             let Some(cell) = self.primary.at(i) else {
                 break;
             };
-            if let Some(owner) = take_from(cell, domain, local) {
+            if let Some(owner) = take_from(domain, cell, local) {
                 return Some(owner);
             }
         }
@@ -265,8 +265,8 @@ impl<const ARRAY_LEN: usize> Bag<ARRAY_LEN> {
     /// Pops all items, until nothing is found: each is shown to `f` once, in no order, and released.
     pub fn pop_all<T: Holds, F: FnMut(&T)>(
         &self,
-        mut f: F,
         domain: &Domain<T>,
+        mut f: F,
         links: &Links,
         local: &mut Local<T>,
     )
@@ -298,8 +298,8 @@ impl<const ARRAY_LEN: usize> Bag<ARRAY_LEN> {
 
 /// Takes the item out of a cell, if it has one, by a swap with nothing.
 fn take_from<T: Holds>(
-    cell: &AtomicShared,
     domain: &Domain<T>,
+    cell: &AtomicShared,
     local: &mut Local<T>,
 ) -> Option<Shared<T>>
     requires home { home_of local.old ≡ place_of domain.now }
@@ -312,6 +312,6 @@ fn take_from<T: Holds>(
     if cell.is_null(domain, local) {
         return None;
     }
-    let (owner, _) = cell.swap((None, Tag::None), domain, local);
+    let (owner, _) = cell.swap(domain, (None, Tag::None), local);
     owner
 }

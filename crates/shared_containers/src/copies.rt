@@ -21,8 +21,8 @@ impl Stack {
     /// nobody else has it.
     pub(crate) fn copy_into<T: Holds + Clone>(
         &self,
-        copy: &Stack,
         domain: &Domain<T>,
+        copy: &Stack,
         links: &Links,
         local: &mut Local<T>,
     ) -> Result<(), NotCloned<T>>
@@ -35,7 +35,7 @@ impl Stack {
         let Ok(guard) = Guard::new(domain, local) else {
             unreachable!();
         };
-        let copied = self.copy_under(copy, domain, links, &guard, local);
+        let copied = self.copy_under(domain, copy, links, &guard, local);
         guard.close(domain, local);
         copied
     }
@@ -43,8 +43,8 @@ impl Stack {
     /// The same under a guard.
     fn copy_under<T: Holds + Clone>(
         &self,
-        copy: &Stack,
         domain: &Domain<T>,
+        copy: &Stack,
         links: &Links,
         guard: &Guard,
         local: &mut Local<T>,
@@ -64,11 +64,11 @@ impl Stack {
             let Ok(value) = item.clone() else {
                 return Err(NotCloned::Memory);
             };
-            match put_last(end, value, domain, links, local) {
+            match put_last(domain, end, value, links, local) {
                 Ok(link) => end = link,
                 Err(refused) => return Err(NotCloned::Refused(refused)),
             }
-            at = links.after(at, domain, guard, local);
+            at = links.after(domain, at, guard, local);
         }
         Ok(())
     }
@@ -77,9 +77,9 @@ impl Stack {
 /// Has a cell own a new item, behind which nothing follows, and gives the item's link: the cell is the end of a list that
 /// nobody else has.
 fn put_last<'l, T: Holds>(
+    domain: &Domain<T>,
     end: &AtomicShared,
     value: T,
-    domain: &Domain<T>,
     links: &'l Links,
     local: &mut Local<T>,
 ) -> Result<&'l AtomicShared, PushRefused<T>>
@@ -90,12 +90,12 @@ fn put_last<'l, T: Holds>(
     ensures refused { IfErr result (λ r. IsRefused r value (place_of domain.now).0 ⊥ ⊥) }
     ensures same { IsAsBefore local.old local.new }
 {
-    let owner = place(value, domain, local)?;
+    let owner = place(domain, value, local)?;
     let Some(link) = links.row.at(owner.slot()) else {
         return Err(PushRefused::Busy(owner));
     };
     // The link may still have the tag of the item that was in the slot before.
-    follow(link, None, domain, local);
-    follow(end, Some(owner), domain, local);
+    follow(domain, link, None, local);
+    follow(domain, end, Some(owner), local);
     Ok(link)
 }

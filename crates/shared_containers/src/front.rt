@@ -42,7 +42,7 @@ impl Stack {
             let Some(link) = links.of_item(found) else {
                 return found;
             };
-            if !self.take_out(found, link, domain, guard, local) {
+            if !self.take_out(domain, found, link, guard, local) {
                 return found;
             }
         }
@@ -52,8 +52,8 @@ impl Stack {
     /// One try to take the first item out where `f` answers true of it.
     pub(crate) fn try_pop<T: Holds, F: Fn(&T) -> bool>(
         &self,
-        f: &F,
         domain: &Domain<T>,
+        f: &F,
         links: &Links,
         local: &mut Local<T>,
     ) -> Popped<T>
@@ -68,7 +68,7 @@ impl Stack {
         let Ok(guard) = Guard::new(domain, local) else {
             unreachable!();
         };
-        let popped = self.pop_under(f, domain, links, &guard, local);
+        let popped = self.pop_under(domain, f, links, &guard, local);
         guard.close(domain, local);
         popped
     }
@@ -76,8 +76,8 @@ impl Stack {
     /// The same under a guard.
     fn pop_under<T: Holds, F: Fn(&T) -> bool>(
         &self,
-        f: &F,
         domain: &Domain<T>,
+        f: &F,
         links: &Links,
         guard: &Guard,
         local: &mut Local<T>,
@@ -98,12 +98,12 @@ impl Stack {
             return Popped::Again;
         };
         if f(item) {
-            match self.take(found, link, domain, guard, local) {
+            match self.take(domain, found, link, guard, local) {
                 Some(owner) => Popped::Item(owner),
                 None => Popped::Again,
             }
         } else {
-            match self.leave(found, link, domain, guard, local) {
+            match self.leave(domain, found, link, guard, local) {
                 Some(owner) => Popped::Kept(owner),
                 None => Popped::Again,
             }
@@ -113,9 +113,9 @@ impl Stack {
     /// Pops what was found in front, unless another one has, and gives an owner of it.
     fn take<T: Holds>(
         &self,
+        domain: &Domain<T>,
         found: Ptr<T>,
         link: &AtomicShared,
-        domain: &Domain<T>,
         guard: &Guard,
         local: &mut Local<T>,
     ) -> Option<Shared<T>>
@@ -128,18 +128,18 @@ impl Stack {
         ensures some { HasMadeSome local.old local.new }
     {
         if self.is_front {
-            self.take_marked(found, link, domain, guard, local)
+            self.take_marked(domain, found, link, guard, local)
         } else {
-            self.take_first(found, link, domain, guard, local)
+            self.take_first(domain, found, link, guard, local)
         }
     }
 
     /// Gives an owner of what was found in front, which stays there, unless it was popped.
     fn leave<T: Holds>(
         &self,
+        domain: &Domain<T>,
         found: Ptr<T>,
         link: &AtomicShared,
-        domain: &Domain<T>,
         guard: &Guard,
         local: &mut Local<T>,
     ) -> Option<Shared<T>>
@@ -149,7 +149,7 @@ impl Stack {
         ensures same { IsStill local.old local.new }
         ensures some { HasMadeSome local.old local.new }
     {
-        if self.take_out(found, link, domain, guard, local) {
+        if self.take_out(domain, found, link, guard, local) {
             return None;
         }
         found.get_shared(domain, local)
@@ -158,9 +158,9 @@ impl Stack {
     /// Takes out what was found in front, if that is still there, puts what follows it in its place, and gives its owner.
     fn take_first<T: Holds>(
         &self,
+        domain: &Domain<T>,
         found: Ptr<T>,
         link: &AtomicShared,
-        domain: &Domain<T>,
         guard: &Guard,
         local: &mut Local<T>,
     ) -> Option<Shared<T>>
@@ -180,19 +180,19 @@ impl Stack {
         // The item may have been popped and its link emptied since.
         let is_there = owner.is_some() || next.is_null();
         if !is_there {
-            let_go(owner, domain, local);
+            let_go(domain, owner, local);
             return None;
         }
         match self
             .first
-            .compare_exchange(found, (owner, Tag::None), domain, guard, local)
+            .compare_exchange(domain, found, (owner, Tag::None), guard, local)
         {
             Ok((item, _)) => {
-                follow(link, None, domain, local);
+                follow(domain, link, None, local);
                 item
             }
             Err((back, _)) => {
-                let_go(back, domain, local);
+                let_go(domain, back, local);
                 None
             }
         }
@@ -201,9 +201,9 @@ impl Stack {
     /// Pops the first item by the tag of its link, unless another one has, takes it out of the list, and gives an owner.
     fn take_marked<T: Holds>(
         &self,
+        domain: &Domain<T>,
         found: Ptr<T>,
         link: &AtomicShared,
-        domain: &Domain<T>,
         guard: &Guard,
         local: &mut Local<T>,
     ) -> Option<Shared<T>>
@@ -217,15 +217,15 @@ impl Stack {
         // An owner is had before the tag is set: behind that others may take the item out and release theirs.
         let owner = found.get_shared(domain, local)?;
         let is_mine = link.update_tag_if(
+            domain,
             Tag::Second,
             |next|
                 ensures { IsTrue result → ptr_tag next.entry ≡ Tag.None }
             { next.tag() == Tag::None },
-            domain,
             guard,
             local,
         );
-        self.take_out(found, link, domain, guard, local);
+        self.take_out(domain, found, link, guard, local);
         if is_mine {
             return Some(owner);
         }
@@ -237,9 +237,9 @@ impl Stack {
     /// the tag until its slot has another item, since somebody may still be about to append behind it. Whether it was popped.
     fn take_out<T: Holds>(
         &self,
+        domain: &Domain<T>,
         found: Ptr<T>,
         link: &AtomicShared,
-        domain: &Domain<T>,
         guard: &Guard,
         local: &mut Local<T>,
     ) -> bool
@@ -256,19 +256,19 @@ impl Stack {
         // Another one may have taken the item out and emptied its link since.
         let is_there = owner.is_some() || next.is_null();
         if !is_there {
-            let_go(owner, domain, local);
+            let_go(domain, owner, local);
             return true;
         }
         match self
             .first
-            .compare_exchange(found, (owner, Tag::None), domain, guard, local)
+            .compare_exchange(domain, found, (owner, Tag::None), guard, local)
         {
             Ok((old, _)) => {
-                let_go(old, domain, local);
-                let (rest, _) = link.swap((None, Tag::Second), domain, local);
-                let_go(rest, domain, local);
+                let_go(domain, old, local);
+                let (rest, _) = link.swap(domain, (None, Tag::Second), local);
+                let_go(domain, rest, local);
             }
-            Err((back, _)) => let_go(back, domain, local),
+            Err((back, _)) => let_go(domain, back, local),
         }
         true
     }

@@ -54,7 +54,7 @@ impl<'g, T: Holds> Iter<'g, T> {
             return None;
         }
         let item = self.at.as_ref()?;
-        self.at = links.after(self.at, domain, guard, local);
+        self.at = links.after(domain, self.at, guard, local);
         self.left -= 1;
         Some(item)
     }

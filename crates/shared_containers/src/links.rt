@@ -34,7 +34,7 @@ impl Links {
         ensures links { IfOk result (λ links. AreLinksOf links domain.now) }
         ensures same { IsAsBefore local.old local.new }
     {
-        let row = Row::new(alloc, domain.slots(), domain, local)?;
+        let row = Row::new(alloc, domain, domain.slots(), local)?;
         Ok(Links { row })
     }
 
@@ -49,8 +49,8 @@ impl Links {
     /// What follows an item: nothing behind nothing.
     pub(crate) fn after<'g, T: Holds>(
         &self,
-        item: Ptr<T>,
         domain: &Domain<T>,
+        item: Ptr<T>,
         guard: &'g Guard,
         local: &mut Local<T>,
     ) -> Ptr<'g, T>
@@ -91,8 +91,8 @@ impl Row {
     /// So many cells, which own nothing, and memory for their names.
     pub(crate) fn new<T: Holds>(
         alloc: Global,
-        count: usize,
         domain: &Domain<T>,
+        count: usize,
         local: &mut Local<T>,
     ) -> Result<Row, NotMade>
         requires home { home_of local.old ≡ place_of domain.now }
@@ -104,7 +104,7 @@ impl Row {
         };
         for _i in 0..count {
             let Some(cell) = AtomicShared::null(domain, local) else {
-                Row::give_back(cells, domain, local);
+                Row::give_back(domain, cells, local);
                 return Err(NotMade::NoCell);
             };
             cells.push_reserved(cell);
@@ -133,11 +133,11 @@ impl Row {
             cells,
             cells_of_place: _,
         } = self;
-        Row::give_back(cells, domain, local);
+        Row::give_back(domain, cells, local);
     }
 
     /// Gives cells back, and releases what they own.
-    fn give_back<T: Holds>(cells: Vec<AtomicShared>, domain: &Domain<T>, local: &mut Local<T>)
+    fn give_back<T: Holds>(domain: &Domain<T>, cells: Vec<AtomicShared>, local: &mut Local<T>)
         requires home { home_of local.old ≡ place_of domain.now }
         requires inside { All (λ c. cell_number c < cell_count domain.now) cells.items }
         ensures same { IsAsBefore local.old local.new }

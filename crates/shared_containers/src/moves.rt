@@ -22,7 +22,7 @@ use sdd_domain::shared::Shared;
 pub(crate) const TRIES: u64 = u64::MAX;
 
 /// Releases an owner that there may be.
-pub(crate) fn let_go<T: Holds>(owner: Option<Shared<T>>, domain: &Domain<T>, local: &mut Local<T>)
+pub(crate) fn let_go<T: Holds>(domain: &Domain<T>, owner: Option<Shared<T>>, local: &mut Local<T>)
     requires home { home_of local.old ≡ place_of domain.now }
     requires mine { IfSome owner (λ s. kept_in s ≡ (place_of domain.now).0) }
     ensures same { IsStill local.old local.new }
@@ -35,9 +35,9 @@ pub(crate) fn let_go<T: Holds>(owner: Option<Shared<T>>, domain: &Domain<T>, loc
 
 /// Has a link own what follows its item, or nothing; or a new stack its first item.
 pub(crate) fn follow<T: Holds>(
+    domain: &Domain<T>,
     link: &AtomicShared,
     next: Option<Shared<T>>,
-    domain: &Domain<T>,
     local: &mut Local<T>,
 )
     requires home { home_of local.old ≡ place_of domain.now }
@@ -46,16 +46,16 @@ pub(crate) fn follow<T: Holds>(
     ensures same { IsStill local.old local.new }
     ensures some { HasMadeSome local.old local.new }
 {
-    let (old, _) = link.swap((next, Tag::None), domain, local);
-    let_go(old, domain, local);
+    let (old, _) = link.swap(domain, (next, Tag::None), local);
+    let_go(domain, old, local);
 }
 
 /// Has a cell own an item in the place of what was found in it, in one step. Else the item's owner is back.
 pub(crate) fn exchange<T: Holds>(
+    domain: &Domain<T>,
     cell: &AtomicShared,
     found: Ptr<T>,
     owner: Shared<T>,
-    domain: &Domain<T>,
     guard: &Guard,
     local: &mut Local<T>,
 ) -> Option<Shared<T>>
@@ -65,9 +65,9 @@ pub(crate) fn exchange<T: Holds>(
     ensures back { IfSome result (λ s. (kept_in s ≡ (place_of domain.now).0) × ((x : T) → IsOwnerOf owner x → IsOwnerOf s x)) }
     ensures same { IsStill local.old local.new }
 {
-    match cell.compare_exchange(found, (Some(owner), Tag::None), domain, guard, local) {
+    match cell.compare_exchange(domain, found, (Some(owner), Tag::None), guard, local) {
         Ok((old, _)) => {
-            let_go(old, domain, local);
+            let_go(domain, old, local);
             None
         }
         Err((back, _)) => back,
@@ -76,8 +76,8 @@ pub(crate) fn exchange<T: Holds>(
 
 /// Places a value that a container is to take in.
 pub(crate) fn place<T: Holds>(
-    value: T,
     domain: &Domain<T>,
+    value: T,
     local: &mut Local<T>,
 ) -> Result<Shared<T>, PushRefused<T>>
     requires home { (home_of local.old ≡ place_of domain.now) × (hand_of local.old ≡ []) }
@@ -86,7 +86,7 @@ pub(crate) fn place<T: Holds>(
     ensures refused { IfErr result (λ r. IsRefused r value (place_of domain.now).0 ⊥ ⊥) }
     ensures same { IsAsBefore local.old local.new }
 {
-    match Shared::new(value, domain, local) {
+    match Shared::new(domain, value, local) {
         Ok(owner) => Ok(owner),
         Err(value) => Err(PushRefused::NoSlot(value)),
     }

@@ -57,8 +57,8 @@ impl Queue {
     /// value that is refused, as `push` refuses it, is back with the queue of those before it, and what is left of the values
     /// is let go. Conditions: the values end, they hold no owners, and none is in the participant's hand.
     pub fn from_iter<T: Holds, I: IntoIterator<Item = T>>(
-        values: I,
         domain: &Domain<T>,
+        values: I,
         links: &Links,
         local: &mut Local<T>,
     ) -> Result<Queue, FromIterRefused<Queue, T, I>>
@@ -76,7 +76,7 @@ impl Queue {
             return Err(FromIterRefused::Unmade(NotMade::NoCell, values));
         };
         for value in values {
-            match queue.push(value, domain, links, local) {
+            match queue.push(domain, value, links, local) {
                 Ok(()) => {}
                 Err(refused) => return Err(FromIterRefused::Partly(queue, refused)),
             }
@@ -106,7 +106,7 @@ impl Queue {
         let Some(copy) = Queue::new(domain, local) else {
             return Err(CloneRefused::Unmade(NotMade::NoCell));
         };
-        match self.front.copy_into(&copy.front, domain, links, local) {
+        match self.front.copy_into(domain, &copy.front, links, local) {
             Ok(()) => Ok(copy),
             Err(why) => Err(CloneRefused::Partly(copy, why)),
         }
@@ -140,8 +140,8 @@ impl Queue {
     /// Calls `f` once with the first item, or none, and gives what it answers. A guard is open meanwhile.
     pub fn peek_with<T: Holds, R, F: FnOnce(Option<&T>) -> R>(
         &self,
-        f: F,
         domain: &Domain<T>,
+        f: F,
         links: &Links,
         local: &mut Local<T>,
     ) -> R
@@ -151,7 +151,7 @@ impl Queue {
         ensures asked { Said (F.post f) result }
         ensures same { IsAsBefore local.old local.new }
     {
-        self.front.peek_with(f, domain, links, local)
+        self.front.peek_with(domain, f, links, local)
     }
 
     /// A walk along its items, from the first one on, under a guard. It ends where the item that it is at is taken out.
@@ -173,8 +173,8 @@ impl Queue {
     /// Calls `f` with each item of such a walk, under a guard of its own.
     pub fn for_each<T: Holds, F: FnMut(&T)>(
         &self,
-        f: F,
         domain: &Domain<T>,
+        f: F,
         links: &Links,
         local: &mut Local<T>,
     )
@@ -183,7 +183,7 @@ impl Queue {
         requires callable { F.IsAlwaysCallable f }
         ensures same { IsAsBefore local.old local.new }
     {
-        self.front.for_each(f, domain, links, local);
+        self.front.for_each(domain, f, links, local);
     }
 
     /// How many items `for_each` finds.
@@ -199,8 +199,8 @@ impl Queue {
     /// `2^64` times the value's owner is back. Conditions: the value holds no owners, and none is in the participant's hand.
     pub fn push<T: Holds>(
         &self,
-        value: T,
         domain: &Domain<T>,
+        value: T,
         links: &Links,
         local: &mut Local<T>,
     ) -> Result<(), PushRefused<T>>
@@ -210,17 +210,17 @@ impl Queue {
         ensures refused { IfErr result (λ r. IsRefused r value (place_of domain.now).0 ⊥ ⊥) }
         ensures same { IsAsBefore local.old local.new }
     {
-        let owner = place(value, domain, local)?;
-        self.insert(owner, &|_| true, domain, links, local)
+        let owner = place(domain, value, local)?;
+        self.insert(domain, owner, &|_| true, links, local)
     }
 
     /// The same where `f` answers true of the last item, or of none: it is asked each time that the value might be appended, and
     /// the value stands behind just the item that it was asked of last. Where it answers false the value's owner is back.
     pub fn push_if<T: Holds, F: Fn(Option<&T>) -> bool>(
         &self,
+        domain: &Domain<T>,
         value: T,
         f: F,
-        domain: &Domain<T>,
         links: &Links,
         local: &mut Local<T>,
     ) -> Result<(), PushRefused<T>>
@@ -234,16 +234,16 @@ impl Queue {
         ensures refused { IfErr result (λ r. IsRefused r value (place_of domain.now).0 (Said (F.post f) false) ⊥) }
         ensures same { IsAsBefore local.old local.new }
     {
-        let owner = place(value, domain, local)?;
-        self.insert(owner, &f, domain, links, local)
+        let owner = place(domain, value, local)?;
+        self.insert(domain, owner, &f, links, local)
     }
 
     /// Appends an owner's item where `f` answers true.
     fn insert<T: Holds, F: Fn(Option<&T>) -> bool>(
         &self,
+        domain: &Domain<T>,
         owner: Shared<T>,
         f: &F,
-        domain: &Domain<T>,
         links: &Links,
         local: &mut Local<T>,
     ) -> Result<(), PushRefused<T>>
@@ -258,10 +258,10 @@ impl Queue {
         let mut owner = owner;
         // The link still has the tag that the slot's item before it was popped by.
         if let Some(link) = links.row.at(owner.slot()) {
-            follow(link, None, domain, local);
+            follow(domain, link, None, local);
         }
         for _i in 0..TRIES {
-            match self.try_push(owner, f, domain, links, local) {
+            match self.try_push(domain, owner, f, links, local) {
                 Pushed::Done => return Ok(()),
                 Pushed::Unwanted(back) => return Err(PushRefused::Condition(back)),
                 Pushed::Slow(back) => owner = back,
@@ -273,9 +273,9 @@ impl Queue {
     /// One try.
     fn try_push<T: Holds, F: Fn(Option<&T>) -> bool>(
         &self,
+        domain: &Domain<T>,
         owner: Shared<T>,
         f: &F,
-        domain: &Domain<T>,
         links: &Links,
         local: &mut Local<T>,
     ) -> Pushed<T>
@@ -289,7 +289,7 @@ impl Queue {
         let Ok(guard) = Guard::new(domain, local) else {
             unreachable!();
         };
-        let pushed = self.push_under(owner, f, domain, links, &guard, local);
+        let pushed = self.push_under(domain, owner, f, links, &guard, local);
         guard.close(domain, local);
         pushed
     }
@@ -297,9 +297,9 @@ impl Queue {
     /// The same under a guard: behind the item near the end, and else behind the first one, or in front.
     fn push_under<T: Holds, F: Fn(Option<&T>) -> bool>(
         &self,
+        domain: &Domain<T>,
         owner: Shared<T>,
         f: &F,
-        domain: &Domain<T>,
         links: &Links,
         guard: &Guard,
         local: &mut Local<T>,
@@ -312,16 +312,16 @@ impl Queue {
         ensures same { IsStill local.old local.new }
     {
         let near = self.last.load(domain, guard, local);
-        let mut behind = end_of(near, domain, links, guard, local);
+        let mut behind = end_of(domain, near, links, guard, local);
         if behind.is_null() {
             let first = self.front.first_item(domain, links, guard, local);
             if first.is_null() {
-                return self.append(&self.front.first, first, owner, f, domain, guard, local);
+                return self.append(domain, &self.front.first, first, owner, f, guard, local);
             }
-            behind = end_of(first, domain, links, guard, local);
+            behind = end_of(domain, first, links, guard, local);
         }
         match links.of_item(behind) {
-            Some(link) => self.append(link, behind, owner, f, domain, guard, local),
+            Some(link) => self.append(domain, link, behind, owner, f, guard, local),
             None => Pushed::Slow(owner),
         }
     }
@@ -329,11 +329,11 @@ impl Queue {
     /// Puts an item behind another one, whose link this is, or in front, if nothing was there yet, and notes it as near the end.
     fn append<T: Holds, F: Fn(Option<&T>) -> bool>(
         &self,
+        domain: &Domain<T>,
         cell: &AtomicShared,
         behind: Ptr<T>,
         owner: Shared<T>,
         f: &F,
-        domain: &Domain<T>,
         guard: &Guard,
         local: &mut Local<T>,
     ) -> Pushed<T>
@@ -347,12 +347,12 @@ impl Queue {
         if !f(behind.as_ref()) {
             return Pushed::Unwanted(owner);
         }
-        if let Some(back) = exchange(cell, Ptr::null(), owner, domain, guard, local) {
+        if let Some(back) = exchange(domain, cell, Ptr::null(), owner, guard, local) {
             return Pushed::Slow(back);
         }
         if !behind.is_null() {
             let end = cell.get_shared(domain, guard, local);
-            follow(&self.last, end, domain, local);
+            follow(domain, &self.last, end, local);
         }
         Pushed::Done
     }
@@ -379,8 +379,8 @@ impl Queue {
     /// stays where it is. Where another one pops the item meanwhile it is tried again, whatever `f` answered.
     pub fn pop_if<T: Holds, F: Fn(&T) -> bool>(
         &self,
-        f: F,
         domain: &Domain<T>,
+        f: F,
         links: &Links,
         local: &mut Local<T>,
     ) -> Result<Option<Shared<T>>, Shared<T>>
@@ -394,7 +394,7 @@ impl Queue {
         ensures same { IsAsBefore local.old local.new }
         ensures taken { IfOk result (λ o. IfSome o (λ s. HasMarkedLink local.old links.now s local.new)) }
     {
-        self.front.pop_if(f, domain, links, local)
+        self.front.pop_if(domain, f, links, local)
     }
 
     /// Releases its items, and gives its cells back.
@@ -411,8 +411,8 @@ impl Queue {
 
 /// The last item from one on along the links: nothing where that was popped, and of nothing.
 fn end_of<'g, T: Holds>(
-    from: Ptr<'g, T>,
     domain: &Domain<T>,
+    from: Ptr<'g, T>,
     links: &Links,
     guard: &'g Guard,
     local: &mut Local<T>,
@@ -423,7 +423,7 @@ fn end_of<'g, T: Holds>(
 {
     let mut at = from;
     for _i in 0..domain.slots() {
-        let next = links.after(at, domain, guard, local);
+        let next = links.after(domain, at, guard, local);
         if next.is_null() && next.tag() == Tag::None {
             return at;
         }

@@ -53,8 +53,8 @@ impl Stack {
     /// refused, as `push` refuses it, is back with the stack of those before it, and what is left of the values is let go.
     /// Conditions: the values end, they hold no owners, and none is in the participant's hand.
     pub fn from_iter<T: Holds, I: IntoIterator<Item = T>>(
-        values: I,
         domain: &Domain<T>,
+        values: I,
         links: &Links,
         local: &mut Local<T>,
     ) -> Result<Stack, FromIterRefused<Stack, T, I>>
@@ -73,7 +73,7 @@ impl Stack {
             return Err(FromIterRefused::Unmade(NotMade::NoCell, values));
         };
         for value in values {
-            match stack.push(value, domain, links, local) {
+            match stack.push(domain, value, links, local) {
                 Ok(()) => {}
                 Err(refused) => return Err(FromIterRefused::Partly(stack, refused)),
             }
@@ -103,7 +103,7 @@ impl Stack {
         let Some(copy) = Stack::new(domain, local) else {
             return Err(CloneRefused::Unmade(NotMade::NoCell));
         };
-        match self.copy_into(&copy, domain, links, local) {
+        match self.copy_into(domain, &copy, links, local) {
             Ok(()) => Ok(copy),
             Err(why) => Err(CloneRefused::Partly(copy, why)),
         }
@@ -137,8 +137,8 @@ impl Stack {
     /// Calls `f` once with the first item, or none, and gives what it answers. A guard is open meanwhile.
     pub fn peek_with<T: Holds, R, F: FnOnce(Option<&T>) -> R>(
         &self,
-        f: F,
         domain: &Domain<T>,
+        f: F,
         links: &Links,
         local: &mut Local<T>,
     ) -> R
@@ -178,8 +178,8 @@ impl Stack {
     /// Calls `f` with each item of such a walk, under a guard of its own.
     pub fn for_each<T: Holds, F: FnMut(&T)>(
         &self,
-        mut f: F,
         domain: &Domain<T>,
+        mut f: F,
         links: &Links,
         local: &mut Local<T>,
     )
@@ -205,7 +205,7 @@ impl Stack {
         ensures same { IsAsBefore local.old local.new }
     {
         let mut count = 0usize;
-        self.for_each(|_| count = count.saturating_add(1), domain, links, local);
+        self.for_each(domain, |_| count = count.saturating_add(1), links, local);
         count
     }
 
@@ -213,8 +213,8 @@ impl Stack {
     /// times the value's owner is back. Conditions: the value holds no owners, and none is in the participant's hand.
     pub fn push<T: Holds>(
         &self,
-        value: T,
         domain: &Domain<T>,
+        value: T,
         links: &Links,
         local: &mut Local<T>,
     ) -> Result<(), PushRefused<T>>
@@ -224,17 +224,17 @@ impl Stack {
         ensures refused { IfErr result (λ r. IsRefused r value (place_of domain.now).0 ⊥ ⊥) }
         ensures same { IsAsBefore local.old local.new }
     {
-        let owner = place(value, domain, local)?;
-        self.insert(owner, &|_| true, domain, links, local)
+        let owner = place(domain, value, local)?;
+        self.insert(domain, owner, &|_| true, links, local)
     }
 
     /// The same where `f` answers true of the first item, or of none: it is asked once each time that the push is tried, and
     /// the value is put before just the item that it was asked of last. Where it answers false the value's owner is back.
     pub fn push_if<T: Holds, F: Fn(Option<&T>) -> bool>(
         &self,
+        domain: &Domain<T>,
         value: T,
         f: F,
-        domain: &Domain<T>,
         links: &Links,
         local: &mut Local<T>,
     ) -> Result<(), PushRefused<T>>
@@ -248,16 +248,16 @@ impl Stack {
         ensures refused { IfErr result (λ r. IsRefused r value (place_of domain.now).0 (Said (F.post f) false) ⊥) }
         ensures same { IsAsBefore local.old local.new }
     {
-        let owner = place(value, domain, local)?;
-        self.insert(owner, &f, domain, links, local)
+        let owner = place(domain, value, local)?;
+        self.insert(domain, owner, &f, links, local)
     }
 
     /// Puts an owner's item in front where `f` answers true.
     pub(crate) fn insert<T: Holds, F: Fn(Option<&T>) -> bool>(
         &self,
+        domain: &Domain<T>,
         owner: Shared<T>,
         f: &F,
-        domain: &Domain<T>,
         links: &Links,
         local: &mut Local<T>,
     ) -> Result<(), PushRefused<T>>
@@ -271,7 +271,7 @@ impl Stack {
     {
         let mut owner = owner;
         for _i in 0..TRIES {
-            match self.try_push(owner, f, domain, links, local) {
+            match self.try_push(domain, owner, f, links, local) {
                 Pushed::Done => return Ok(()),
                 Pushed::Unwanted(back) => return Err(PushRefused::Condition(back)),
                 Pushed::Slow(back) => owner = back,
@@ -283,9 +283,9 @@ impl Stack {
     /// One try.
     fn try_push<T: Holds, F: Fn(Option<&T>) -> bool>(
         &self,
+        domain: &Domain<T>,
         owner: Shared<T>,
         f: &F,
-        domain: &Domain<T>,
         links: &Links,
         local: &mut Local<T>,
     ) -> Pushed<T>
@@ -304,7 +304,7 @@ impl Stack {
         };
         let first = self.peek(domain, &guard, local);
         let pushed = if f(first.as_ref()) {
-            put_before(&self.first, first, owner, link, domain, &guard, local)
+            put_before(domain, &self.first, first, owner, link, &guard, local)
         } else {
             Pushed::Unwanted(owner)
         };
@@ -327,7 +327,7 @@ impl Stack {
         ensures taken { IfSome result (λ s. HasPopped local.old self.now links.now s local.new) }
         ensures some { HasMadeSome local.old local.new }
     {
-        match self.pop_if(|_| true, domain, links, local) {
+        match self.pop_if(domain, |_| true, links, local) {
             Ok(popped) => popped,
             Err(_) => unreachable!(),
         }
@@ -337,8 +337,8 @@ impl Stack {
     /// is just the item that it was asked of last. Where it answers false, another owner of that item is given, which stays.
     pub fn pop_if<T: Holds, F: Fn(&T) -> bool>(
         &self,
-        f: F,
         domain: &Domain<T>,
+        f: F,
         links: &Links,
         local: &mut Local<T>,
     ) -> Result<Option<Shared<T>>, Shared<T>>
@@ -354,7 +354,7 @@ impl Stack {
         ensures some { HasMadeSome local.old local.new }
     {
         for _i in 0..TRIES {
-            match self.try_pop(&f, domain, links, local) {
+            match self.try_pop(domain, &f, links, local) {
                 Popped::Empty => return Ok(None),
                 Popped::Item(owner) => return Ok(Some(owner)),
                 Popped::Kept(owner) => return Err(owner),
@@ -374,8 +374,8 @@ impl Stack {
         ensures plain { IfSome result (λ s. IsPlain s) }
     {
         let all = Stack::new(domain, local)?;
-        let (first, _) = self.first.swap((None, Tag::None), domain, local);
-        follow(&all.first, first, domain, local);
+        let (first, _) = self.first.swap(domain, (None, Tag::None), local);
+        follow(domain, &all.first, first, local);
         Some(all)
     }
 
@@ -401,11 +401,11 @@ impl Stack {
 /// Puts an item in front of what was found there, in one step: its link owns that from then on, and the owner that the stack
 /// had of it is released. Where others were faster the item's owner is back.
 fn put_before<T: Holds>(
+    domain: &Domain<T>,
     cell: &AtomicShared,
     first: Ptr<T>,
     owner: Shared<T>,
     link: &AtomicShared,
-    domain: &Domain<T>,
     guard: &Guard,
     local: &mut Local<T>,
 ) -> Pushed<T>
@@ -418,11 +418,11 @@ fn put_before<T: Holds>(
     let next = first.get_shared(domain, local);
     // What was the first item may have been popped and retired since.
     let is_there = next.is_some() || first.is_null();
-    follow(link, next, domain, local);
+    follow(domain, link, next, local);
     if !is_there {
         return Pushed::Slow(owner);
     }
-    match exchange(cell, first, owner, domain, guard, local) {
+    match exchange(domain, cell, first, owner, guard, local) {
         Some(back) => Pushed::Slow(back),
         None => Pushed::Done,
     }

@@ -47,9 +47,9 @@ pub(crate) fn install<K: Clone + Ord, V: Clone, const S: usize>(
     let Ok((draft, told)) = build::<K, V, S>(alloc, present.version(), writes) else {
         return Err(WriteRefused::Memory);
     };
-    match present.place(draft, domain, local) {
+    match present.place(domain, draft, local) {
         Ok(new) => {
-            publish(root, new, domain, local);
+            publish(domain, root, new, local);
             Ok(told)
         }
         Err(_) => Err(WriteRefused::NoSlot),
@@ -75,7 +75,7 @@ pub(crate) fn begin<K: Clone + Ord, V: Clone, const S: usize>(
     ensures same { IsStillButMisses local.old local.new }
 {
     let (present, owner) = Present::new(alloc, domain, local)?;
-    match AtomicShared::from(owner, domain, local) {
+    match AtomicShared::from(domain, owner, local) {
         Ok(root) => Ok((present, root)),
         Err(owner) => {
             owner.release(domain, local);

@@ -38,7 +38,7 @@ pub(crate) fn registered(domain: &Domain<Item>) -> Option<Local<Item>>
 }
 
 /// Ends a participant.
-pub(crate) fn leave(local: Local<Item>, domain: &Domain<Item>)
+pub(crate) fn leave(domain: &Domain<Item>, local: Local<Item>)
     requires { IsUnengaged (place_of domain.now) local }
 {
     local.end(domain);
@@ -130,6 +130,6 @@ pub(crate) fn close<'d, L: Naming>(
     requires { place_of domain.now ≡ L.place }
 {
     let (local, number) = index.close(shares)?;
-    leave(local, domain);
+    leave(domain, local);
     Ok(number)
 }

@@ -69,7 +69,7 @@ pub(crate) fn sums<L: Naming, R: Wait>(rt: &R, index: &Numbers<'_, L>) -> Option
             }
         }
     }
-    leave(local, domain);
+    leave(domain, local);
     Some(right)
 }
 

@@ -258,7 +258,7 @@ fn crowded<L: Naming + Send + Sync, R: Threads + Wait + Abort + Sync>(
     let are_audited = are_audited(rt, alloc, &index, crowd.number, crowd.list);
     let mut reader = member(rt, domain);
     let list = listed(rt, &index, &mut reader, crowd.number);
-    leave(reader, domain);
+    leave(domain, reader);
     let is_read = is_list(&list, crowd.list);
     (
         told,

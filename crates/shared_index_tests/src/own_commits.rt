@@ -79,7 +79,7 @@ pub(crate) fn read_often<L: Naming, R: Wait>(
         }
         reclaim(rt, index);
     }
-    leave(local, domain);
+    leave(domain, local);
     Some((share, right))
 }
 

@@ -168,7 +168,7 @@ pub(crate) fn readings<L: Naming, R: Wait>(rt: &R, index: &Numbers<'_, L>) -> Op
             }
         }
     }
-    leave(local, domain);
+    leave(domain, local);
     Some(right)
 }
 

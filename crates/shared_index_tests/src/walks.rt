@@ -220,7 +220,7 @@ fn kept_on<L: Naming + Send + Sync, R: Threads + Wait + Abort + Sync>(
     };
     let audit = audit(rt, &index, &receipt);
     let list = listed(rt, &index, &mut reader, last);
-    leave(reader, domain);
+    leave(domain, reader);
     let count = share.count();
     put(rt, &mut shares, share);
     let number = closed(rt, domain, index, shares);

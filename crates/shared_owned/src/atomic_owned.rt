@@ -65,8 +65,8 @@ impl AtomicOwned {
 
     /// A cell with this owner, without a tag. The owner is back where there is no cell, which is a miss.
     pub fn from<T: Holds>(
-        owned: Owned<T>,
         domain: &Domain<T>,
+        owned: Owned<T>,
         local: &mut Local<T>,
     ) -> Result<AtomicOwned, Owned<T>>
         requires home { home_of local.old ≡ place_of domain.now }
@@ -81,7 +81,7 @@ impl AtomicOwned {
         ensures cells { OnErr result (StepsOnNoCell local.old local.new) }
     {
         let Owned { owner } = owned;
-        match AtomicShared::from(owner, domain, local) {
+        match AtomicShared::from(domain, owner, local) {
             Ok(cell) => Ok(AtomicOwned { cell }),
             Err(owner) => Err(Owned { owner }),
         }
@@ -90,8 +90,8 @@ impl AtomicOwned {
     /// A cell with the owner of a new item, without a tag. The item is back where there is no cell or no free slot, which is a
     /// miss. Condition: it holds just the owners that are in the participant's hand.
     pub fn new<T: Holds>(
-        item: T,
         domain: &Domain<T>,
+        item: T,
         local: &mut Local<T>,
     ) -> Result<AtomicOwned, T>
         requires home { home_of local.old ≡ place_of domain.now }
@@ -108,7 +108,7 @@ impl AtomicOwned {
         ensures put { IfOk result (λ c. (t : ℕ) × (k : ℕ) × (slot : ℕ) × HasExchanged local.old (cell_of c) t k 0 (slot + 1) local.new) }
         ensures cells { OnErr result (StepsOnNoCell local.old local.new ⊎ ((cell : ℕ) × (t : ℕ) × (k : ℕ) × HasExchanged local.old cell t k 0 0 local.new)) }
     {
-        match AtomicShared::new(item, domain, local) {
+        match AtomicShared::new(domain, item, local) {
             Ok(cell) => Ok(AtomicOwned { cell }),
             Err(item) => Err(item),
         }
@@ -158,8 +158,8 @@ impl AtomicOwned {
     /// out.
     pub fn swap<T: Holds>(
         &self,
-        new: (Option<Owned<T>>, Tag),
         domain: &Domain<T>,
+        new: (Option<Owned<T>>, Tag),
         local: &mut Local<T>,
     ) -> (Option<Owned<T>>, Tag)
         requires home { home_of local.old ≡ place_of domain.now }
@@ -170,7 +170,7 @@ impl AtomicOwned {
         ensures exchanged { HasExchanged local.old (cell_of self.now) (tag_number result.1) (sole_code result.0) (tag_number new.1) (sole_code new.0) local.new }
     {
         let (owned, tag) = new;
-        let (old, found) = self.cell.swap((any(owned), tag), domain, local);
+        let (old, found) = self.cell.swap(domain, (any(owned), tag), local);
         (alone(old), found)
     }
 
@@ -181,9 +181,9 @@ impl AtomicOwned {
     /// It takes no memory.
     pub fn compare_exchange<'g, T: Holds>(
         &self,
+        domain: &Domain<T>,
         current: OwnedPtr<T>,
         new: (Option<Owned<T>>, Tag),
-        domain: &Domain<T>,
         guard: &'g Guard,
         local: &mut Local<T>,
     ) -> Result<(Option<Owned<T>>, Named), (Option<Owned<T>>, OwnedPtr<'g, T>)>
@@ -204,7 +204,7 @@ impl AtomicOwned {
         let new = (any(owned), tag);
         match self
             .cell
-            .compare_exchange(current.of, new, domain, guard, local)
+            .compare_exchange(domain, current.of, new, guard, local)
         {
             Ok((old, named)) => Ok((alone(old), named)),
             Err((back, of)) => Err((alone(back), OwnedPtr { of })),
@@ -214,9 +214,9 @@ impl AtomicOwned {
     /// As `compare_exchange`: it fails for no other reason.
     pub fn compare_exchange_weak<'g, T: Holds>(
         &self,
+        domain: &Domain<T>,
         current: OwnedPtr<T>,
         new: (Option<Owned<T>>, Tag),
-        domain: &Domain<T>,
         guard: &'g Guard,
         local: &mut Local<T>,
     ) -> Result<(Option<Owned<T>>, Named), (Option<Owned<T>>, OwnedPtr<'g, T>)>
@@ -233,7 +233,7 @@ impl AtomicOwned {
         ensures exchanged { IfOk result (λ r. HasExchanged local.old (cell_of self.now) (tag_number (pointer_tag current.entry)) (sole_code r.0) (tag_number new.1) (sole_code new.0) local.new) }
         ensures looked { IfErr result (λ r. HasReadCell local.old (cell_of self.now) (tag_number (pointer_tag r.1)) (code_of (pointer_slot r.1)) local.new) }
     {
-        self.compare_exchange(current, new, domain, guard, local)
+        self.compare_exchange(domain, current, new, guard, local)
     }
 
     /// Sets the tag, in one step, where `f` answers true of the pointer that is found: whether it did. Where other threads
@@ -241,9 +241,9 @@ impl AtomicOwned {
     /// tells that it didn't. What the cell owns stays.
     pub fn update_tag_if<'g, T: Holds + 'g, F: Fn(OwnedPtr<'g, T>) -> bool>(
         &self,
+        domain: &Domain<T>,
         tag: Tag,
         f: F,
-        domain: &Domain<T>,
         guard: &'g Guard,
         local: &mut Local<T>,
     ) -> bool
@@ -261,7 +261,7 @@ impl AtomicOwned {
             requires { F.IsAlwaysCallable f }
             ensures { F.post f (record { of = of.entry }) result }
         { f(OwnedPtr { of }) };
-        self.cell.update_tag_if(tag, ask, domain, guard, local)
+        self.cell.update_tag_if(domain, tag, ask, guard, local)
     }
 
     /// What the cell owned. The cell is the next one's that asks for one.

@@ -16,9 +16,9 @@ use sdd_domain::private_collector::PrivateCollector;
 /// with the last of several: in Rust that is `collector.collect_owned(owned, &guard)`. It takes no memory. Whether the item
 /// had no other owner, which is always so: that is no clause.
 pub fn collect_owned<T: Holds>(
+    domain: &Domain<T>,
     collector: PrivateCollector,
     owned: Owned<T>,
-    domain: &Domain<T>,
     guard: &Guard,
     local: &mut Local<T>,
 ) -> (PrivateCollector, bool)
@@ -33,5 +33,5 @@ pub fn collect_owned<T: Holds>(
     ensures same { IsInNest local.old local.new × (born_of local.new ≡ born_of local.old) }
 {
     let Owned { owner } = owned;
-    collector.collect_shared(owner, domain, guard, local)
+    collector.collect_shared(domain, owner, guard, local)
 }

@@ -23,7 +23,7 @@ impl<T: Holds> Owned<T> {
     /// Places an item in a free slot, and gives its owner. Where each slot was taken when it was tried, the item is back,
     /// which is a miss of the participant. The item holds all owners that are in the participant's hand, and no other one.
     /// It takes no memory.
-    pub fn new(item: T, domain: &Domain<T>, local: &mut Local<T>) -> Result<Owned<T>, T>
+    pub fn new(domain: &Domain<T>, item: T, local: &mut Local<T>) -> Result<Owned<T>, T>
         requires home { home_of local.old ≡ place_of domain.now }
         requires holds { T.holds item ≡ hand_of local.old }
         ensures home { IfOk result (λ o. place_in o ≡ (place_of domain.now).0) }
@@ -36,7 +36,7 @@ impl<T: Holds> Owned<T> {
         ensures same { IsSameButHandAndMisses local.old local.new }
         ensures cells { StepsOnNoCell local.old local.new }
     {
-        match Shared::new(item, domain, local) {
+        match Shared::new(domain, item, local) {
             Ok(owner) => Ok(Owned { owner }),
             Err(item) => Err(item),
         }
@@ -46,8 +46,8 @@ impl<T: Holds> Owned<T> {
     /// slot is claimed for it. Where each slot was taken when it was tried, it isn't called, and that is a miss of the
     /// participant.
     pub fn new_with<F: FnOnce() -> T + Drop>(
-        f: F,
         domain: &Domain<T>,
+        f: F,
         local: &mut Local<T>,
     ) -> Result<Owned<T>, NoSlot>
         requires home { home_of local.old ≡ place_of domain.now }
@@ -62,7 +62,7 @@ impl<T: Holds> Owned<T> {
         ensures same { IsSameButHandAndMisses local.old local.new }
         ensures cells { StepsOnNoCell local.old local.new }
     {
-        match Shared::new_with(f, domain, local) {
+        match Shared::new_with(domain, f, local) {
             Ok(owner) => Ok(Owned { owner }),
             Err(NoSlot) => Err(NoSlot),
         }

@@ -53,7 +53,7 @@ impl RawItems {
         };
         for _i in 0..domain.slots() {
             let Some(cell) = AtomicShared::null(domain, local) else {
-                RawItems::give_back(cells, domain, local);
+                RawItems::give_back(domain, cells, local);
                 return Err(RawRefused::NoCell);
             };
             cells.push_reserved(cell);
@@ -68,8 +68,8 @@ impl RawItems {
     /// which is never so of an item of the same place.
     pub fn into_raw<T: Holds>(
         &self,
-        owned: Owned<T>,
         domain: &Domain<T>,
+        owned: Owned<T>,
         local: &mut Local<T>,
     ) -> Result<RawPtr, Owned<T>>
         requires home { home_of local.old ≡ place_of domain.now }
@@ -87,7 +87,7 @@ impl RawItems {
         let Some(cell) = self.cells.get(at) else {
             return Err(owned);
         };
-        let (old, _) = cell.swap((Some(owned.into_shared()), Tag::None), domain, local);
+        let (old, _) = cell.swap(domain, (Some(owned.into_shared()), Tag::None), local);
         if let Some(old) = old {
             old.release(domain, local);
         }
@@ -101,8 +101,8 @@ impl RawItems {
     /// that is out so, or the pointer is to nothing. Whoever takes it first has it: it is one step.
     pub fn from_raw<T: Holds>(
         &self,
-        pointer: RawPtr,
         domain: &Domain<T>,
+        pointer: RawPtr,
         local: &mut Local<T>,
     ) -> Option<Owned<T>>
         requires home { home_of local.old ≡ place_of domain.now }
@@ -113,7 +113,7 @@ impl RawItems {
     {
         let slot = pointer.slot? as usize;
         let cell = self.cells.get(slot)?;
-        let (owner, _) = cell.swap((None, Tag::None), domain, local);
+        let (owner, _) = cell.swap(domain, (None, Tag::None), local);
         let owner = owner?;
         if owner.slot() == slot {
             return Some(Owned { owner });
@@ -127,8 +127,8 @@ impl RawItems {
     /// one to nothing. None where the slot has no item that is out as a raw one.
     pub fn into_ptr<'g, T: Holds>(
         &self,
-        pointer: RawPtr,
         domain: &Domain<T>,
+        pointer: RawPtr,
         guard: &'g Guard,
         local: &mut Local<T>,
     ) -> Option<OwnedPtr<'g, T>>
@@ -161,11 +161,11 @@ impl RawItems {
             cells,
             cells_of_place: _,
         } = self;
-        RawItems::give_back(cells, domain, local);
+        RawItems::give_back(domain, cells, local);
     }
 
     /// Gives cells back, and releases what they own.
-    fn give_back<T: Holds>(cells: Vec<AtomicShared>, domain: &Domain<T>, local: &mut Local<T>)
+    fn give_back<T: Holds>(domain: &Domain<T>, cells: Vec<AtomicShared>, local: &mut Local<T>)
         requires home { home_of local.old ≡ place_of domain.now }
         requires inside { All (λ c. cell_number c < cell_count domain.now) cells.items }
         ensures same { IsInNest local.old local.new × ((own_of local.new).nesting ≡ (own_of local.old).nesting) }

@@ -55,12 +55,12 @@ fn end<R: Abort>(rt: &R, domain: Domain<u64>) {
     }
 }
 
-fn owned<R: Abort>(rt: &R, value: u64, domain: &Domain<u64>, local: &mut Local<u64>) -> Owned<u64>
+fn owned<R: Abort>(rt: &R, domain: &Domain<u64>, value: u64, local: &mut Local<u64>) -> Owned<u64>
     requires home { (home_of local.old ≡ place_of domain.now) × (hand_of local.old ≡ []) }
     ensures home { place_in result ≡ (place_of domain.now).0 }
     ensures same { IsSameButMisses local.old local.new × (own_of local.new ≡ own_of local.old) × (nest_in local.new ≡ nest_in local.old) }
 {
-    match Owned::new(value, domain, local) {
+    match Owned::new(domain, value, local) {
         Ok(owner) => owner,
         Err(_) => panic!(rt; "a slot is free"),
     }
@@ -93,8 +93,8 @@ fn four(domain: &Domain<u64>, local: &mut Local<u64>)
 
 /// The value that an owner reads, which is retired.
 fn last_value(
-    owner: Option<Owned<u64>>,
     domain: &Domain<u64>,
+    owner: Option<Owned<u64>>,
     local: &mut Local<u64>,
 ) -> Option<u64>
     requires home { home_of local.old ≡ place_of domain.now }
@@ -113,19 +113,19 @@ fn last_value(
 fn a_retired_item_leaves_its_slot_after_four_guards(rt: HostRuntime) -> Result<(), Fail> {
     let domain = Domain::new(rt.alloc(), sized(1, 1, 0))?;
     let mut local = member(&rt, &domain);
-    let first = owned(&rt, 7, &domain, &mut local);
-    let back = match Owned::new(8, &domain, &mut local) {
-        Ok(owner) => last_value(Some(owner), &domain, &mut local),
+    let first = owned(&rt, &domain, 7, &mut local);
+    let back = match Owned::new(&domain, 8, &mut local) {
+        Ok(owner) => last_value(&domain, Some(owner), &mut local),
         Err(value) => Some(value + 100),
     };
     let retired = first.retire(&domain, &mut local);
-    let waits = match Owned::new(9, &domain, &mut local) {
-        Ok(owner) => last_value(Some(owner), &domain, &mut local),
+    let waits = match Owned::new(&domain, 9, &mut local) {
+        Ok(owner) => last_value(&domain, Some(owner), &mut local),
         Err(value) => Some(value + 100),
     };
     four(&domain, &mut local);
-    let third = owned(&rt, 10, &domain, &mut local);
-    let value = last_value(Some(third), &domain, &mut local);
+    let third = owned(&rt, &domain, 10, &mut local);
+    let value = last_value(&domain, Some(third), &mut local);
     local.end(&domain);
     end(&rt, domain);
     assert!(rt; (back, retired, waits, value) == (Some(108), true, Some(109), Some(10)));
@@ -143,20 +143,20 @@ fn a_collected_item_leaves_its_slot_four_guards_after_it_is_handed_over(
     let Ok(collector) = PrivateCollector::new(&domain) else {
         panic!(rt; "memory is there");
     };
-    let first = owned(&rt, 7, &domain, &mut local);
+    let first = owned(&rt, &domain, 7, &mut local);
     let Ok(guard) = Guard::new(&domain, &mut local) else {
         panic!(rt; "no guard is open");
     };
-    let (collector, collected) = collect_owned(collector, first, &domain, &guard, &mut local);
+    let (collector, collected) = collect_owned(&domain, collector, first, &guard, &mut local);
     guard.close(&domain, &mut local);
     collector.hand_over(&domain, &mut local);
-    let back = match Owned::new(8, &domain, &mut local) {
-        Ok(owner) => last_value(Some(owner), &domain, &mut local),
+    let back = match Owned::new(&domain, 8, &mut local) {
+        Ok(owner) => last_value(&domain, Some(owner), &mut local),
         Err(value) => Some(value + 100),
     };
     four(&domain, &mut local);
-    let second = owned(&rt, 9, &domain, &mut local);
-    let value = last_value(Some(second), &domain, &mut local);
+    let second = owned(&rt, &domain, 9, &mut local);
+    let value = last_value(&domain, Some(second), &mut local);
     local.end(&domain);
     end(&rt, domain);
     assert!(rt; (collected, back, value) == (true, Some(108), Some(9)));
@@ -168,23 +168,23 @@ fn a_collected_item_leaves_its_slot_four_guards_after_it_is_handed_over(
 fn a_closure_is_called_where_a_slot_is_free(rt: HostRuntime) -> Result<(), Fail> {
     let domain = Domain::new(rt.alloc(), sized(1, 1, 0))?;
     let mut local = member(&rt, &domain);
-    let Ok(first) = Owned::new_with(|| 7, &domain, &mut local) else {
+    let Ok(first) = Owned::new_with(&domain, || 7, &mut local) else {
         panic!(&rt; "a slot is free");
     };
     let mut called = false;
     let second = Owned::new_with(
+        &domain,
         || {
             called = true;
             8
         },
-        &domain,
         &mut local,
     );
     let refused = match second {
-        Ok(owner) => last_value(Some(owner), &domain, &mut local).is_none(),
+        Ok(owner) => last_value(&domain, Some(owner), &mut local).is_none(),
         Err(NoSlot) => true,
     };
-    let value = last_value(Some(first), &domain, &mut local);
+    let value = last_value(&domain, Some(first), &mut local);
     local.end(&domain);
     end(&rt, domain);
     assert_eq!(rt; (value, refused, called), (Some(7), true, false));
@@ -198,17 +198,17 @@ fn three_swaps<R: Abort>(rt: &R, domain: &Domain<u64>, local: &mut Local<u64>) -
     requires home { (home_of local.old ≡ place_of domain.now) × (hand_of local.old ≡ []) }
     ensures same { IsAsBefore local.old local.new }
 {
-    let Ok(cell) = AtomicOwned::new(14, domain, local) else {
+    let Ok(cell) = AtomicOwned::new(domain, 14, local) else {
         panic!(rt; "a slot and a cell are free");
     };
-    let fifteen = owned(rt, 15, domain, local);
-    let (one, first) = cell.swap((Some(fifteen), Tag::Second), domain, local);
-    let (two, second) = cell.swap((None, Tag::First), domain, local);
-    let (three, third) = cell.swap((None, Tag::None), domain, local);
+    let fifteen = owned(rt, domain, 15, local);
+    let (one, first) = cell.swap(domain, (Some(fifteen), Tag::Second), local);
+    let (two, second) = cell.swap(domain, (None, Tag::First), local);
+    let (three, third) = cell.swap(domain, (None, Tag::None), local);
     cell.retire(domain, local);
-    let one = last_value(one, domain, local);
-    let two = last_value(two, domain, local);
-    let three = last_value(three, domain, local);
+    let one = last_value(domain, one, local);
+    let two = last_value(domain, two, local);
+    let three = last_value(domain, three, local);
     [(one, first), (two, second), (three, third)]
 }
 
@@ -231,13 +231,13 @@ fn a_swap_takes_out_the_owner_and_the_tag(rt: HostRuntime) -> Result<(), Fail> {
 /// What is seen of a cell: whether it is empty, its tag, and the value and the tag that a guard loads.
 type Looked = (bool, Tag, Option<u64>, Tag);
 
-fn looks(cell: &AtomicOwned, domain: &Domain<u64>, local: &mut Local<u64>) -> Looked
+fn looks(domain: &Domain<u64>, cell: &AtomicOwned, local: &mut Local<u64>) -> Looked
     requires home { (home_of local.old ≡ place_of domain.now) × (hand_of local.old ≡ []) }
     requires closed { (own_of local.old).nesting ≡ 0 }
     requires cell { IsCellOf cell.now domain.now }
     ensures same { IsAsBefore local.old local.new }
 {
-    let (empty, tag) = (cell.is_null(domain), cell.tag(domain));
+    let (empty, tag) = (cell.is_null(domain, local), cell.tag(domain, local));
     let Ok(guard) = Guard::new(domain, local) else {
         unreachable!();
     };
@@ -256,14 +256,14 @@ fn three_looks<R: Abort>(rt: &R, domain: &Domain<u64>, local: &mut Local<u64>) -
     let Some(cell) = AtomicOwned::null(domain, local) else {
         panic!(rt; "a cell is free");
     };
-    let made = looks(&cell, domain, local);
-    let fourteen = owned(rt, 14, domain, local);
-    let (none, _) = cell.swap((Some(fourteen), Tag::Both), domain, local);
-    last_value(none, domain, local);
-    let full = looks(&cell, domain, local);
-    let (taken, _) = cell.swap((None, Tag::Second), domain, local);
-    last_value(taken, domain, local);
-    let emptied = looks(&cell, domain, local);
+    let made = looks(domain, &cell, local);
+    let fourteen = owned(rt, domain, 14, local);
+    let (none, _) = cell.swap(domain, (Some(fourteen), Tag::Both), local);
+    last_value(domain, none, local);
+    let full = looks(domain, &cell, local);
+    let (taken, _) = cell.swap(domain, (None, Tag::Second), local);
+    last_value(domain, taken, local);
+    let emptied = looks(domain, &cell, local);
     cell.retire(domain, local);
     [made, full, emptied]
 }
@@ -293,20 +293,20 @@ fn exchanges<R: Abort>(rt: &R, domain: &Domain<u64>, local: &mut Local<u64>) -> 
     requires closed { (own_of local.old).nesting ≡ 0 }
     ensures same { IsAsBefore local.old local.new }
 {
-    let fourteen = owned(rt, 14, domain, local);
-    let cell = match AtomicOwned::from(fourteen, domain, local) {
+    let fourteen = owned(rt, domain, 14, local);
+    let cell = match AtomicOwned::from(domain, fourteen, local) {
         Ok(cell) => cell,
         Err(back) => {
             back.retire(domain, local);
             panic!(rt; "a cell is free")
         }
     };
-    let found = exchanges_in(&cell, domain, local);
+    let found = exchanges_in(domain, &cell, local);
     cell.retire(domain, local);
     found
 }
 
-fn exchanges_in(cell: &AtomicOwned, domain: &Domain<u64>, local: &mut Local<u64>) -> Exchanged
+fn exchanges_in(domain: &Domain<u64>, cell: &AtomicOwned, local: &mut Local<u64>) -> Exchanged
     requires home { (home_of local.old ≡ place_of domain.now) × (hand_of local.old ≡ []) }
     requires closed { (own_of local.old).nesting ≡ 0 }
     requires cell { IsCellOf cell.now domain.now }
@@ -315,17 +315,17 @@ fn exchanges_in(cell: &AtomicOwned, domain: &Domain<u64>, local: &mut Local<u64>
     let Ok(guard) = Guard::new(domain, local) else {
         unreachable!();
     };
-    let (value, set) = looked_at(cell, domain, &guard, local);
-    let refused = taken(cell, Tag::None, domain, &guard, local);
-    let taken = taken(cell, Tag::First, domain, &guard, local);
+    let (value, set) = looked_at(domain, cell, &guard, local);
+    let refused = taken(domain, cell, Tag::None, &guard, local);
+    let taken = taken(domain, cell, Tag::First, &guard, local);
     guard.close(domain, local);
     (value, set, refused, taken)
 }
 
 /// The value in a cell, by a pointer with another tag, and whether its tag is set where it is asked for 14 and for 15.
 fn looked_at(
-    cell: &AtomicOwned,
     domain: &Domain<u64>,
+    cell: &AtomicOwned,
     guard: &Guard,
     local: &mut Local<u64>,
 ) -> (Option<u64>, [bool; 2])
@@ -338,16 +338,16 @@ fn looked_at(
     let found = cell.load(domain, guard, local);
     let value = found.with_tag(Tag::Both).as_ref().copied();
     let set = cell.update_tag_if(
+        domain,
         Tag::First,
         |it| it.as_ref() == Some(&14),
-        domain,
         guard,
         local,
     );
     let not = cell.update_tag_if(
+        domain,
         Tag::Second,
         |it| it.as_ref() == Some(&15),
-        domain,
         guard,
         local,
     );
@@ -356,9 +356,9 @@ fn looked_at(
 
 /// The value that an exchange for nothing takes out of a cell that is asked for this tag, or 100 where it is refused and the cell has the first tag.
 fn taken(
+    domain: &Domain<u64>,
     cell: &AtomicOwned,
     tag: Tag,
-    domain: &Domain<u64>,
     guard: &Guard,
     local: &mut Local<u64>,
 ) -> Option<u64>
@@ -369,9 +369,9 @@ fn taken(
     ensures same { IsAsBefore local.old local.new }
 {
     let current = cell.load(domain, guard, local).with_tag(tag);
-    match cell.compare_exchange(current, (None, Tag::None), domain, guard, local) {
-        Ok((old, _)) => last_value(old, domain, local),
-        Err((back, found)) => match last_value(back, domain, local) {
+    match cell.compare_exchange(domain, current, (None, Tag::None), guard, local) {
+        Ok((old, _)) => last_value(domain, old, local),
+        Err((back, found)) => match last_value(domain, back, local) {
             None if found.tag() == Tag::First => Some(100),
             _ => None,
         },
@@ -393,33 +393,33 @@ fn an_exchange_is_taken_where_item_and_tag_are_the_same(rt: HostRuntime) -> Resu
 /// is had back, and of the one had back once more; whether a pointer to nothing gives one to nothing.
 type Raw = (Option<(u64, Tag)>, Option<u64>, Option<u64>, bool);
 
-fn goes_out<R: Abort>(rt: &R, raws: &RawItems, domain: &Domain<u64>, local: &mut Local<u64>) -> Raw
+fn goes_out<R: Abort>(rt: &R, domain: &Domain<u64>, raws: &RawItems, local: &mut Local<u64>) -> Raw
     requires home { (home_of local.old ≡ place_of domain.now) × (hand_of local.old ≡ []) }
     requires closed { (own_of local.old).nesting ≡ 0 }
     requires raws { AreRawItemsOf raws.now domain.now }
     ensures same { IsAsBefore local.old local.new }
 {
-    let pointer = sent_out(rt, 7, raws, domain, local).with_tag(Tag::Second);
-    let (seen, is_nothing) = seen(raws, pointer, domain, local);
-    let back = had_back(raws, pointer, domain, local);
-    let again = had_back(raws, pointer, domain, local);
+    let pointer = sent_out(rt, domain, 7, raws, local).with_tag(Tag::Second);
+    let (seen, is_nothing) = seen(domain, raws, pointer, local);
+    let back = had_back(domain, raws, pointer, local);
+    let again = had_back(domain, raws, pointer, local);
     (seen, back, again, is_nothing)
 }
 
 /// A raw pointer to a new item.
 fn sent_out<R: Abort>(
     rt: &R,
+    domain: &Domain<u64>,
     value: u64,
     raws: &RawItems,
-    domain: &Domain<u64>,
     local: &mut Local<u64>,
 ) -> RawPtr
     requires home { (home_of local.old ≡ place_of domain.now) × (hand_of local.old ≡ []) }
     requires raws { AreRawItemsOf raws.now domain.now }
     ensures same { IsAsBefore local.old local.new }
 {
-    let owner = owned(rt, value, domain, local);
-    match raws.into_raw(owner, domain, local) {
+    let owner = owned(rt, domain, value, local);
+    match raws.into_raw(domain, owner, local) {
         Ok(pointer) => pointer,
         Err(back) => {
             back.retire(domain, local);
@@ -430,9 +430,9 @@ fn sent_out<R: Abort>(
 
 /// What a guard reads by a raw pointer, and its tag; and whether the pointer to nothing gives one to nothing.
 fn seen(
+    domain: &Domain<u64>,
     raws: &RawItems,
     pointer: RawPtr,
-    domain: &Domain<u64>,
     local: &mut Local<u64>,
 ) -> (Option<(u64, Tag)>, bool)
     requires home { (home_of local.old ≡ place_of domain.now) × (hand_of local.old ≡ []) }
@@ -443,11 +443,11 @@ fn seen(
     let Ok(guard) = Guard::new(domain, local) else {
         unreachable!();
     };
-    let seen = match raws.into_ptr(pointer, domain, &guard, local) {
+    let seen = match raws.into_ptr(domain, pointer, &guard, local) {
         Some(it) => it.as_ref().map(|value| (*value, it.tag())),
         None => None,
     };
-    let nothing = raws.into_ptr(RawPtr::null(), domain, &guard, local);
+    let nothing = raws.into_ptr(domain, RawPtr::null(), &guard, local);
     let is_nothing = nothing == Some(OwnedPtr::null());
     guard.close(domain, local);
     (seen, is_nothing)
@@ -455,17 +455,17 @@ fn seen(
 
 /// The value of the owner that is had back.
 fn had_back(
+    domain: &Domain<u64>,
     raws: &RawItems,
     pointer: RawPtr,
-    domain: &Domain<u64>,
     local: &mut Local<u64>,
 ) -> Option<u64>
     requires home { home_of local.old ≡ place_of domain.now }
     requires raws { AreRawItemsOf raws.now domain.now }
     ensures same { IsAsBefore local.old local.new }
 {
-    let back = raws.from_raw(pointer, domain, local);
-    last_value(back, domain, local)
+    let back = raws.from_raw(domain, pointer, local);
+    last_value(domain, back, local)
 }
 
 #[test]
@@ -475,7 +475,7 @@ fn an_item_that_is_out_as_a_raw_one_is_had_back_once(rt: HostRuntime) -> Result<
     let Ok(raws) = RawItems::new(rt.alloc(), &domain, &mut local) else {
         panic!(&rt; "memory is ample, and so are cells");
     };
-    let found = goes_out(&rt, &raws, &domain, &mut local);
+    let found = goes_out(&rt, &domain, &raws, &mut local);
     let refused = match RawItems::new(rt.alloc(), &domain, &mut local) {
         Ok(more) => {
             more.end(&domain, &mut local);
@@ -499,8 +499,8 @@ fn pointer<R: Abort>(rt: &R, alloc: Global, domain: &Domain<u64>, local: &mut Lo
     let Ok(raws) = RawItems::new(alloc, domain, local) else {
         panic!(rt; "memory is ample, and so are cells");
     };
-    let first = owned(rt, 1, domain, local);
-    let found = sent_out(rt, 2, &raws, domain, local);
+    let first = owned(rt, domain, 1, local);
+    let found = sent_out(rt, domain, 2, &raws, local);
     first.retire(domain, local);
     raws.end(domain, local);
     found
@@ -569,25 +569,25 @@ impl Out {
 
 /// Swaps an item of this value into a cell: the value of what came out.
 fn swap_in(
+    domain: &Domain<u64>,
     cell: &AtomicOwned,
     value: u64,
-    domain: &Domain<u64>,
     local: &mut Local<u64>,
 ) -> Option<u64>
     requires home { (home_of local.old ≡ place_of domain.now) × (hand_of local.old ≡ []) }
     requires cell { IsCellOf cell.now domain.now }
     ensures same { IsAsBefore local.old local.new }
 {
-    let Ok(owner) = Owned::new(value, domain, local) else {
+    let Ok(owner) = Owned::new(domain, value, local) else {
         return None;
     };
-    let (old, _) = cell.swap((Some(owner), Tag::None), domain, local);
-    last_value(old, domain, local)
+    let (old, _) = cell.swap(domain, (Some(owner), Tag::None), local);
+    last_value(domain, old, local)
 }
 
 /// Swaps items of two thousand values into a cell, one after the other. Behind each it waits until the item is reclaimed that
 /// came out.
-fn swaps(cell: &AtomicOwned, first: u64, domain: &Domain<u64>) -> Option<Out>
+fn swaps(domain: &Domain<u64>, cell: &AtomicOwned, first: u64) -> Option<Out>
     requires { IsCellOf cell.now domain.now }
 {
     let Ok(mut local) = domain.register() else {
@@ -595,7 +595,7 @@ fn swaps(cell: &AtomicOwned, first: u64, domain: &Domain<u64>) -> Option<Out>
     };
     let mut out = Out { sum: 0, count: 0 };
     for i in 0..2000u64 {
-        out = out.with(swap_in(cell, first.saturating_add(i), domain, &mut local));
+        out = out.with(swap_in(domain, cell, first.saturating_add(i), &mut local));
         pass(domain, &mut local);
     }
     local.end(domain);
@@ -610,11 +610,11 @@ fn two_swap<R: Threads + Abort + Sync>(rt: &R, domain: &Domain<u64>) -> [Option<
     };
     let (left, right) = join(
         rt,
-        || swaps(&cell, 0, domain),
-        || swaps(&cell, 10_000, domain),
+        || swaps(domain, &cell, 0),
+        || swaps(domain, &cell, 10_000),
     );
     let rest = cell.into_owned(domain, &mut local);
-    let rest = last_value(rest, domain, &mut local);
+    let rest = last_value(domain, rest, &mut local);
     local.end(domain);
     [left, right, Some(Out { sum: 0, count: 0 }.with(rest))]
 }

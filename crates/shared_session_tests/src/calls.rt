@@ -40,7 +40,7 @@ pub fn registered(domain: &Domain<Item>) -> Result<Local<Item>, RegisterRefused>
 }
 
 /// Ends a participant.
-pub fn leave(local: Local<Item>, domain: &Domain<Item>)
+pub fn leave(domain: &Domain<Item>, local: Local<Item>)
     requires home { (home_of local ≡ place_of domain.now) × (hand_of local ≡ []) }
     requires closed { (own_of local).nesting ≡ 0 }
 {
@@ -48,7 +48,7 @@ pub fn leave(local: Local<Item>, domain: &Domain<Item>)
 }
 
 /// Ends a cell: whether it had the last owner of its item.
-pub fn retire(cell: AtomicShared, domain: &Domain<Item>, local: &mut Local<Item>) -> bool
+pub fn retire(domain: &Domain<Item>, cell: AtomicShared, local: &mut Local<Item>) -> bool
     requires home { home_of local.old ≡ place_of domain.now }
     requires inside { cell_number cell < cell_count domain.now }
     ensures same { IsInNest local.old local.new }
@@ -77,7 +77,7 @@ pub fn opened(
 }
 
 /// Closes a session: its receipt.
-pub fn ended(session: Twos, domain: &Domain<Item>, local: &mut Local<Item>) -> Receipt<u64, u64>
+pub fn ended(domain: &Domain<Item>, session: Twos, local: &mut Local<Item>) -> Receipt<u64, u64>
     requires home { home_of local.old ≡ place_of domain.now }
     requires mine { session.nest ≡ nest_in local.old }
     requires open { 0 < (own_of local.old).nesting }

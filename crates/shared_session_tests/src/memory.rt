@@ -49,13 +49,13 @@ fn reads<R: Abort>(rt: &R, alloc: Global) -> bool {
     let domain = place(rt, alloc, SMALL, &mut met);
     let mut local = member(rt, &domain, &mut met);
     let first = version(rt, alloc, &domain, &mut local, 1, (10, 20, 50), &mut met);
-    let cell = cell(rt, first, &domain, &mut local);
+    let cell = cell(rt, &domain, first, &mut local);
     let Ok(mut session) = opened(alloc, &domain, &cell, &mut local, 1) else {
         panic!(rt; "the first version is there");
     };
     let once = read(rt, &mut session, 0, &mut met);
     let again = read(rt, &mut session, 1, &mut met);
-    let receipt = ended(session, &domain, &mut local);
+    let receipt = ended(&domain, session, &mut local);
     end(rt, cell, domain, local);
     assert!(rt; lists_three(&once) && lists_three(&again));
     assert!(rt; receipt.number == 1 && has_both(&receipt));

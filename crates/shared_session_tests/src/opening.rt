@@ -193,9 +193,9 @@ pub fn within<R: Abort>(
         panic!(rt; "the second version is there");
     };
     let numbers = (outer.number(), inner.number());
-    let inner = ended(inner, domain, local);
+    let inner = ended(domain, inner, local);
     let value = value(&outer, 1);
-    let outer = ended(outer, domain, local);
+    let outer = ended(domain, outer, local);
     refused == OpenRefused::Earlier(2)
         && value == Some(10)
         && [numbers.0, numbers.1, inner.number, outer.number] == [1, 2, 2, 1]
@@ -231,6 +231,6 @@ pub fn of_loaded<R: Abort>(
         Err(_) => panic!(rt; "the second version was loaded"),
     };
     let value = value(&session, 1);
-    let number = ended(session, domain, local).number;
+    let number = ended(domain, session, local).number;
     refused == OpenRefused::Earlier(1) && value == Some(11) && number == 2
 }

@@ -83,8 +83,8 @@ pub fn member<R: Abort>(rt: &R, domain: &Domain<Item>, met: &mut bool) -> Local<
 /// The owner of an item that is placed, where a slot is free.
 pub fn placed<R: Abort>(
     rt: &R,
-    item: Item,
     domain: &Domain<Item>,
+    item: Item,
     local: &mut Local<Item>,
 ) -> Shared<Item>
     requires home { home_of local.old ≡ place_of domain.now }
@@ -94,7 +94,7 @@ pub fn placed<R: Abort>(
     ensures hand { hand_of local.new ≡ [] }
     ensures same { IsSameButHand local.old local.new }
 {
-    match Shared::new(item, domain, local) {
+    match Shared::new(domain, item, local) {
         Ok(owner) => owner,
         Err(_) => panic!(rt; "a slot is free"),
     }
@@ -188,22 +188,22 @@ pub fn version<R: Abort>(
 {
     let (first, second, third) = values;
     let front = Node::Segment(two(rt, alloc, first, second, met));
-    let front = placed(rt, front, domain, local);
+    let front = placed(rt, domain, front, local);
     let back = Node::Segment(one(rt, alloc, 5, third, met));
-    let back = placed(rt, back, domain, local);
+    let back = placed(rt, domain, back, local);
     let mut held = room(rt, alloc, met);
-    hold_last(&mut held, front, domain, local);
-    hold_last(&mut held, back, domain, local);
+    hold_last(domain, &mut held, front, local);
+    hold_last(domain, &mut held, back, local);
     let directory = Directory::new(number, 3, held, separator(rt, alloc, met));
     let version = Version::new(directory, 2);
-    placed(rt, Node::Version(version), domain, local)
+    placed(rt, domain, Node::Version(version), local)
 }
 
 /// A cell that owns the item, where one is free.
 pub fn cell<R: Abort>(
     rt: &R,
-    owner: Shared<Item>,
     domain: &Domain<Item>,
+    owner: Shared<Item>,
     local: &mut Local<Item>,
 ) -> AtomicShared
     requires home { home_of local.old ≡ place_of domain.now }
@@ -212,7 +212,7 @@ pub fn cell<R: Abort>(
     ensures same { IsInNest local.old local.new }
     ensures open { (own_of local.new).nesting ≡ (own_of local.old).nesting }
 {
-    match AtomicShared::from(owner, domain, local) {
+    match AtomicShared::from(domain, owner, local) {
         Ok(cell) => cell,
         Err(_) => panic!(rt; "a cell is free"),
     }
@@ -253,17 +253,17 @@ pub fn owning<R: Abort>(
         }
         First::Segment => {
             let segment = Node::Segment(one(rt, alloc, 5, 50, &mut met));
-            placed(rt, segment, domain, local)
+            placed(rt, domain, segment, local)
         }
         First::Empty => {
             let empty = Node::Version(Version::empty(alloc, 2));
-            placed(rt, empty, domain, local)
+            placed(rt, domain, empty, local)
         }
         First::Version(number, values) => {
             version(rt, alloc, domain, local, number, values, &mut met)
         }
     };
-    cell(rt, owner, domain, local)
+    cell(rt, domain, owner, local)
 }
 
 /// Has the cell name a version of this number with these values; the owner that it had is released.
@@ -283,7 +283,7 @@ pub fn renew<R: Abort>(
 {
     let mut met = false;
     let next = version(rt, alloc, domain, local, number, values, &mut met);
-    if let (Some(old), _) = cell.swap((Some(next), Tag::None), domain, local) {
+    if let (Some(old), _) = cell.swap(domain, (Some(next), Tag::None), local) {
         old.release(domain, local);
     }
 }
@@ -313,8 +313,8 @@ pub fn end<R: Abort>(rt: &R, cell: AtomicShared, domain: Domain<Item>, local: Lo
     requires inside { cell_number cell < cell_count domain }
 {
     let mut local = local;
-    retire(cell, &domain, &mut local);
-    leave(local, &domain);
+    retire(&domain, cell, &mut local);
+    leave(&domain, local);
     // What still waits holds owners, and so the end of the place takes memory, which may be refused once.
     let Err(domain) = closed(domain) else {
         return;

@@ -82,7 +82,7 @@ fn plays<R: Threads + Abort + Sync>(rt: &R, alloc: Global, first: First, play: P
     let mut writer = member(rt, &domain, &mut met);
     let cell = owning(rt, alloc, &domain, &mut writer, first);
     let right = goes(rt, alloc, &domain, &cell, &mut reader, &mut writer, play);
-    leave(reader, &domain);
+    leave(&domain, reader);
     end(rt, cell, domain, writer);
     right
 }

@@ -33,7 +33,7 @@ fn read_one<R: Abort>(
         panic!(rt; "a version of that number is there");
     };
     let found = value(&session, 1);
-    (found, ended(session, domain, local).number)
+    (found, ended(domain, session, local).number)
 }
 
 /// A session beside a second version: whether it reads the values of keys 1 and 5 of its own one before that and behind it,
@@ -63,7 +63,7 @@ pub fn beside<R: Abort>(
     let values = [before, value(&session, 1), value(&session, 5)];
     let read = asked(&mut session, Query::Get(2));
     let later = read_one(rt, alloc, domain, cell, writer, 2);
-    let receipt = ended(session, domain, reader);
+    let receipt = ended(domain, session, reader);
     reclaim(domain, writer);
     let left = in_use(domain);
     values == [Some(10), Some(10), Some(50)]
@@ -110,7 +110,7 @@ pub fn walked<R: Abort>(
     let last = copied(range.next_back());
     let middle = copied(range.next_back());
     let back = [last, middle, copied(range.next_back())];
-    let receipt = ended(session, domain, reader);
+    let receipt = ended(domain, session, reader);
     steps == STEPS
         && back == [Some((5, 50)), Some((2, 20)), None]
         && receipt.reads.as_slice().is_empty()
@@ -135,12 +135,12 @@ fn a_session_keeps_its_version_when_the_cell_is_given_back(rt: HostRuntime) {
     let Ok(session) = opened(rt.alloc(), &domain, &cell, &mut local, 1) else {
         panic!(rt; "the first version is there");
     };
-    let last = retire(cell, &domain, &mut local);
+    let last = retire(&domain, cell, &mut local);
     let read = (session.len(), value(&session, 2));
-    let number = ended(session, &domain, &mut local).number;
+    let number = ended(&domain, session, &mut local).number;
     reclaim(&domain, &mut local);
     let slots = in_use(&domain);
-    leave(local, &domain);
+    leave(&domain, local);
     match closed(domain) {
         Ok(()) => {}
         Err(_) => panic!(rt; "nobody is registered"),

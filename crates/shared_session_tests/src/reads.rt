@@ -207,7 +207,7 @@ pub fn are_right(
         return false;
     };
     let right = answers(&session, look);
-    let receipt = ended(session, domain, local);
+    let receipt = ended(domain, session, local);
     right && receipt.number == 1 && receipt.reads.as_slice().is_empty()
 }
 
@@ -260,7 +260,7 @@ fn are_recorded<R: Abort>(
     let last = value(&session, 5);
     let number = session.number();
     let plain = is_empty(&session) || (number, last) == (1, Some(50));
-    let receipt = ended(session, domain, local);
+    let receipt = ended(domain, session, local);
     recorded && plain && receipt.number == number && receipt.reads.as_slice() == rows
 }
 

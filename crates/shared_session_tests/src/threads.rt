@@ -36,7 +36,7 @@ fn whole(
     for (_, value) in session.iter() {
         same = same && *value == number;
     }
-    ended(session, domain, local);
+    ended(domain, session, local);
     if same && number >= at_least {
         Some(number)
     } else {
@@ -58,7 +58,7 @@ fn reads(alloc: Global, domain: &Domain<Item>, cell: &AtomicShared) -> Option<u3
             count = count.saturating_add(1);
         }
     }
-    leave(local, domain);
+    leave(domain, local);
     Some(count)
 }
 
@@ -73,7 +73,7 @@ fn writes<R: Abort>(rt: &R, alloc: Global, domain: &Domain<Item>, cell: &AtomicS
         renew(rt, alloc, domain, cell, &mut local, number, values);
         reclaim(domain, &mut local);
     }
-    leave(local, domain);
+    leave(domain, local);
     Some(())
 }
 

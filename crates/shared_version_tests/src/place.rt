@@ -50,7 +50,7 @@ pub(crate) fn member<R: Abort>(rt: &R, domain: &Domain<Item>) -> Local<Item>
 }
 
 /// Ends a participant.
-pub(crate) fn leave(local: Local<Item>, domain: &Domain<Item>)
+pub(crate) fn leave(domain: &Domain<Item>, local: Local<Item>)
     requires home { (home_of local ≡ place_of domain.now) × (hand_of local ≡ []) }
     requires closed { (own_of local).nesting ≡ 0 }
 {
@@ -60,8 +60,8 @@ pub(crate) fn leave(local: Local<Item>, domain: &Domain<Item>)
 /// A cell that owns this item. One is free.
 pub(crate) fn cell_of<R: Abort>(
     rt: &R,
-    owner: Shared<Item>,
     domain: &Domain<Item>,
+    owner: Shared<Item>,
     local: &mut Local<Item>,
 ) -> AtomicShared
     requires home { (home_of local.old ≡ place_of domain.now) × (hand_of local.old ≡ []) }
@@ -71,14 +71,14 @@ pub(crate) fn cell_of<R: Abort>(
     ensures same { IsSame local.old local.new }
     ensures closed { (own_of local.new).nesting ≡ 0 }
 {
-    match AtomicShared::from(owner, domain, local) {
+    match AtomicShared::from(domain, owner, local) {
         Ok(cell) => cell,
         Err(_) => panic!(rt; "a cell is free"),
     }
 }
 
 /// Ends a cell: whether it had the last owner of its item.
-pub(crate) fn retire(cell: AtomicShared, domain: &Domain<Item>, local: &mut Local<Item>) -> bool
+pub(crate) fn retire(domain: &Domain<Item>, cell: AtomicShared, local: &mut Local<Item>) -> bool
     requires home { (home_of local.old ≡ place_of domain.now) × (hand_of local.old ≡ []) }
     requires closed { (own_of local.old).nesting ≡ 0 }
     requires inside { cell_number cell < cell_count domain.now }
@@ -119,14 +119,14 @@ pub(crate) fn opened<const S: usize>(
     match Session::open(guard, loaded) {
         Ok(session) => Some(session),
         Err((guard, _)) => {
-            close(guard, domain, local);
+            close(domain, guard, local);
             None
         }
     }
 }
 
 /// Closes the guard of a session, which is the only one.
-pub(crate) fn close(guard: Guard, domain: &Domain<Item>, local: &mut Local<Item>)
+pub(crate) fn close(domain: &Domain<Item>, guard: Guard, local: &mut Local<Item>)
     requires home { home_of local.old ≡ place_of domain.now }
     requires mine { nest_of guard ≡ nest_in local.old }
     requires open { (own_of local.old).nesting ≡ 1 }

@@ -47,7 +47,7 @@ fn begun<R: Abort, const S: usize>(
     ensures closed { (own_of local.new).nesting ≡ 0 }
 {
     match Present::new(alloc, domain, local) {
-        Ok((present, owner)) => (present, cell_of(rt, owner, domain, local)),
+        Ok((present, owner)) => (present, cell_of(rt, domain, owner, local)),
         Err(NoSlot) => panic!(rt; "a slot is free"),
     }
 }
@@ -77,9 +77,9 @@ fn commit<R: Abort, const S: usize>(
     let Ok((draft, _)) = build::<u64, u64, S>(alloc, present.version(), writes) else {
         panic!(rt; "memory is there");
     };
-    match present.place(draft, domain, local) {
+    match present.place(domain, draft, local) {
         Ok(new) => {
-            publish(root, new, domain, local);
+            publish(domain, root, new, local);
             true
         }
         Err(NoSlot) => false,
@@ -120,7 +120,7 @@ fn seen<R: Abort, const S: usize>(
         panic!(rt; "the cell names a version");
     };
     let found = looked_up(&session, key);
-    close(session.into_guard(), domain, local);
+    close(domain, session.into_guard(), local);
     found
 }
 
@@ -204,10 +204,10 @@ impl<'d, const S: usize> Scene<'d, S> {
             root,
         } = self;
         let mut local = local;
-        retire(root, domain, &mut local);
+        retire(domain, root, &mut local);
         present.end(domain, &mut local);
         reclaimed(domain, &mut local);
-        leave(local, domain);
+        leave(domain, local);
         in_use(domain)
     }
 }
@@ -405,7 +405,7 @@ fn read_beside<R: Abort>(
     let placed = scene.commit(rt, alloc, &upserts(rt, alloc, 3..12, 2));
     scene.reclaim();
     let found = [looked_up(&session, 3), looked_up(&session, 11)];
-    close(session.into_guard(), scene.domain, reader);
+    close(scene.domain, session.into_guard(), reader);
     (placed, found)
 }
 
@@ -418,7 +418,7 @@ fn a_session_reads_on_while_versions_follow(rt: HostRuntime) -> Result<(), Fail>
     let first = scene.commit(&rt, alloc, &upserts(&rt, alloc, 1..9, 1));
     let (second, found) = read_beside(&rt, alloc, &mut scene, &mut reader);
     let behind = seen::<_, 2>(&rt, scene.domain, &mut reader, &scene.root, 3);
-    leave(reader, &domain);
+    leave(&domain, reader);
     scene.reclaim();
     let slots = scene.slots();
     let left = scene.end();

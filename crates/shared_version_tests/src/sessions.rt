@@ -37,8 +37,8 @@ fn cell_with_empty<R: Abort>(
     ensures closed { (own_of local.new).nesting ≡ 0 }
 {
     let empty = Node::Version(Version::empty(alloc, 4));
-    match Shared::new(empty, domain, local) {
-        Ok(owner) => cell_of(rt, owner, domain, local),
+    match Shared::new(domain, empty, local) {
+        Ok(owner) => cell_of(rt, domain, owner, local),
         Err(_) => panic!(rt; "a slot is free"),
     }
 }
@@ -57,7 +57,7 @@ fn read<const S: usize>(
 {
     let session = opened::<S>(domain, local, cell)?;
     let pairs = session.view().len();
-    close(session.into_guard(), domain, local);
+    close(domain, session.into_guard(), local);
     Some(pairs)
 }
 
@@ -68,8 +68,8 @@ fn a_session_reads_the_version_that_it_loaded(rt: HostRuntime) -> Result<(), Fai
     let cell = cell_with_empty(&rt, rt.alloc(), &domain, &mut local);
     let of_four = read::<4>(&domain, &mut local, &cell);
     let of_eight = read::<8>(&domain, &mut local, &cell);
-    let last = retire(cell, &domain, &mut local);
-    leave(local, &domain);
+    let last = retire(&domain, cell, &mut local);
+    leave(&domain, local);
     end(&rt, domain);
     assert_eq!(rt; (of_four, of_eight, last), (Some(0), None, true));
     Ok(())

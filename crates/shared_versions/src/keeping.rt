@@ -24,10 +24,10 @@ pub(crate) enum ToKeep<K: Ord, V> {
 /// were kept of the others, which are moved. The older ones that are left are released. Condition: no two are moved from one
 /// place, which is empty then.
 pub(crate) fn keep_all<K: Ord + Drop, V: Drop>(
+    domain: &Domain<Node<K, V>>,
     mut to_keep: Vec<ToKeep<K, V>>,
     kept: &mut Vec<Kept<K, V>>,
     room: Vec<Kept<K, V>>,
-    domain: &Domain<Node<K, V>>,
     local: &mut Local<Node<K, V>>,
 )
     requires home { home_of local.old ≡ place_of domain.now }
@@ -46,7 +46,7 @@ pub(crate) fn keep_all<K: Ord + Drop, V: Drop>(
         kept.push_reserved(moved(one, &mut older));
     }
     to_keep.destroy_empty();
-    release_kept(older, domain, local);
+    release_kept(domain, older, local);
 }
 
 /// The owner to be kept: an older one is moved out of its place.
@@ -63,8 +63,8 @@ fn moved<K: Ord, V>(to_keep: ToKeep<K, V>, older: &mut Vec<Kept<K, V>>) -> Kept<
 
 /// Releases the owners of new segments, of which none is kept: their version wasn't placed.
 pub(crate) fn release_new<K: Ord + Drop, V: Drop>(
-    mut to_keep: Vec<ToKeep<K, V>>,
     domain: &Domain<Node<K, V>>,
+    mut to_keep: Vec<ToKeep<K, V>>,
     local: &mut Local<Node<K, V>>,
 )
     requires home { home_of local.old ≡ place_of domain.now }
@@ -75,7 +75,7 @@ pub(crate) fn release_new<K: Ord + Drop, V: Drop>(
     'releasing: while let Some(one) = to_keep.pop() {
         match one {
             ToKeep::New(owner) => {
-                let_go(owner, domain, local);
+                let_go(domain, owner, local);
             }
             ToKeep::Old(_) => {}
         }

@@ -17,9 +17,9 @@ pub(crate) type Kept<K, V> = Option<Shared<Node<K, V>>>;
 
 /// One more owner of the segment at this place; none where it can't have one more, which is a miss.
 pub(crate) fn clone_at<K: Ord + Drop, V: Drop>(
+    domain: &Domain<Node<K, V>>,
     kept: &mut Vec<Kept<K, V>>,
     place: usize,
-    domain: &Domain<Node<K, V>>,
     local: &mut Local<Node<K, V>>,
 ) -> Option<Shared<Node<K, V>>>
     requires home { home_of local.old ≡ place_of domain.now }
@@ -36,7 +36,7 @@ pub(crate) fn clone_at<K: Ord + Drop, V: Drop>(
     let Some(owner) = mem::replace(&mut kept[place], None) else {
         unreachable!();
     };
-    let (owner, other) = clone_segment(owner, domain, local);
+    let (owner, other) = clone_segment(domain, owner, local);
     match mem::replace(&mut kept[place], Some(owner)) {
         None => {}
         Some(_) => unreachable!(),
@@ -46,8 +46,8 @@ pub(crate) fn clone_at<K: Ord + Drop, V: Drop>(
 
 /// Clones an owner of a segment. Its own is back alone where there can't be one more, which is a miss.
 fn clone_segment<K: Ord + Drop, V: Drop>(
-    owner: Shared<Node<K, V>>,
     domain: &Domain<Node<K, V>>,
+    owner: Shared<Node<K, V>>,
     local: &mut Local<Node<K, V>>,
 ) -> (Shared<Node<K, V>>, Option<Shared<Node<K, V>>>)
     requires home { home_of local.old ≡ place_of domain.now }
@@ -67,8 +67,8 @@ fn clone_segment<K: Ord + Drop, V: Drop>(
 
 /// Releases the owners of segments that are left.
 pub(crate) fn release_kept<K: Ord + Drop, V: Drop>(
-    mut kept: Vec<Kept<K, V>>,
     domain: &Domain<Node<K, V>>,
+    mut kept: Vec<Kept<K, V>>,
     local: &mut Local<Node<K, V>>,
 )
     requires home { home_of local.old ≡ place_of domain.now }
@@ -79,7 +79,7 @@ pub(crate) fn release_kept<K: Ord + Drop, V: Drop>(
     'releasing: while let Some(owner) = kept.pop() {
         match owner {
             Some(owner) => {
-                let_go(owner, domain, local);
+                let_go(domain, owner, local);
             }
             None => {}
         }

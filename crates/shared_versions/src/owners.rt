@@ -14,8 +14,8 @@ use sdd_domain::shared::Shared;
 /// Places an item, and gives two owners of it. The item is back, and what it holds in hand, where no slot was free; nothing
 /// is where it couldn't have a second owner: then it was placed and released. Both are one miss.
 pub(crate) fn place_two<T: Holds>(
-    item: T,
     domain: &Domain<T>,
+    item: T,
     local: &mut Local<T>,
 ) -> Result<(Shared<T>, Shared<T>), Option<T>>
     requires home { home_of local.old ≡ place_of domain.now }
@@ -29,7 +29,7 @@ pub(crate) fn place_two<T: Holds>(
     ensures missed { OnErr result (misses_of local.new ≡ misses_of local.old + 1) }
     ensures same { IsStillButMisses local.old local.new }
 {
-    match Shared::new(item, domain, local) {
+    match Shared::new(domain, item, local) {
         Ok(owner) => match owner.clone(domain, local) {
             Ok(both) => Ok(both),
             Err(owner) => {
@@ -42,7 +42,7 @@ pub(crate) fn place_two<T: Holds>(
 }
 
 /// Ends an item that wasn't placed: what it holds comes out of the participant's hand, and is released.
-pub(crate) fn take_back<T: Holds>(mut item: T, domain: &Domain<T>, local: &mut Local<T>)
+pub(crate) fn take_back<T: Holds>(domain: &Domain<T>, mut item: T, local: &mut Local<T>)
     requires home { home_of local.old ≡ place_of domain.now }
     requires hand { hand_of local.old ≡ T.holds item }
     ensures hand { hand_of local.new ≡ [] }
@@ -57,8 +57,8 @@ pub(crate) fn take_back<T: Holds>(mut item: T, domain: &Domain<T>, local: &mut L
 /// Releases an owner of a node: where it was the last one, the node waits to be reclaimed. Other functions release owners by
 /// this one, since the proof of a call of `Shared::release` at a node takes longer than all else that they do.
 pub(crate) fn let_go<K: Ord + Drop, V: Drop>(
-    owner: Shared<Node<K, V>>,
     domain: &Domain<Node<K, V>>,
+    owner: Shared<Node<K, V>>,
     local: &mut Local<Node<K, V>>,
 )
     requires home { home_of local.old ≡ place_of domain.now }

@@ -24,8 +24,8 @@ use version_views::Segment;
 
 /// Places a new segment, and gives two owners of it. Where it is refused, which is a miss, nothing is in use that wasn't before.
 fn place_segment<K: Ord + Drop, V: Drop>(
-    segment: Segment<K, V>,
     domain: &Domain<Node<K, V>>,
+    segment: Segment<K, V>,
     local: &mut Local<Node<K, V>>,
 ) -> Option<(Shared<Node<K, V>>, Shared<Node<K, V>>)>
     requires home { home_of local.old ≡ place_of domain.now }
@@ -37,7 +37,7 @@ fn place_segment<K: Ord + Drop, V: Drop>(
     ensures missed { IfNone result (misses_of local.new ≡ misses_of local.old + 1) }
     ensures same { IsStillButMisses local.old local.new }
 {
-    match place_two(Node::Segment(segment), domain, local) {
+    match place_two(domain, Node::Segment(segment), local) {
         Ok(both) => Some(both),
         Err(Some(node)) => {
             node.end();
@@ -50,9 +50,9 @@ fn place_segment<K: Ord + Drop, V: Drop>(
 /// An owner of one segment, and what is to be kept of it: a new one is placed; one that is taken over stays where it is kept.
 /// None where it is refused, which is a miss.
 fn owner_for<K: Ord + Drop, V: Drop>(
+    domain: &Domain<Node<K, V>>,
     part: Part<K, V, usize>,
     kept: &mut Vec<Kept<K, V>>,
-    domain: &Domain<Node<K, V>>,
     local: &mut Local<Node<K, V>>,
 ) -> Option<(Shared<Node<K, V>>, ToKeep<K, V>)>
     requires home { home_of local.old ≡ place_of domain.now }
@@ -72,11 +72,11 @@ fn owner_for<K: Ord + Drop, V: Drop>(
     ensures same { IsStillButMisses local.old local.new }
 {
     match part {
-        Part::Taken(place) => match clone_at(kept, place, domain, local) {
+        Part::Taken(place) => match clone_at(domain, kept, place, local) {
             Some(owner) => Some((owner, ToKeep::Old(place))),
             None => None,
         },
-        Part::Made(segment) => match place_segment(Box::into_inner(segment), domain, local) {
+        Part::Made(segment) => match place_segment(domain, Box::into_inner(segment), local) {
             Some((owner, other)) => Some((owner, ToKeep::New(other))),
             None => None,
         },
@@ -86,11 +86,11 @@ fn owner_for<K: Ord + Drop, V: Drop>(
 /// An owner of each segment, and what is to be kept of it, from the last one on, in the room for them. Where one is refused,
 /// which is a miss and the end of the call, nothing is in use that wasn't before, but what waits to be reclaimed.
 pub(crate) fn all_owners<K: Ord + Drop, V: Drop>(
+    domain: &Domain<Node<K, V>>,
     mut parts: Vec<Part<K, V, usize>>,
     mut owners: Vec<Shared<Node<K, V>>>,
     mut to_keep: Vec<ToKeep<K, V>>,
     kept: &mut Vec<Kept<K, V>>,
-    domain: &Domain<Node<K, V>>,
     local: &mut Local<Node<K, V>>,
 ) -> Option<(Vec<Shared<Node<K, V>>>, Vec<ToKeep<K, V>>)>
     requires home { home_of local.old ≡ place_of domain.now }
@@ -112,14 +112,14 @@ pub(crate) fn all_owners<K: Ord + Drop, V: Drop>(
     ensures same { IsStillButMisses local.old local.new }
 {
     'placing: while let Some(part) = parts.pop() {
-        match owner_for(part, kept, domain, local) {
+        match owner_for(domain, part, kept, local) {
             Some((owner, one)) => {
                 owners.push_reserved(owner);
                 to_keep.push_reserved(one);
             }
             None => {
-                release_all(owners, domain, local);
-                release_new(to_keep, domain, local);
+                release_all(domain, owners, local);
+                release_new(domain, to_keep, local);
                 return None;
             }
         }
@@ -129,8 +129,8 @@ pub(crate) fn all_owners<K: Ord + Drop, V: Drop>(
 
 /// Releases owners of segments.
 fn release_all<K: Ord + Drop, V: Drop>(
-    mut owners: Vec<Shared<Node<K, V>>>,
     domain: &Domain<Node<K, V>>,
+    mut owners: Vec<Shared<Node<K, V>>>,
     local: &mut Local<Node<K, V>>,
 )
     requires home { home_of local.old ≡ place_of domain.now }
@@ -139,16 +139,16 @@ fn release_all<K: Ord + Drop, V: Drop>(
     ensures same { IsStill local.old local.new }
 {
     'releasing: while let Some(owner) = owners.pop() {
-        let_go(owner, domain, local);
+        let_go(domain, owner, local);
     }
     owners.destroy_empty();
 }
 
 /// Takes owners of segments into the participant's hand, from the last one on, for a version to hold.
 pub(crate) fn hold_all<K: Ord + Drop, V: Drop>(
+    domain: &Domain<Node<K, V>>,
     mut owners: Vec<Shared<Node<K, V>>>,
     held: &mut Vec<Held<Node<K, V>>>,
-    domain: &Domain<Node<K, V>>,
     local: &mut Local<Node<K, V>>,
 )
     requires home { home_of local.old ≡ place_of domain.now }
@@ -162,7 +162,7 @@ pub(crate) fn hold_all<K: Ord + Drop, V: Drop>(
     ensures same { IsStill local.old local.new }
 {
     'holding: while let Some(owner) = owners.pop() {
-        hold_last(held, owner, domain, local);
+        hold_last(domain, held, owner, local);
     }
     owners.destroy_empty();
 }

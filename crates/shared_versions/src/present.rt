@@ -86,7 +86,7 @@ impl<K: Ord + Drop, V: Drop, const S: usize> Present<K, V, S> {
         ensures missed { OnErr result (misses_of local.new ≡ misses_of local.old + 1) }
         ensures same { IsStillButMisses local.old local.new }
     {
-        match place_two(Node::Version(Version::empty(alloc, S)), domain, local) {
+        match place_two(domain, Node::Version(Version::empty(alloc, S)), local) {
             Ok((version, root)) => {
                 let segments = Vec::new(alloc);
                 Ok((Present { version, segments }, root))
@@ -104,8 +104,8 @@ impl<K: Ord + Drop, V: Drop, const S: usize> Present<K, V, S> {
     /// that is released again: it waits to be reclaimed. It takes no memory.
     pub fn place(
         &mut self,
-        draft: Draft<K, V, S>,
         domain: &Domain<Node<K, V>>,
+        draft: Draft<K, V, S>,
         local: &mut Local<Node<K, V>>,
     ) -> Result<Shared<Node<K, V>>, NoSlot>
         requires home { home_of local.old ≡ place_of domain.now }
@@ -133,27 +133,27 @@ impl<K: Ord + Drop, V: Drop, const S: usize> Present<K, V, S> {
             mut held,
             kept,
         } = room;
-        let all = all_owners(parts, owners, to_keep, &mut self.segments, domain, local);
+        let all = all_owners(domain, parts, owners, to_keep, &mut self.segments, local);
         let Some((owners, to_keep)) = all else {
             held.destroy_empty();
             kept.destroy_empty();
             return Err(NoSlot);
         };
-        hold_all(owners, &mut held, domain, local);
+        hold_all(domain, owners, &mut held, local);
         let directory = Directory::new(number, length, held, separators);
-        match place_two(Node::Version(Version::new(directory, S)), domain, local) {
+        match place_two(domain, Node::Version(Version::new(directory, S)), local) {
             Ok((version, root)) => {
                 let older = mem::replace(&mut self.version, version);
-                let_go(older, domain, local);
+                let_go(domain, older, local);
                 // only now are owners moved: nothing is refused any more
-                keep_all(to_keep, &mut self.segments, kept, domain, local);
+                keep_all(domain, to_keep, &mut self.segments, kept, local);
                 Ok(root)
             }
             Err(refused) => {
-                release_new(to_keep, domain, local);
+                release_new(domain, to_keep, local);
                 kept.destroy_empty();
                 if let Some(node) = refused {
-                    take_back(node, domain, local);
+                    take_back(domain, node, local);
                 }
                 Err(NoSlot)
             }
@@ -168,8 +168,8 @@ impl<K: Ord + Drop, V: Drop, const S: usize> Present<K, V, S> {
         ensures same { IsStill local.old local.new }
     {
         let Present { version, segments } = self;
-        let_go(version, domain, local);
-        release_kept(segments, domain, local);
+        let_go(domain, version, local);
+        release_kept(domain, segments, local);
     }
 }
 
@@ -196,9 +196,9 @@ fn node_of_owner<K: Ord + Drop, V: Drop>(owner: &Shared<Node<K, V>>) -> &Node<K,
 
 /// Makes a placed version the one that a cell names, in one step, and releases the older one.
 pub fn publish<K: Ord + Drop, V: Drop>(
+    domain: &Domain<Node<K, V>>,
     root: &AtomicShared,
     new: Shared<Node<K, V>>,
-    domain: &Domain<Node<K, V>>,
     local: &mut Local<Node<K, V>>,
 )
     requires home { home_of local.old ≡ place_of domain.now }
@@ -207,7 +207,7 @@ pub fn publish<K: Ord + Drop, V: Drop>(
     ensures hand { hand_of local.new ≡ hand_of local.old }
     ensures same { IsStill local.old local.new }
 {
-    if let (Some(older), _) = root.swap((Some(new), Tag::None), domain, local) {
-        let_go(older, domain, local);
+    if let (Some(older), _) = root.swap(domain, (Some(new), Tag::None), local) {
+        let_go(domain, older, local);
     }
 }
