@@ -7,6 +7,8 @@ mod comparisons;
 #[cfg(test)]
 mod dice;
 #[cfg(test)]
+mod errors;
+#[cfg(test)]
 mod large;
 #[cfg(test)]
 mod plain;
@@ -14,6 +16,8 @@ mod plain;
 mod play;
 #[cfg(test)]
 mod random_calls;
+#[cfg(test)]
+mod reading;
 #[cfg(test)]
 mod reads;
 #[cfg(test)]

@@ -10,10 +10,13 @@ use Rattle.std.specs.declared.alloc.AllocError.{AllocError}
 use Rattle.serial_history.specs.declared.query.Query.{Query}
 use Rattle.serial_history.specs.declared.query.Answer.{Answer}
 use Rattle.ordered_index.specs.State.{State, OpenSession, IsSessionOf, IsOpenAt, Opens, Closes, Reads}
-use Rattle.ordered_index.specs.Desk.{Step, Run, Machine, Serves, KeepsAll, SitsAt, IsUnknown, LeavesSeat, TakesSeat, cleared}
+use Rattle.ordered_index.specs.Desk.{Step, Run, Machine, Serves, KeepsAll, SitsAt, IsUnknown, LeavesSeat, TakesSeat, cleared, reply_of}
 use Rattle.ordered_index.specs.declared.desk.Seat.{Seat}
 use Rattle.ordered_index.specs.declared.play.DeskCall.{DeskCall}
 use Rattle.ordered_index.specs.declared.play.DeskReply.{DeskReply}
+use Rattle.ordered_index.specs.declared.play.DeskReply.TheVariants as replies
+use Rattle.ordered_index.specs.declared.refused.DeskRefused.{DeskRefused}
+use Rattle.ordered_index.specs.declared.refused.DeskRefused.TheVariants as refusals
 use Rattle.serial_history.specs.declared.transaction.Receipt.{Receipt}
 
 -- what is at a place after a write: the value that was written there, or what was there before
@@ -29,7 +32,7 @@ set-there [] i v x h = absurd cc
 set-there (y ∷ xs) zero v x h = refl
 set-there (y ∷ xs) (suc i) v x h = set-there xs i v x h
 
-set-other : {X : Type 0} (xs : List X) (i : ℕ) (v : X) (j : ℕ) → i ≢ j → slice_get (set xs i v) j ≡ slice_get xs j
+pub set-other : {X : Type 0} (xs : List X) (i : ℕ) (v : X) (j : ℕ) → i ≢ j → slice_get (set xs i v) j ≡ slice_get xs j
 set-other [] i v j n = refl
 set-other (y ∷ xs) zero v zero n = absurd (n refl)
 set-other (y ∷ xs) zero v (suc j) n = refl
@@ -43,7 +46,7 @@ set-some (v ∷ xs) zero x (suc at) y h = (y, h)
 set-some (v ∷ xs) (suc i) x zero y h = (y, h)
 set-some (v ∷ xs) (suc i) x (suc at) y h = set-some xs i x at y h
 
-set-same : {X : Type 0} (xs : List X) (i : ℕ) (x : X) → slice_get xs i ≡ Some x → set xs i x ≡ xs
+pub set-same : {X : Type 0} (xs : List X) (i : ℕ) (x : X) → slice_get xs i ≡ Some x → set xs i x ≡ xs
 set-same [] i x h = absurd cc
 set-same (v ∷ xs) zero x h = ap (λ y. y ∷ xs) cc
 set-same (v ∷ xs) (suc i) x h = ap (λ ys. v ∷ ys) (set-same xs i x h)
@@ -56,6 +59,13 @@ get-front (y ∷ xs) ys (suc i) x h = get-front xs ys i x h
 get-end : {X : Type 0} (xs : List X) (x : X) → slice_get (xs ++ x ∷ []) (length xs) ≡ Some x
 get-end [] x = refl
 get-end (y ∷ xs) x = get-end xs x
+
+-- a reply that is none of those that refuse says that something was done
+pub no_refusal : {K V : Type 0} (reply : DeskReply K V) → (reply ≡ replies.NoPlace → ⊥) → (reply ≡ replies.Busy → ⊥) → ((w : _) → reply ≡ replies.NoSession w → ⊥) → ((r : _) → reply ≡ replies.Refused r → ⊥) → (x : DeskRefused K V) → reply_of x ≡ reply → ⊥
+no_refusal reply full busy none refused refusals.NoPlace e = full (sym e)
+no_refusal reply full busy none refused refusals.Busy e = busy (sym e)
+no_refusal reply full busy none refused (refusals.NoSession w) e = none w (sym e)
+no_refusal reply full busy none refused (refusals.Commit r) e = refused r (sym e)
 
 -- what holds whatever the answer is
 pub if_err : {X E P : Type 0} (r : Result X E) → P → OnErr r P

@@ -14,6 +14,8 @@ use Rattle.ordered_index.specs.declared.play.DeskCall.{DeskCall}
 use Rattle.ordered_index.specs.declared.play.DeskCall.TheVariants as calls
 use Rattle.ordered_index.specs.declared.play.DeskReply.{DeskReply}
 use Rattle.ordered_index.specs.declared.play.DeskReply.TheVariants as replies
+use Rattle.ordered_index.specs.declared.refused.DeskRefused.{DeskRefused}
+use Rattle.ordered_index.specs.declared.refused.DeskRefused.TheVariants as refusals
 
 -- an index, and a desk of sessions of it: the seat of a place has the session that is open there, with its label
 pub record Machine (K V : Type 0) : Type 0 where
@@ -21,6 +23,17 @@ pub record Machine (K V : Type 0) : Type 0 where
   pub desk : List (Option (Seat K V))
 
 module _ {K V : Type 0} where
+  -- the reply that says that nothing was done
+  abbrev pub reply_of : DeskRefused K V → DeskReply K V
+  reply_of refusals.NoPlace = replies.NoPlace
+  reply_of refusals.Busy = replies.Busy
+  reply_of (refusals.NoSession writes) = replies.NoSession writes
+  reply_of (refusals.Commit refused) = replies.Refused refused
+
+  -- the reply says that nothing was done
+  abbrev pub IsRefusal : DeskReply K V → Type 0
+  IsRefusal reply = (refusal : DeskRefused K V) × (reply_of refusal ≡ reply)
+
   -- the seat of this place is taken by this session, under this label
   pub record SitsAt (desk : List (Option (Seat K V))) (label place : ℕ) (seat : Seat K V) : Type 0 where
     pub there : slice_get desk place ≡ Some (Some seat)

@@ -3,3 +3,5 @@ pub mod Invariant
 pub mod Desk
 pub mod Receipts
 pub mod Conflicts
+pub mod Reading
+pub mod Lending

@@ -1,6 +1,6 @@
 //! The index of one thread.
 
-ghost use Rattle.std.specs.Prelude.{ℕ, ◌+◌, ◌≢◌, ◌≤◌, ◌≡◌, [], None, IfSome, IfNone, IfOk, OnOk, IsErr, IsOk, OnErr, replicate, length, List, IfErr, ◌-◌, ◌*◌, ◌<◌, ◌^◌, ◌↔◌, ◌++◌, ◌∷◌, vec_capacity};
+ghost use Rattle.std.specs.Prelude.{ℕ, ◌+◌, ◌≢◌, ◌≤◌, ◌≡◌, [], None, IfSome, IfNone, IfOk, OnOk, IsErr, IsOk, OnErr, replicate, slice_set, length, List, IfErr, ◌-◌, ◌*◌, ◌<◌, ◌^◌, ◌↔◌, ◌++◌, ◌∷◌, vec_capacity};
 ghost use Rattle.std.specs.Option.{option_copied};
 ghost use Rattle.leaf_array.specs.Pairs.{has_key, value_of_key};
 ghost use Rattle.leaf_array.specs.Values.{ClonesAreSame, EqualsAreSame};
@@ -12,9 +12,10 @@ ghost use Rattle.version_views.specs.Cuts.{pairs_in};
 ghost use Rattle.version_views.specs.Views.{cursor_within};
 ghost use Rattle.version_views.specs.Writes.{after_writes, replies_to};
 ghost use Rattle.std.specs.List.{All};
+ghost use Rattle.serial_history.specs.Answers.{answer_to};
 ghost use Rattle.serial_history.specs.Serial.{Holds, IsFirstConflict};
 ghost use Rattle.version_views.specs.Sizes.{IsStoreSized, room_for, segments_for};
-ghost use Rattle.ordered_index.specs.State.{State, latest_number, IsSessionOf, HasNoPlace, HasNoSession, Opens, Closes, list_at, present, transaction_of, MayAccept, MayRefuse, Commits, Refuses, Reads, Audits, Reclaims};
+ghost use Rattle.ordered_index.specs.State.{State, latest_number, IsOpenAt, IsSessionOf, HasNoPlace, HasNoSession, Opens, Closes, list_at, present, transaction_of, MayAccept, MayRefuse, Commits, Refuses, Reads, Audits, Reclaims};
 
 use crate::session::Session;
 use serial_history::ordered_view::{answer, first_conflict};
@@ -28,11 +29,13 @@ use serial_history::{
 use std::alloc::{AllocError, Global};
 use std::marker::Model;
 use std::ops::Bound;
+use thiserror::Error;
 use tree_index::{Steps, TreeIndex};
 use versions::{LocalStore, LocalView, Reply, Write, WriteRefused};
 
 /// No place is free: as many sessions are open as the index has places.
-#[derive(Clone, Copy, Debug, PartialEq, Eq)]
+#[derive(Clone, Copy, Debug, PartialEq, Eq, Error)]
+#[error("no place is free for a session; the index is as it was")]
 pub struct NoPlace;
 
 /// An ordered index for one thread: a list of pairs, ascending by key, that sessions read and
@@ -47,8 +50,8 @@ pub struct NoPlace;
 /// version stays while a session has it, and is reclaimed by [`reclaim`](LocalIndex::reclaim).
 ///
 /// Keys and values are such that a clone is the value itself (asked where a call clones), and
-/// equals are one value (asked where a call compares values). An index must be spent, by
-/// [`close`](LocalIndex::close).
+/// equals are one value (asked where a call compares values). An index must be consumed by
+/// [`close`](LocalIndex::close) or [`end`](LocalIndex::end), as a [`ScopedIndex`](crate::ScopedIndex) does by itself.
 pub struct LocalIndex<K: Clone + Ord, V: Clone + Eq, const S: usize> {
     alloc: Global,
     store: LocalStore<K, V, S>,
@@ -103,6 +106,9 @@ impl<K: Clone + Ord, V: Clone + Eq, const S: usize> LocalIndex<K, V, S> {
     pub fn open(&mut self) -> Result<Session<K, V>, NoPlace>
         ensures opens { IfOk result (λ session. Opens self.old session self.new) }
         ensures is_open { IfOk result (λ session. IsSessionOf self.new session) }
+        ensures back { IfOk result (λ session. slice_set self.new.places session.place None ≡ self.old.places) }
+        ensures apart { IfOk result (λ session. (place number : ℕ) → IsOpenAt self.old place number → place ≢ session.place) }
+        ensures others { IfOk result (λ _. (place number : ℕ) → IsOpenAt self.old place number → IsOpenAt self.new place number) }
         ensures full { IsErr result ↔ HasNoPlace self.old }
         ensures err { OnErr result (self.new ≡ self.old) }
     {
@@ -219,7 +225,7 @@ impl<K: Clone + Ord, V: Clone + Eq, const S: usize> LocalIndex<K, V, S> {
         ensures read { IfOk result (λ answer. Reads K.cmp self.now session.old query answer session.new) }
         ensures refused { OnErr result (session.new ≡ session.old) }
     {
-        let told = answer(self.alloc, &self.list_of(session), &query)?;
+        let told = self.answer_at(session.place(), session.number(), &query)?;
         session.note(query, &told)?;
         Ok(told)
     }
@@ -318,9 +324,10 @@ impl<K: Clone + Ord, V: Clone + Eq, const S: usize> LocalIndex<K, V, S> {
         requires { IsSessionOf self.old session }
         ensures receipt { result ≡ session.receipt }
         ensures closes { Closes self.old session.place self.new }
+        ensures others { (place number : ℕ) → place ≢ session.place → IsOpenAt self.old place number → IsOpenAt self.new place number }
     {
         let (place, receipt) = session.into_parts();
-        self.store.close(place);
+        self.close_place(place, receipt.number);
         receipt
     }
 
@@ -342,13 +349,64 @@ impl<K: Clone + Ord, V: Clone + Eq, const S: usize> LocalIndex<K, V, S> {
         Ok(())
     }
 
+    /// Ends the index, with the sessions that are open.
+    pub fn end(self) {
+        let LocalIndex {
+            alloc: _,
+            mut store,
+            history: _,
+            last: _,
+        } = self;
+        store.close_all();
+        store.end();
+    }
+
     // The version that a session reads.
     fn list_of(&self, session: &Session<K, V>) -> LocalView<'_, K, V, S>
         requires { IsSessionOf self.now session.now }
         ensures list { pairs_in result ≡ list_at K.cmp self.now session.now.receipt.number }
         ensures few { length result ≤ segments_for S (length (list_at K.cmp self.now session.now.receipt.number)) }
     {
-        self.store.reader(session.place())
+        self.list_read_at(session.place(), session.number())
+    }
+
+    // The version that the session with this number at this place reads.
+    pub(crate) fn list_read_at(&self, place: usize, number: u64) -> LocalView<'_, K, V, S>
+        requires { IsOpenAt self.now place number }
+        ensures list { pairs_in result ≡ list_at K.cmp self.now number }
+        ensures few { length result ≤ segments_for S (length (list_at K.cmp self.now number)) }
+    {
+        self.store.reader(place)
+    }
+
+    // What that session is answered.
+    pub(crate) fn answer_at(
+        &self,
+        place: usize,
+        number: u64,
+        query: &Query<K>,
+    ) -> Result<Answer<K, V>, AllocError>
+        requires session { IsOpenAt self.now place number }
+        requires keys { ClonesAreSame K.is_clone }
+        requires values { ClonesAreSame V.is_clone }
+        ensures { IfOk result (λ told. told ≡ answer_to K.cmp query.now (list_at K.cmp self.now number)) }
+    {
+        answer(self.alloc, &self.list_read_at(place, number), query)
+    }
+
+    // The session with this number at this place goes.
+    pub(crate) fn close_place(&mut self, place: usize, number: u64)
+        requires { IsOpenAt self.old place number }
+        ensures { Closes self.old place self.new }
+    {
+        self.store.close(place);
+    }
+
+    // No reads, and no memory.
+    pub(crate) fn no_reads(&self) -> Seq<Recorded<K, V>>
+        ensures { result ≡ [] }
+    {
+        Seq::new(self.alloc)
     }
 
     // Why a commit of these reads is refused, whatever it writes.

@@ -6,23 +6,76 @@
 //! control, validated by answers). `specs/` has the model: [`LocalIndex`] is a `State` of it, and
 //! each call one of its steps.
 //!
+//! <!-- crates/first_index/src/main.rt -->
 //! ```text
-//! let mut index = LocalIndex::<u64, u64, 64>::new(alloc, 16, 4096)?;
-//! index.commit(&Receipt::blank(alloc), vec![in alloc; Write::Insert(1, 10)]?)?;   // number 1
-//! let mut session = index.open()?;
-//! index.get(&session, &1);                                                         // Some(&10)
-//! index.read(&mut session, Query::Contains(2))?;                                   // recorded
-//! let receipt = index.close_session(session);
-//! index.commit(&receipt, vec![in alloc; Write::Insert(2, 20)]?)?;                 // number 2
-//! index.commit(&receipt, vec![in alloc; Write::Remove(1)]?);                      // Conflict(0)
-//! index.audit(&receipt)?;                                                          // Yes: so it was at 1
+//! //! The first example: an index is written, read and written again, and what was read is audited.
+//! #![tactic(auto)]
+//!
+//! use ordered_index::{LocalIndex, NoPlace, Query, Reading, Receipt, Refused, ScopedIndex, Write};
+//! use std::alloc::AllocError;
+//! use std::io;
+//! use std::ops::Bound;
+//! use thiserror::Error;
+//!
+//! #[derive(Debug, Drop, Error)]
+//! enum Failure {
+//!     #[error(transparent)]
+//!     Memory(#[from(alloc)] AllocError),
+//!     #[error(transparent)]
+//!     Output(#[from] io::Error),
+//!     #[error(transparent)]
+//!     NoPlace(#[from] NoPlace),
+//!     #[error(transparent)]
+//!     Refused(#[from] Refused<u64, u64>),
+//! }
+//!
+//! // Looks at a list, and records one of the reads.
+//! fn look<R: Print>(rt: &R, reading: &mut Reading<'_, u64, u64, 64>) -> Result<(), Failure> {
+//!     let value = reading.get(&1); // a look-up that isn't recorded
+//!     println!(rt; "1 has {value:?}")?;
+//!     let answer = reading.read(Query::Locate(3))?; // recorded: the pair with key 3, or its neighbours
+//!     println!(rt; "3 is {answer:?}")?;
+//!     for (key, value) in reading.range(Bound::Included(&1), Bound::Unbounded) {
+//!         println!(rt; "{key} {value}")?;
+//!     }
+//!     Ok(())
+//! }
+//!
+//! // Reads the present list, and gives what was read, and what it answered.
+//! fn read<R: Print>(
+//!     rt: &R,
+//!     index: &mut LocalIndex<u64, u64, 64>,
+//! ) -> Result<Receipt<u64, u64>, Failure> {
+//!     let mut reading = index.reading()?; // its session closes where it is let go
+//!     look(rt, &mut reading)?;
+//!     Ok(reading.take_receipt())
+//! }
+//!
+//! fn main(rt: HostRuntime) -> Result<(), Failure> {
+//!     let alloc = rt.alloc();
+//!     let mut scope = ScopedIndex::new(alloc, 16, 4096)?; // 16 sessions at a time, 4,096 slots
+//!     let index = &mut scope.index;
+//!     let writes = vec![in alloc; Write::Insert(1, 10), Write::Insert(4, 40)]?;
+//!     index.commit(&Receipt::blank(alloc), writes)?; // number 1, resting on no reads
+//!     let receipt = read(&rt, index)?;
+//!     let writes = vec![in alloc; Write::Upsert(5, 30)]?;
+//!     index.commit(&receipt, writes)?; // a conflict if an answer no longer holds
+//!     let audit = index.audit(&receipt)?; // Yes: it was right at its number
+//!     println!(rt; "{audit:?}")?;
+//!     index.reclaim();
+//!     Ok(())
+//! }
 //! ```
+//! <!-- end -->
 #![tactic(auto)]
 
 mod desk;
 mod index;
 mod laws;
 mod play;
+mod reading;
+mod refused;
+mod scoped;
 mod session;
 mod text;
 
@@ -32,6 +85,9 @@ pub use laws::{
     a_changed_range_is_a_conflict, own_receipts_audit_yes, reads_that_hold_are_no_conflict,
 };
 pub use play::{DeskCall, DeskReply, ReadSet, play_all, play_one};
+pub use reading::Reading;
+pub use refused::DeskRefused;
+pub use scoped::ScopedIndex;
 pub use serial_history::{
     Accepted, Answer, Audit, Cause, Near, Nearby, Query, Receipt, Recorded, Refused, Reply, Seq,
     Transaction, Walk, Write, clones_of_lists, equals_of_lists, ordered_view, replay, transaction,

@@ -1,5 +1,8 @@
 //! What a commit is answered.
 
+ghost use Rattle.std.specs.Prelude.{◌≡◌};
+
+use thiserror::Error;
 use version_views::{Reply, Write};
 
 /// An accepted commit.
@@ -12,23 +15,38 @@ pub struct Accepted {
 }
 
 /// Why a commit was refused. The causes are decided in this order.
-#[derive(Clone, Copy, Debug, PartialEq, Eq)]
+#[derive(Clone, Copy, Debug, PartialEq, Eq, Error)]
 pub enum Cause {
     /// The first recorded read, counted from 0, whose answer isn't that of the present list.
+    #[error("read {0} no longer holds")]
     Conflict(usize),
     /// The last number is reached.
+    #[error("the last number is reached")]
     Exhausted,
     /// A growth or a clone was refused.
+    #[error("memory was refused")]
     Memory,
     /// Too few slots are free for the new version: fewer than a version of so many pairs may take.
+    #[error("too few slots are free")]
     NoSlot,
 }
 
 /// A refused commit. The index is as it was before.
-#[derive(Clone, Debug, PartialEq, Eq, Drop)]
+#[derive(Clone, Debug, PartialEq, Eq, Drop, Error)]
+#[error("the commit was refused: {cause}; the index is as it was")]
 pub struct Refused<K, V> {
     /// Why.
     pub cause: Cause,
     /// The writes, as they were handed in.
     pub writes: Vec<Write<K, V>>,
+}
+
+impl<K, V> Refused<K, V> {
+    /// The writes, as they were handed in.
+    pub fn into_writes(self) -> Vec<Write<K, V>>
+        ensures { result ≡ self.writes }
+    {
+        let Refused { cause: _, writes } = self;
+        writes
+    }
 }

@@ -44,11 +44,25 @@ impl<K: Clone + Drop, V: Clone + Drop> Receipt<K, V> {
         ensures ok { OnOk result (self.new ≡ record self.old { reads = self.old.reads ++ (query, told.now) ∷ [] }) }
         ensures err { OnErr result (self.new ≡ self.old) }
     {
-        let answer = copied_answer(told)?;
-        match self.reads.push((query, answer)) {
-            Ok(()) => Ok(()),
-            Err(_) => Err(AllocError),
-        }
+        note(&mut self.reads, query, told)
+    }
+}
+
+/// Puts a read at the end of recorded ones, with a copy of the answer. Refused where memory is; then they stay as they were.
+pub fn note<K: Clone + Drop, V: Clone + Drop>(
+    reads: &mut Seq<Recorded<K, V>>,
+    query: Query<K>,
+    told: &Answer<K, V>,
+) -> Result<(), AllocError>
+    requires keys { ClonesAreSame K.is_clone }
+    requires values { ClonesAreSame V.is_clone }
+    ensures ok { OnOk result (reads.new ≡ reads.old ++ (query, told.now) ∷ []) }
+    ensures err { OnErr result (reads.new ≡ reads.old) }
+{
+    let answer = copied_answer(told)?;
+    match reads.push((query, answer)) {
+        Ok(()) => Ok(()),
+        Err(_) => Err(AllocError),
     }
 }
 

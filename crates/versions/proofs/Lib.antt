@@ -3,6 +3,7 @@ pub mod FreePlaceLemmas
 pub mod NoGarbageLemmas
 pub mod OnceLemmas
 pub mod PassLemmas
+pub mod PlaceLemmas
 pub mod PlacingLemmas
 pub mod PublishLemmas
 pub mod ReclaimLemmas

@@ -1,6 +1,6 @@
 //! The store of one thread.
 
-ghost use Rattle.std.specs.Prelude.{◌≡◌, ◌≤◌, ◌<◌, ◌+◌, ◌-◌, ◌*◌, ◌^◌, List, Option, None, Some, IfOk, IfSome, IfNone, IsErrOf, IsSome, IsTrue, ◌↔◌, OnOk, OnErr, length, replicate, slice_get, slice_set};
+ghost use Rattle.std.specs.Prelude.{◌≡◌, ◌≤◌, ◌<◌, ◌+◌, ◌-◌, ◌*◌, ◌^◌, List, Option, None, Some, IfOk, IfSome, IfNone, IsErrOf, IsSome, IsTrue, IsFalse, ◌↔◌, OnOk, OnErr, length, replicate, slice_get, slice_set};
 ghost use Rattle.std.specs.List.{All};
 ghost use Rattle.leaf_array.specs.Values.{ClonesAreSame};
 ghost use Rattle.sdd_base.specs.Passing.{slot_kept};
@@ -226,6 +226,41 @@ impl<K: Clone + Ord, V: Clone, const S: usize> LocalStore<K, V, S> {
         ensures within { self.now.used ≤ self.now.slots }
     {
         self.world.slots_in_use()
+    }
+
+    // Whether a place has a reader.
+    fn is_read(&self, place: usize) -> bool
+        requires { place < length self.now.readers }
+        ensures yes { IsTrue result → (v : Version K V) × (slice_get self.now.readers place ≡ Some (Some v)) }
+        ensures no { IsFalse result → slice_get self.now.readers place ≡ Some None }
+    {
+        self.readers[place].is_some()
+    }
+
+    // The reader of a place goes, if it has one.
+    fn free_place(&mut self, place: usize)
+        requires { place < length self.old.readers }
+        ensures { self.new ≡ record self.old { readers = slice_set self.old.readers place None } }
+    {
+        if self.is_read(place) {
+            self.close(place);
+        }
+    }
+
+    fn places(&self) -> usize
+        ensures { result ≡ length self.now.readers }
+    {
+        self.readers.len()
+    }
+
+    /// All readers go.
+    pub fn close_all(&mut self)
+        ensures none { All (λ r. r ≡ None) self.new.readers }
+        ensures rest { self.new ≡ record self.old { readers = self.new.readers } }
+    {
+        for place in 0..self.places() {
+            self.free_place(place);
+        }
     }
 
     /// Ends a store that has no reader.

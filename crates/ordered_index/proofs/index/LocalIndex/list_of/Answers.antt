@@ -1,17 +1,13 @@
-use Rattle.std.proofs.Common.{◌≤◌, length, subst, ◌∙◌, lit<}
+use Rattle.std.proofs.Common.{◌≤◌, length, ap, lit<, subst, ◌∙◌}
 use Rattle.version_views.specs.Sizes.{segments_for}
-use Rattle.ordered_index.proofs.IndexLemmas.{session_reads}
+use Rattle.ordered_index.specs.State.{list_at}
 use Rattle.ordered_index.proofs.index.LocalIndex.list_of.Goals as goal
 
-pub reader-requires : goal.reader-requires
-reader-requires g c =
-    let v = session_reads g.K.Ord.cmp c.self.invariant _ c.args.session.now.place c.place.result c.args.session.now.receipt.number c.self.view_is c.place.ensures c.requires in
-    (lit< tt, (lit< tt, (v.0, v.1)))
+pub list_read_at-requires : goal.list_read_at-requires
+list_read_at-requires g c = rw (c.place.ensures, c.number.ensures) (lit< tt, (lit< tt, c.requires))
 
 pub returns-clause-list : goal.returns-clause-list
-returns-clause-list g c =
-    let v = session_reads g.K.Ord.cmp c.self.invariant _ c.args.session.now.place c.place.result c.args.session.now.receipt.number c.self.view_is c.place.ensures c.requires in
-    c.reader.ensures.pairs v.0 v.1 ∙ v.2
+returns-clause-list g c = c.list_read_at.ensures.list ∙ ap (list_at g.K.Ord.cmp c.args.self.now) c.number.ensures
 
 pub returns-clause-few : goal.returns-clause-few
-returns-clause-few g c = subst (λ ps. length c.reader.result ≤ segments_for g.row.S (length ps)) (returns-clause-list g c) c.reader.ensures.few
+returns-clause-few g c = subst (λ n. length c.list_read_at.result ≤ segments_for g.row.S (length (list_at g.K.Ord.cmp c.args.self.now n))) c.number.ensures c.list_read_at.ensures.few

@@ -1,0 +1,153 @@
+//! What refusals say, and where `?` takes them.
+
+use crate::scene::Scene;
+use ordered_index::{
+    Cause, DeskCall, LocalIndex, NoPlace, ReadSet, Receipt, Refused, ScopedIndex, Write,
+};
+use std::alloc::{AllocError, Global};
+use std::fmt;
+use std::process::Abort;
+use std::test::Fail;
+use thiserror::Error;
+
+const ROOM: &str = "memory";
+
+// An error of a caller's own.
+#[derive(Debug, Drop, Error)]
+enum Failure {
+    #[error("memory was refused")]
+    Memory(#[from(alloc)] AllocError),
+    #[error(transparent)]
+    NoPlace(#[from] NoPlace),
+    #[error(transparent)]
+    Refused(#[from] Refused<u64, u64>),
+}
+
+// Whether a value says this.
+fn says<T: fmt::Display>(alloc: Global, value: &T, wanted: &str) -> Result<bool, AllocError> {
+    Ok(format!(in alloc; "{value}")?.as_str() == wanted)
+}
+
+const CAUSES: &[(Cause, &str)] = &[
+    (Cause::Conflict(2), "read 2 no longer holds"),
+    (Cause::Exhausted, "the last number is reached"),
+    (Cause::Memory, "memory was refused"),
+    (Cause::NoSlot, "too few slots are free"),
+];
+
+const REFUSED: &str = "the commit was refused: the last number is reached; the index is as it was";
+
+const NO_PLACE: &str = "no place is free for a session; the index is as it was";
+
+// How many texts are as they should be.
+fn said(alloc: Global) -> Result<usize, AllocError> {
+    let mut right = 0usize;
+    for (cause, wanted) in CAUSES {
+        if says(alloc, cause, wanted)? {
+            right = right.saturating_add(1);
+        }
+    }
+    let writes: Vec<Write<u64, u64>> = Vec::new(alloc);
+    let refused = Refused {
+        cause: Cause::Exhausted,
+        writes,
+    };
+    if says(alloc, &refused, REFUSED)? && says(alloc, &NoPlace, NO_PLACE)? {
+        right = right.saturating_add(1);
+    }
+    Ok(right)
+}
+
+#[test]
+fn refusals_say_what_stands_after_them(rt: HostRuntime) -> Result<(), Fail> {
+    assert_eq!(rt; said(rt.alloc())?, 5);
+    Ok(())
+}
+
+// Commits, and reads then; or what refused it.
+fn use_own(index: &mut LocalIndex<u64, u64, 2>, alloc: Global) -> Result<usize, Failure> {
+    let writes = vec![in alloc; Write::Insert(1, 10)]?;
+    let _accepted = index.commit(&Receipt::blank(alloc), writes)?;
+    let reading = index.reading()?;
+    Ok(reading.len())
+}
+
+// The same, where any error serves.
+fn use_any(index: &mut LocalIndex<u64, u64, 2>, alloc: Global) -> anyhow::Result<usize> {
+    let writes = vec![in alloc; Write::Insert(1, 10)]?;
+    let _accepted = index.commit(&Receipt::blank(alloc), writes)?;
+    let reading = index.reading()?;
+    Ok(reading.len())
+}
+
+// An index without places, up to a last number.
+fn scope_of<R: Abort>(rt: &R, alloc: Global, last: u64) -> ScopedIndex<u64, u64, 2> {
+    ScopedIndex {
+        index: LocalIndex::with_last(alloc, 0, 16, last).expect(rt, ROOM),
+    }
+}
+
+// What the error says.
+fn message<R: Abort, T: Drop, E: fmt::Display + Drop>(
+    rt: &R,
+    alloc: Global,
+    told: Result<T, E>,
+) -> String {
+    match told {
+        Ok(_) => panic!(rt; "it was accepted"),
+        Err(e) => format!(in alloc; "{e}").expect(rt, ROOM),
+    }
+}
+
+// (an index that takes no commit, and one that has no place)
+#[test]
+fn refusals_go_into_errors_of_a_caller(rt: HostRuntime) {
+    let alloc = rt.alloc();
+    for (last, wanted) in [(0, REFUSED), (9, NO_PLACE)] {
+        let mut scope = scope_of(&rt, alloc, last);
+        let own = message(&rt, alloc, use_own(&mut scope.index, alloc));
+        let mut scope = scope_of(&rt, alloc, last);
+        let any = message(&rt, alloc, use_any(&mut scope.index, alloc));
+        assert_eq!(rt; (own.as_str(), any.as_str()), (wanted, wanted));
+    }
+}
+
+#[test]
+fn a_refused_commit_hands_its_writes_back(rt: HostRuntime) {
+    let alloc = rt.alloc();
+    let writes = vec![in alloc; Write::Insert(1, 10), Write::Remove(2)].expect(&rt, ROOM);
+    let refused = Refused {
+        cause: Cause::NoSlot,
+        writes,
+    };
+    let back: Vec<Write<u64, u64>> = refused.into_writes();
+    assert!(rt; back.as_slice() == [Write::Insert(1, 10), Write::Remove(2)].as_slice());
+}
+
+// What a call of a desk is refused with, and nothing where it isn't refused.
+fn refusal<R: Abort>(rt: &R, scene: &mut Scene<2>, call: DeskCall<u64, u64>) -> String {
+    let alloc = scene.alloc;
+    match scene.reply(call).expect(rt, ROOM).into_result() {
+        Ok(_) => String::new(alloc),
+        Err(e) => format!(in alloc; "{e}").expect(rt, ROOM),
+    }
+}
+
+const BUSY: &str = "the label has a session already; the index is as it was";
+
+const NO_SESSION: &str = "the label has no session; the index is as it was";
+
+#[test]
+fn refusals_of_a_desk_say_what_stands_after_them(rt: HostRuntime) {
+    let mut scene = Scene::<2>::new(&rt, rt.alloc(), 1, 16, 0);
+    let unknown = refusal(&rt, &mut scene, DeskCall::Len(7));
+    let opened = refusal(&rt, &mut scene, DeskCall::Open(7));
+    let busy = refusal(&rt, &mut scene, DeskCall::Open(7));
+    let full = refusal(&rt, &mut scene, DeskCall::Open(8));
+    let writes = Vec::new(rt.alloc());
+    let commit = refusal(&rt, &mut scene, DeskCall::Commit(ReadSet::Empty, writes));
+    scene.end(&rt);
+    assert_eq!(rt; (unknown.as_str(), opened.as_str()), (NO_SESSION, ""));
+    assert_eq!(rt; (busy.as_str(), full.as_str()), (BUSY, NO_PLACE));
+    assert_eq!(rt; commit.as_str(), REFUSED);
+}
