@@ -286,7 +286,7 @@ fn with_cell(domain: &Domain<u64>, local: &mut Local<u64>, kind: Kind, rounds: u
     ensures same { IsSameButMisses local.old local.new }
     ensures closed { (own_of local.new).nesting ≡ 0 }
 {
-    let cell = AtomicShared::null(domain, local)?;
+    let cell = AtomicShared::null(domain, local).ok()?;
     if let Ok(owner) = Shared::new(domain, 1, local) {
         if let (Some(old), _) = cell.swap(domain, (Some(owner), Tag::None), local) {
             old.release(domain, local);

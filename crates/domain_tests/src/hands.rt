@@ -142,7 +142,7 @@ pub(crate) fn handled(
         }
         (Act::Take, None, cell) => (take(domain, local, cell), None, Found::Nothing),
         (Act::Null, hand, None) => {
-            let cell = AtomicShared::null(domain, local);
+            let cell = AtomicShared::null(domain, local).ok();
             let found = told(cell.is_some());
             (hand, cell, found)
         }

@@ -190,7 +190,7 @@ impl<'d> Stage<'d> {
         ensures stays { Stays self.old.here self.new.here }
     {
         let cell = match &self.cell {
-            Some(cell) => cell.clone(self.domain, guard, &mut self.here),
+            Some(cell) => cell.clone(self.domain, guard, &mut self.here).ok(),
             None => None,
         };
         let found = told(cell.is_some());

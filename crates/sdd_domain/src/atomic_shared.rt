@@ -14,6 +14,7 @@ use crate::swapping::swap_owner;
 use domain_table::cells::word_of;
 use domain_table::loading::slot_named;
 use domain_table::tags::tag_in;
+use sdd_base::refusal::NoSlot;
 use sdd_base::tag::Tag;
 use std::sync::atomic::Ordering;
 use tally::Tally;
@@ -52,18 +53,18 @@ impl AtomicShared {
     ghost use Rattle.sdd_base.specs.Epochs.{tag_number};
     ghost use Rattle.sdd_domain.specs.Comparing.{code_of, owner_code};
 
-    /// A cell that owns nothing, without a tag, if nobody has one of those that the place has: each is tried once. None is a
-    /// miss of the participant. It must be spent by `into_shared` or `retire`.
-    pub fn null<T: Holds>(domain: &Domain<T>, local: &mut Local<T>) -> Option<AtomicShared>
-        ensures inside { IfSome result (λ c. cell_number c < cell_count domain.now) }
-        ensures hit { IfSome result (λ c. misses_of local.new ≡ misses_of local.old) }
-        ensures missed { IfNone result (misses_of local.new ≡ misses_of local.old + 1) }
+    /// Claims a free cell of the place, trying each once: it owns nothing and has no tag. `NoSlot` if all are taken, which is
+    /// a miss of the participant. The cell must be consumed by `into_shared` or `retire`.
+    pub fn null<T: Holds>(domain: &Domain<T>, local: &mut Local<T>) -> Result<AtomicShared, NoSlot>
+        ensures inside { IfOk result (λ c. cell_number c < cell_count domain.now) }
+        ensures hit { IfOk result (λ c. misses_of local.new ≡ misses_of local.old) }
+        ensures missed { OnErr result (misses_of local.new ≡ misses_of local.old + 1) }
         ensures same { IsInNestButMisses local.old local.new × (own_of local.new ≡ own_of local.old) × (born_of local.new ≡ born_of local.old) × (waiting_of local.new ≡ waiting_of local.old) }
         ensures cells { StepsOnNoCell local.old local.new }
     {
         match take_cell(domain, &mut local.misses) {
-            Some(cell) => Some(AtomicShared { cell }),
-            None => None,
+            Some(cell) => Ok(AtomicShared { cell }),
+            None => Err(NoSlot),
         }
     }
 
@@ -84,7 +85,7 @@ impl AtomicShared {
         ensures put { IfOk result (λ c. (t : ℕ) × (k : ℕ) × HasExchanged local.old (cell_number c) t k 0 (owner_code (Some owner)) local.new) }
         ensures cells { OnErr result (StepsOnNoCell local.old local.new) }
     {
-        let Some(cell) = AtomicShared::null(domain, local) else {
+        let Ok(cell) = AtomicShared::null(domain, local) else {
             return Err(owner);
         };
         cell.put(domain, owner, local);
@@ -112,7 +113,7 @@ impl AtomicShared {
         ensures put { IfOk result (λ c. (t : ℕ) × (k : ℕ) × (slot : ℕ) × HasExchanged local.old (cell_number c) t k 0 (slot + 1) local.new) }
         ensures cells { OnErr result (StepsOnNoCell local.old local.new ⊎ ((cell : ℕ) × (t : ℕ) × (k : ℕ) × HasExchanged local.old cell t k 0 0 local.new)) }
     {
-        let Some(cell) = AtomicShared::null(domain, local) else {
+        let Ok(cell) = AtomicShared::null(domain, local) else {
             return Err(item);
         };
         match Shared::new(domain, item, local) {
@@ -128,30 +129,30 @@ impl AtomicShared {
     }
 
     /// A cell of its own with what this one names, as that is found in one step, without a tag: one that owns nothing where
-    /// `get_shared` gives none. None where there is no cell, which is a miss.
+    /// `get_shared` gives none. `NoSlot` if all cells are taken, which is a miss.
     pub fn clone<T: Holds>(
         &self,
         domain: &Domain<T>,
         guard: &Guard,
         local: &mut Local<T>,
-    ) -> Option<AtomicShared>
+    ) -> Result<AtomicShared, NoSlot>
         requires home { home_of local.old ≡ place_of domain.now }
         requires mine { nest_of guard.now ≡ nest_in local.old }
         requires open { 0 < (own_of local.old).nesting }
         requires inside { cell_number self.now < cell_count domain.now }
-        ensures inside { IfSome result (λ c. cell_number c < cell_count domain.now) }
-        ensures hit { IfSome result (λ c. misses_of local.new ≡ misses_of local.old) }
-        ensures missed { IfNone result (misses_of local.new ≡ misses_of local.old + 1) }
+        ensures inside { IfOk result (λ c. cell_number c < cell_count domain.now) }
+        ensures hit { IfOk result (λ c. misses_of local.new ≡ misses_of local.old) }
+        ensures missed { OnErr result (misses_of local.new ≡ misses_of local.old + 1) }
         ensures same { IsInNestButMisses local.old local.new × (born_of local.new ≡ born_of local.old) }
         ensures own { (flag : Bool) × (own_of local.new ≡ record (own_of local.old) { garbage = flag }) }
-        ensures copied { IfSome result (λ c. HasCopied local.old (cell_number self.now) (cell_number c) local.new) }
-        ensures cells { IfNone result (StepsOnNoCell local.old local.new) }
+        ensures copied { IfOk result (λ c. HasCopied local.old (cell_number self.now) (cell_number c) local.new) }
+        ensures cells { OnErr result (StepsOnNoCell local.old local.new) }
     {
         let cell = AtomicShared::null(domain, local)?;
         if let Some(owner) = self.get_shared(domain, guard, local) {
             cell.put(domain, owner, local);
         }
-        Some(cell)
+        Ok(cell)
     }
 
     /// Puts an owner into a cell that was just made. Whoever had the cell before left nothing in it.

@@ -204,8 +204,8 @@ pub(crate) fn is_free(domain: &Domain<u64>, local: &mut Local<u64>) -> bool
     requires home { (home_of local.old ≡ place_of domain.now) × (hand_of local.old ≡ []) }
     ensures same { IsAsBefore local.old local.new }
 {
-    let first = AtomicShared::null(domain, local);
-    let second = AtomicShared::null(domain, local);
+    let first = AtomicShared::null(domain, local).ok();
+    let second = AtomicShared::null(domain, local).ok();
     let both = first.is_some() && second.is_some();
     put_back(domain, first, local);
     put_back(domain, second, local);

@@ -103,7 +103,7 @@ impl Row {
             return Err(NotMade::Memory);
         };
         for _i in 0..count {
-            let Some(cell) = AtomicShared::null(domain, local) else {
+            let Ok(cell) = AtomicShared::null(domain, local) else {
                 Row::give_back(domain, cells, local);
                 return Err(NotMade::NoCell);
             };

@@ -41,8 +41,10 @@ impl Queue {
         ensures queue { IfSome result (λ q. IsQueueOf q domain.now) }
         ensures same { IsAsBefore local.old local.new }
     {
-        let last = AtomicShared::null(domain, local)?;
-        let Some(first) = AtomicShared::null(domain, local) else {
+        let Ok(last) = AtomicShared::null(domain, local) else {
+            return None;
+        };
+        let Ok(first) = AtomicShared::null(domain, local) else {
             last.retire(domain, local);
             return None;
         };

@@ -42,7 +42,9 @@ impl Stack {
         ensures same { IsAsBefore local.old local.new }
         ensures plain { IfSome result (λ s. IsPlain s) }
     {
-        let first = AtomicShared::null(domain, local)?;
+        let Ok(first) = AtomicShared::null(domain, local) else {
+            return None;
+        };
         Some(Stack {
             first,
             is_front: false,

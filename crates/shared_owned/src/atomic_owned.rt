@@ -5,6 +5,7 @@ ghost use Rattle.shared_owned.specs.Alone.{owner_in};
 
 use crate::owned::Owned;
 use crate::pointer::OwnedPtr;
+use sdd_base::refusal::NoSlot;
 use sdd_base::tag::Tag;
 use sdd_domain::atomic_shared::AtomicShared;
 use sdd_domain::domain::Domain;
@@ -48,18 +49,18 @@ impl AtomicOwned {
     ghost use Rattle.shared_owned.specs.Alone.{IsCellOf, cell_of, place_in, sole_slot, sole_code, IsSoleBack, pointer_slot, pointer_tag};
     ghost use Rattle.shared_owned.specs.declared.pointer.OwnedPtr.{OwnedPtr};
 
-    /// A cell that owns nothing, without a tag, if nobody has one of those that the place has: each is tried once. None is a
-    /// miss of the participant. It must be spent by `into_owned` or `retire`.
-    pub fn null<T: Holds>(domain: &Domain<T>, local: &mut Local<T>) -> Option<AtomicOwned>
-        ensures cell { IfSome result (λ c. IsCellOf c domain.now) }
-        ensures hit { IfSome result (λ c. misses_of local.new ≡ misses_of local.old) }
-        ensures missed { IfNone result (misses_of local.new ≡ misses_of local.old + 1) }
+    /// Claims a free cell of the place, trying each once: it owns nothing and has no tag. `NoSlot` if all are taken, which is
+    /// a miss of the participant. The cell must be consumed by `into_owned` or `retire`.
+    pub fn null<T: Holds>(domain: &Domain<T>, local: &mut Local<T>) -> Result<AtomicOwned, NoSlot>
+        ensures cell { IfOk result (λ c. IsCellOf c domain.now) }
+        ensures hit { IfOk result (λ c. misses_of local.new ≡ misses_of local.old) }
+        ensures missed { OnErr result (misses_of local.new ≡ misses_of local.old + 1) }
         ensures same { IsInNestButMisses local.old local.new × (own_of local.new ≡ own_of local.old) × (born_of local.new ≡ born_of local.old) × (waiting_of local.new ≡ waiting_of local.old) }
         ensures cells { StepsOnNoCell local.old local.new }
     {
         match AtomicShared::null(domain, local) {
-            Some(cell) => Some(AtomicOwned { cell }),
-            None => None,
+            Ok(cell) => Ok(AtomicOwned { cell }),
+            Err(refused) => Err(refused),
         }
     }
 

@@ -52,7 +52,7 @@ impl RawItems {
             return Err(RawRefused::Memory);
         };
         for _i in 0..domain.slots() {
-            let Some(cell) = AtomicShared::null(domain, local) else {
+            let Ok(cell) = AtomicShared::null(domain, local) else {
                 RawItems::give_back(domain, cells, local);
                 return Err(RawRefused::NoCell);
             };

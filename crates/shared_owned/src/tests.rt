@@ -253,7 +253,7 @@ fn three_looks<R: Abort>(rt: &R, domain: &Domain<u64>, local: &mut Local<u64>) -
     requires closed { (own_of local.old).nesting ≡ 0 }
     ensures same { IsAsBefore local.old local.new }
 {
-    let Some(cell) = AtomicOwned::null(domain, local) else {
+    let Ok(cell) = AtomicOwned::null(domain, local) else {
         panic!(rt; "a cell is free");
     };
     let made = looks(domain, &cell, local);
@@ -605,7 +605,7 @@ fn swaps(domain: &Domain<u64>, cell: &AtomicOwned, first: u64) -> Option<Out>
 /// Two threads swap items into one cell: what each takes out, and what is left in it.
 fn two_swap<R: Threads + Abort + Sync>(rt: &R, domain: &Domain<u64>) -> [Option<Out>; 3] {
     let mut local = member(rt, domain);
-    let Some(cell) = AtomicOwned::null(domain, &mut local) else {
+    let Ok(cell) = AtomicOwned::null(domain, &mut local) else {
         panic!(rt; "a cell is free");
     };
     let (left, right) = join(

@@ -10,6 +10,7 @@ ghost use Rattle.sdd_domain.specs.Tokens.{place_of, home_of, hand_of, own_of, ce
 ghost use Rattle.shared_versions.specs.Nodes.{held_by};
 
 use crate::calls::{closed, leave, made, registered, retire};
+use sdd_base::refusal::NoSlot;
 use sdd_base::sizes::Sizes;
 use sdd_base::tag::Tag;
 use sdd_domain::atomic_shared::AtomicShared;
@@ -247,8 +248,8 @@ pub fn owning<R: Abort>(
     let owner = match first {
         First::Nothing => {
             return match AtomicShared::null(domain, local) {
-                Some(cell) => cell,
-                None => panic!(rt; "a cell is free"),
+                Ok(cell) => cell,
+                Err(NoSlot) => panic!(rt; "a cell is free"),
             };
         }
         First::Segment => {

@@ -13,4 +13,4 @@ returns-clause-own g c = let put = c.put.ensures.own in (put.0, put.1 ∙ ap (λ
 
 pub returns-clause-put : goal.returns-clause-put
 returns-clause-put g c = let e = c.put.ensures.put in
-    (e.0, e.1, exchanged_behind c.in-Some.cell.cell e.0 e.1 0 (c.args.owner.slot + 1) c.args.local.now c.null.new.local c.put.new.local c.null.ensures.same.0.0.0 c.null.ensures.cells e.2)
+    (e.0, e.1, exchanged_behind c.in-Ok.cell.cell e.0 e.1 0 (c.args.owner.slot + 1) c.args.local.now c.null.new.local c.put.new.local c.null.ensures.same.0.0.0 c.null.ensures.cells e.2)
