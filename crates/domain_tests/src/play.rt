@@ -181,6 +181,7 @@ const TABLES: &[Table] = &[
     shares::OUTLIVES,
     shares::NO_MORE,
     shares::LENT,
+    shares::LENT_BESIDE,
     shares::CLONED,
     shares::MADE,
     shares::SHARED_BY_THREADS,

@@ -121,6 +121,25 @@ pub(crate) const LENT: Table = Table {
     ],
 };
 
+/// An owner lends its own item, though the place's first cell and slot have another one.
+pub(crate) const LENT_BESIDE: Table = Table {
+    participants: 1,
+    slots: 2,
+    cells: 4,
+    first: 0,
+    parts: &[
+        Apart(&[(Make(3), Nothing), (Place(5), Nothing)]),
+        Under(&[
+            (Load, Is(3)),
+            (Lend, Is(5)),
+            (LendItem, Is(5)),
+            (Item, Is(5)),
+            (Lent, Is(5)),
+        ]),
+        Apart(&[(Release, Yes), (Peek, Is(3)), (Retire, Yes)]),
+    ],
+};
+
 /// A clone of a cell owns its item too, and one of a cell that owns nothing owns nothing.
 pub(crate) const CLONED: Table = Table {
     participants: 1,
