@@ -34,7 +34,7 @@ loop-i-preserved g c =
     let before = c.loop-i.invariant in
     let pushed = c.push_reserved.ensures in
     record {
-      inside = subst (All (λ cell. cell_number cell < cell_count c.args.domain.now)) (sym pushed.items) (All-push (λ cell. cell_number cell < cell_count c.args.domain.now) c.loop-i.cells.items c.in-Some.cell before.inside c.in-Some.ensures.inside);
+      inside = subst (All (λ cell. cell_number cell < cell_count c.args.domain.now)) (sym pushed.items) (All-push (λ cell. cell_number cell < cell_count c.args.domain.now) c.loop-i.cells.items c.in-Ok-null.cell before.inside c.in-Ok-null.ensures.inside);
       room = pushed.capacity ∙ before.room;
       filled = pushed.len ∙ ap (λ n. n + 1) before.filled;
       same = as_before c.args.local.now c.loop-i.local c.null.new.local before.same (but_for_misses c.loop-i.local c.null.new.local c.null.ensures.same.0 c.null.ensures.same.1);
