@@ -2,7 +2,7 @@
 
 ghost use Rattle.std.specs.Prelude.{◌≡◌, []};
 ghost use Rattle.sdd_domain.specs.Tokens.{place_of, home_of, hand_of, own_of};
-ghost use Rattle.shared_containers.specs.Containers.{IsAsBefore};
+ghost use Rattle.shared_containers.specs.Containers.{IsAsBefore, IsOpenIn, IsStill};
 
 use crate::scene::{Kind, Made, Scene, end, member, read, sized};
 use sdd_domain::domain::Domain;
@@ -88,14 +88,27 @@ fn peeks(scene: &Scene, local: &mut Local<u64>) -> [Option<u64>; 2]
     let Ok(guard) = Guard::new(domain, local) else {
         unreachable!();
     };
-    let pointer = if scene.kind == Kind::Queue {
-        queue.peek(domain, links, &guard, local)
-    } else {
-        stack.peek(domain, &guard, local)
-    };
-    let first = pointer.as_ref().copied();
+    let first = pointed_at(scene, &guard, local);
     guard.close(domain, local);
     [first, seen]
+}
+
+/// The first value, as a pointer under this guard sees it.
+fn pointed_at(scene: &Scene, guard: &Guard, local: &mut Local<u64>) -> Option<u64>
+    requires open { IsOpenIn guard.now local.old scene.now.domain.now }
+    ensures same { IsStill local.old local.new }
+{
+    let Scene {
+        domain,
+        links,
+        stack,
+        queue,
+        ..
+    } = *scene;
+    if scene.kind == Kind::Queue {
+        return queue.peek(domain, links, guard, local).as_ref().copied();
+    }
+    stack.peek(domain, guard, local).as_ref().copied()
 }
 
 /// The values in the order of a walk, as the digits of a number, and how many there are.
