@@ -535,15 +535,50 @@ fn a_word_has_the_raw_pointer_that_was_written(rt: HostRuntime) -> Result<(), Fa
     assert!(rt; !it.is_null() && empty && read == [tagged, tagged]);
     assert!(rt; tried == [Err(it), Ok(it)] && more == [Ok(tagged), Err(it)]);
     assert!(rt; set == [false, true] && now == (Tag::Second, it.with_tag(Tag::Second)));
+    // one that is made with a pointer, and exchanged for nothing and back
     let made = AtomicRaw::new(tagged);
-    let of_it = (made.is_null(), made.tag(), made.load());
-    let from_null = [
-        made.compare_exchange(null, it),
-        made.compare_exchange(tagged, null),
-        made.compare_exchange(null, tagged),
-    ];
-    assert!(rt; of_it == (false, Tag::Both, tagged) && made.load() == tagged);
-    assert!(rt; from_null == [Err(tagged), Ok(tagged), Ok(null)]);
+    let had = (made.is_null(), made.tag(), made.load());
+    let gone = (made.compare_exchange(tagged, null), made.is_null());
+    let back = (made.compare_exchange(null, it), made.load());
+    assert!(rt;
+        had == (false, Tag::Both, tagged) && gone == (Ok(tagged), true) && back == (Ok(null), it)
+    );
+    Ok(())
+}
+
+/// What the owner of a new item lends to a guard, by reference and by pointer.
+fn lent<R: Abort>(rt: &R, domain: &Domain<u64>, local: &mut Local<u64>) -> (u64, Option<u64>)
+    requires home { (home_of local.old ≡ place_of domain.now) × (hand_of local.old ≡ []) }
+    requires closed { (own_of local.old).nesting ≡ 0 }
+    ensures same { IsAsBefore local.old local.new }
+{
+    let owner = owned(rt, domain, 5, local);
+    let Ok(guard) = Guard::new(domain, local) else {
+        unreachable!();
+    };
+    let (owner, item) = owner.get_guarded_ref(domain, &guard, local);
+    let (owner, pointer) = owner.get_guarded_ptr(domain, &guard, local);
+    owner.retire(domain, local);
+    let found = (*item, pointer.as_ref().copied());
+    guard.close(domain, local);
+    found
+}
+
+/// An owner lends its own item, though the place's first slot and cell have another one.
+#[test]
+fn an_owner_lends_its_own_item(rt: HostRuntime) -> Result<(), Fail> {
+    let domain = Domain::new(rt.alloc(), sized(1, 2, 2))?;
+    let mut local = member(&rt, &domain);
+    let other = owned(&rt, &domain, 3, &mut local);
+    let cell = match AtomicOwned::from(&domain, other, &mut local) {
+        Ok(cell) => cell,
+        Err(_) => panic!(rt; "a cell is free"),
+    };
+    let found = lent(&rt, &domain, &mut local);
+    cell.retire(&domain, &mut local);
+    local.end(&domain);
+    end(&rt, domain);
+    assert!(rt; found == (5, Some(5)));
     Ok(())
 }
 
