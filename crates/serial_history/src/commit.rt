@@ -26,7 +26,8 @@ pub enum Cause {
     /// A growth or a clone was refused.
     #[error("memory was refused")]
     Memory,
-    /// Too few slots are free for the new version: fewer than a version of so many pairs may take.
+    /// Too few slots are free for the new version: in an index of one thread, fewer than a version of so many pairs may take; in
+    /// one that threads share, fewer than this one takes, or an item has as many owners as it can have.
     #[error("too few slots are free")]
     NoSlot,
 }

@@ -1,9 +1,9 @@
 //! A run: an index, its readers, and its committer.
 
 ghost use Rattle.std.specs.Prelude.{◌≡◌, ◌<◌, ◌≤◌};
-ghost use Rattle.sdd_domain.specs.Cells.{cell_number};
 ghost use Rattle.sdd_domain.specs.Tokens.{place_of, cell_count};
 ghost use Rattle.shared_index.specs.Invariant.{IsUnengaged};
+ghost use Rattle.shared_sessions.specs.Openings.{root_number};
 
 use crate::place::{leave, registered};
 use crate::readers::{Sample, Span, fresh, read_all, sessions};
@@ -47,34 +47,30 @@ fn total(samples: &[Option<Sample>]) -> Option<Sample> {
     Some(all)
 }
 
-/// Readers beside a committer, by time: the share, and what they found.
+/// Readers beside a committer, by time: what they found.
 fn beside<L: Naming, R: Threads + Wait + Clock + Sync>(
     rt: &R,
     alloc: Global,
     index: &Index<'_, L>,
-    share: Share<L>,
+    share: &mut Share<L>,
     task: Task,
-) -> (Share<L>, Option<Found>) {
-    let Some(span) = span_of(rt, task) else {
-        return (share, None);
-    };
+) -> Option<Found> {
+    let span = span_of(rt, task)?;
     let domain = index.domain();
     let root = index.root();
-    // the closure that another thread gets borrows the place and the cell, but not the index
-    let (samples, (share, commits)) = join(
+    // the closure that another thread gets borrows the place and the root, but not the index
+    let (samples, commits) = join(
         rt,
         || -> Result<Vec<Option<Sample>>, AllocError>
-            requires { cell_number root.now < cell_count domain.now }
+            requires { root_number root < cell_count domain.now }
         { read_all(rt, alloc, domain, root, task, span) },
         || commit_until(rt, alloc, index, share, task, span),
     );
     let Ok(samples) = samples else {
-        return (share, None);
+        return None;
     };
-    let Some(sample) = total(&samples) else {
-        return (share, None);
-    };
-    (share, Some(Found { sample, commits }))
+    let sample = total(&samples)?;
+    Some(Found { sample, commits })
 }
 
 /// Rounds in one thread: of commits, if there are writes, and else of sessions.
@@ -82,38 +78,25 @@ fn alone<L: Naming, R: Wait>(
     rt: &R,
     alloc: Global,
     index: &Index<'_, L>,
-    share: Share<L>,
+    share: &mut Share<L>,
     task: Task,
-) -> (Share<L>, Option<Found>) {
-    let mut share = share;
+) -> Option<Found> {
     let mut refused = 0;
     let domain = index.domain();
-    let Some(mut local) = registered(domain) else {
-        return (share, None);
-    };
+    let root = index.root();
+    let mut local = registered(domain)?;
     let sample = if task.writes == 0 {
-        sessions(
-            alloc,
-            domain,
-            index.root(),
-            &mut local,
-            task,
-            task.last,
-            fresh(77),
-        )
+        sessions(alloc, domain, root, &mut local, task, task.last, fresh(77))
     } else {
-        refused = u64::from(task.last).wrapping_sub(rounds(rt, alloc, index, &mut share, task));
-        sessions(alloc, domain, index.root(), &mut local, task, 1, fresh(77))
+        refused = u64::from(task.last).wrapping_sub(rounds(rt, alloc, index, share, task));
+        sessions(alloc, domain, root, &mut local, task, 1, fresh(77))
     };
     leave(domain, local);
     let times: Vec<u64> = Vec::new(alloc);
-    (
-        share,
-        Some(Found {
-            sample,
-            commits: Commits { times, refused },
-        }),
-    )
+    Some(Found {
+        sample,
+        commits: Commits { times, refused },
+    })
 }
 
 /// Makes an index in a place, has the task done, and ends the index. None for want of memory, slots or participants.
@@ -129,6 +112,7 @@ pub fn run<L: Naming, R: Threads + Wait + Clock + Sync>(
     requires rest { IsUnengaged L.place local }
     requires name { blank.name ≡ L.name }
     requires parts { (blank.parts ≡ L.parts) × (blank.parts ≡ 1) }
+    requires last { L.last ≡ 18446744073709551615 }
 {
     let Ok(mut all) = Vec::with_capacity(alloc, 1) else {
         leave(domain, local);
@@ -140,6 +124,7 @@ pub fn run<L: Naming, R: Threads + Wait + Clock + Sync>(
     let (index, mut shares) = match made {
         Ok(made) => made,
         Err((local, _, _)) => {
+            all.destroy_empty();
             leave(domain, local);
             return None;
         }
@@ -147,13 +132,14 @@ pub fn run<L: Naming, R: Threads + Wait + Clock + Sync>(
     let Some(mut share) = shares.pop() else {
         unreachable!();
     };
+    shares.destroy_empty();
     let built = build(rt, alloc, &index, &mut share, task);
-    let (share, found) = if !built {
-        (share, None)
+    let found = if !built {
+        None
     } else if task.readers == 0 {
-        alone(rt, alloc, &index, share, task)
+        alone(rt, alloc, &index, &mut share, task)
     } else {
-        beside(rt, alloc, &index, share, task)
+        beside(rt, alloc, &index, &mut share, task)
     };
     all.push_reserved(share);
     match index.close(all) {

@@ -1,14 +1,14 @@
 //! Threads that read by sessions.
 
 ghost use Rattle.std.specs.Prelude.{◌≡◌, ◌<◌, ◌≤◌};
-ghost use Rattle.sdd_domain.specs.Cells.{cell_number};
 ghost use Rattle.sdd_domain.specs.Tokens.{place_of, home_of, own_of, cell_count, IsSame};
+ghost use Rattle.shared_sessions.specs.Openings.{root_number};
 
 use crate::place::{leave, registered};
 use crate::task::{Item, Reader, Task, belongs, drawn, key, next};
-use sdd_domain::atomic_shared::AtomicShared;
 use sdd_domain::domain::Domain;
 use sdd_domain::local::Local;
+use shared_sessions::Root;
 use std::alloc::{AllocError, Global};
 use std::thread;
 use std::thread::Threads;
@@ -46,13 +46,13 @@ pub struct Span {
 pub fn session(
     alloc: Global,
     domain: &Domain<Item>,
-    root: &AtomicShared,
+    root: Root<'_>,
     local: &mut Local<Item>,
     task: Task,
     sample: Sample,
 ) -> Sample
     requires home { home_of local.old ≡ place_of domain.now }
-    requires inside { cell_number root.now < cell_count domain.now }
+    requires inside { root_number root < cell_count domain.now }
     requires closed { (own_of local.old).nesting ≡ 0 }
     ensures same { IsSame local.old local.new }
     ensures closed { (own_of local.new).nesting ≡ 0 }
@@ -91,14 +91,14 @@ pub fn session(
 pub fn sessions(
     alloc: Global,
     domain: &Domain<Item>,
-    root: &AtomicShared,
+    root: Root<'_>,
     local: &mut Local<Item>,
     task: Task,
     rounds: u32,
     sample: Sample,
 ) -> Sample
     requires home { home_of local.old ≡ place_of domain.now }
-    requires inside { cell_number root.now < cell_count domain.now }
+    requires inside { root_number root < cell_count domain.now }
     requires closed { (own_of local.old).nesting ≡ 0 }
     ensures same { IsSame local.old local.new }
     ensures closed { (own_of local.new).nesting ≡ 0 }
@@ -124,12 +124,12 @@ fn reads<R: Clock>(
     rt: &R,
     alloc: Global,
     domain: &Domain<Item>,
-    root: &AtomicShared,
+    root: Root<'_>,
     task: Task,
     span: Span,
     seed: u64,
 ) -> Option<Sample>
-    requires inside { cell_number root.now < cell_count domain.now }
+    requires inside { root_number root < cell_count domain.now }
 {
     let mut local = registered(domain)?;
     let mut sample = fresh(seed);
@@ -162,11 +162,11 @@ pub fn read_all<R: Threads + Clock + Sync>(
     rt: &R,
     alloc: Global,
     domain: &Domain<Item>,
-    root: &AtomicShared,
+    root: Root<'_>,
     task: Task,
     span: Span,
 ) -> Result<Vec<Option<Sample>>, AllocError>
-    requires inside { cell_number root.now < cell_count domain.now }
+    requires inside { root_number root < cell_count domain.now }
 {
     thread::map_indices(
         rt,

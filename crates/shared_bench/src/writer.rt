@@ -110,11 +110,10 @@ pub fn commit_until<L: Naming, R: Wait + Clock>(
     rt: &R,
     alloc: Global,
     index: &Index<'_, L>,
-    share: Share<L>,
+    share: &mut Share<L>,
     task: Task,
     span: Span,
-) -> (Share<L>, Commits) {
-    let mut share = share;
+) -> Commits {
     let mut times: Vec<u64> = Vec::new(alloc);
     let mut refused: u64 = 0;
     let mut state: u64 = 5;
@@ -132,7 +131,7 @@ pub fn commit_until<L: Naming, R: Wait + Clock>(
         if from >= span.end {
             break;
         }
-        let accepted = commit(rt, alloc, index, &mut share, writes);
+        let accepted = commit(rt, alloc, index, share, writes);
         let Ok(to) = Instant::now(rt) else {
             break;
         };
@@ -144,5 +143,5 @@ pub fn commit_until<L: Naming, R: Wait + Clock>(
             refused = refused.wrapping_add(1);
         }
     }
-    (share, Commits { times, refused })
+    Commits { times, refused }
 }

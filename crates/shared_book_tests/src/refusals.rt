@@ -43,7 +43,8 @@ fn book<'d, L: Naming, R: Abort>(
     blank: Blank,
     met: &mut bool,
 ) -> Scene<'d, L, 2>
-    requires { CanBegin L.place L.name L.parts 1 domain.now local blank }
+    requires begins { CanBegin L.place L.name L.parts 1 domain.now local blank }
+    requires last { L.last ≡ 18446744073709551615 }
     ensures { result.domain.now ≡ domain.now }
 {
     let (local, blank) = match Scene::made(alloc, domain, local, blank, u64::MAX) {
@@ -146,7 +147,8 @@ fn writes_and_audits<L: Naming, R: Abort>(
     blank: Blank,
     met: &mut bool,
 ) -> Found
-    requires { CanBegin L.place L.name L.parts 1 domain.now local blank }
+    requires begins { CanBegin L.place L.name L.parts 1 domain.now local blank }
+    requires last { L.last ≡ 18446744073709551615 }
 {
     let mut scene = book::<L, R>(rt, alloc, domain, local, blank, met);
     let none = Receipt::blank(alloc);

@@ -1,6 +1,6 @@
 //! A book in a place, with what its calls take.
 
-ghost use Rattle.std.specs.Prelude.{◌≡◌, ◌≤◌, ◌<◌, IfErr, IfOk};
+ghost use Rattle.std.specs.Prelude.{◌≡◌, ◌≤◌, ◌<◌, IfErr, IfOk, length};
 ghost use Rattle.sdd_domain.specs.Cells.{cell_number};
 ghost use Rattle.sdd_domain.specs.Tokens.{place_of, cell_count};
 ghost use Rattle.shared_index.specs.Invariant.{IsUnengaged};
@@ -79,12 +79,13 @@ pub(crate) fn in_use(domain: &Domain<Item>) -> usize {
     domain.slots_in_use()
 }
 
-/// A book, the cell of its version, and its one share.
+/// A book, the cell of its version, and its one share, as the list of all.
 pub(crate) struct Scene<'d, L: Naming, const S: usize> {
     pub(crate) domain: &'d Domain<Item>,
     pub(crate) root: AtomicShared,
     pub(crate) book: Book<L, u64, u64, S>,
-    pub(crate) share: Share<L>,
+    pub(crate) shares: Vec<Share<L>>,
+    ghost one: { length shares.items ≡ 1 },
     ghost place: { place_of domain.now ≡ L.place },
     ghost inside: { cell_number root < cell_count domain.now },
 }
@@ -99,20 +100,18 @@ impl<'d, L: Naming, const S: usize> Scene<'d, L, S> {
         last: u64,
     ) -> Result<Self, (Local<Item>, Blank, NewRefused)>
         requires begins { CanBegin L.place L.name L.parts 1 domain.now local blank }
+        requires last { last ≡ L.last }
         requires size { (1 ≤ S) × (S ≤ 225) }
         ensures back { IfErr result (λ back. CanBegin L.place L.name L.parts 1 domain.now back.0 back.1) }
         ensures domain { IfOk result (λ scene. scene.domain.now ≡ domain.now) }
     {
-        let (book, root, mut shares) = Book::new(alloc, domain, local, blank, 1, last)?;
-        match shares.pop() {
-            Some(share) => Ok(Scene {
-                domain,
-                root,
-                book,
-                share,
-            }),
-            None => unreachable!(),
-        }
+        let (book, root, shares) = Book::new(alloc, domain, local, blank, 1, last)?;
+        Ok(Scene {
+            domain,
+            root,
+            book,
+            shares,
+        })
     }
 
     /// An empty book, for which there is room.
@@ -125,6 +124,7 @@ impl<'d, L: Naming, const S: usize> Scene<'d, L, S> {
         last: u64,
     ) -> Self
         requires begins { CanBegin L.place L.name L.parts 1 domain.now local blank }
+        requires last { last ≡ L.last }
         requires size { (1 ≤ S) × (S ≤ 225) }
     {
         match Self::made(alloc, domain, local, blank, last) {
@@ -139,8 +139,9 @@ impl<'d, L: Naming, const S: usize> Scene<'d, L, S> {
         receipt: &Receipt<u64, u64>,
         writes: Vec<Write<u64, u64>>,
     ) -> Result<Accepted, Refused<u64, u64>> {
+        let share = &mut self.shares[0];
         self.book
-            .commit(self.domain, &self.root, &mut self.share, receipt, writes)
+            .commit(self.domain, &self.root, share, receipt, writes)
     }
 
     /// Audits a receipt.
@@ -151,7 +152,8 @@ impl<'d, L: Naming, const S: usize> Scene<'d, L, S> {
     /// The number, how many pairs there are, and the count of the share.
     pub(crate) fn counts(&self) -> (u64, usize, u64) {
         self.book.laws();
-        (self.book.number(), self.book.len(), self.share.count())
+        let count = self.shares[0].count();
+        (self.book.number(), self.book.len(), count)
     }
 
     /// Reclaims what nobody reads.
@@ -165,9 +167,9 @@ impl<'d, L: Naming, const S: usize> Scene<'d, L, S> {
             domain,
             root,
             book,
-            share: _,
+            shares,
         } = self;
-        let mut local = book.end(domain);
+        let mut local = book.end(domain, shares);
         root.retire(domain, &mut local);
         local.end(domain);
     }

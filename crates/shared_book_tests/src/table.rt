@@ -1,6 +1,6 @@
 //! Calls of a book as data, so that a test of many calls is a table.
 
-ghost use Rattle.std.specs.Prelude.{◌≤◌};
+ghost use Rattle.std.specs.Prelude.{◌≡◌, ◌≤◌};
 ghost use Rattle.shared_book_tests.specs.Scenes.{CanBegin};
 
 use crate::scene::{Item, ROOM, Scene, end, member, place};
@@ -163,7 +163,8 @@ fn by_twos<L: Naming, R: Abort>(
     last: u64,
     rows: &[(Call, Told)],
 )
-    requires { CanBegin L.place L.name L.parts 1 domain.now local blank }
+    requires begins { CanBegin L.place L.name L.parts 1 domain.now local blank }
+    requires last { last ≡ L.last }
 {
     let scene = Scene::<L, 2>::new(rt, alloc, domain, local, blank, last);
     assert_eq!(rt; played(rt, alloc, scene, rows), rows.len());
@@ -179,7 +180,8 @@ fn by_ones<L: Naming, R: Abort>(
     last: u64,
     rows: &[(Call, Told)],
 )
-    requires { CanBegin L.place L.name L.parts 1 domain.now local blank }
+    requires begins { CanBegin L.place L.name L.parts 1 domain.now local blank }
+    requires last { last ≡ L.last }
 {
     let scene = Scene::<L, 1>::new(rt, alloc, domain, local, blank, last);
     assert_eq!(rt; played(rt, alloc, scene, rows), rows.len());

@@ -6,7 +6,7 @@ ghost use Rattle.shared_index.specs.Invariant.{IsUnengaged};
 
 use sdd_domain::domain::Domain;
 use sdd_domain::local::Local;
-use serial_history::{Audit, Query, Receipt};
+use serial_history::{Answer, Audit, Query, Receipt};
 use shared_index::{Naming, Share, SharedIndex, join_over};
 use shared_versions::Node;
 use std::alloc::Global;
@@ -44,6 +44,7 @@ pub(crate) fn play<L: Naming + Send + Sync, R: Threads + Wait + Sync>(
     requires rest { IsUnengaged L.place local }
     requires name { blank.name ≡ L.name }
     requires parts { (blank.parts ≡ L.parts) × (blank.parts ≡ 1) }
+    requires last { L.last ≡ 18446744073709551615 }
 {
     let Ok(room) = Vec::with_capacity(alloc, 1) else {
         local.end(domain);
@@ -53,18 +54,20 @@ pub(crate) fn play<L: Naming + Send + Sync, R: Threads + Wait + Sync>(
     let (index, mut shares) = match Settings::<L>::new(alloc, domain, local, blank, 1) {
         Ok(made) => made,
         Err((local, _, _)) => {
+            room.destroy_empty();
             local.end(domain);
             return None;
         }
     };
-    let Some(share) = shares.pop() else {
+    let Some(mut share) = shares.pop() else {
         unreachable!();
     };
-    let (sessions, share) = join_over(
+    shares.destroy_empty();
+    let (sessions, ()) = join_over(
         rt,
         &index,
         |index| four_read(rt, index),
-        |index| changed(rt, alloc, index, share),
+        |index| change(rt, alloc, index, &mut share),
     );
     room.push_reserved(share);
     match index.close(room) {
@@ -125,12 +128,15 @@ fn read_often<L: Naming, R: Wait>(rt: &R, index: &Settings<'_, L>) -> u32 {
     right
 }
 
-/// One session for at least this number: its receipt, if the settings belong together.
-fn read_once<L: Naming>(
+/// What both settings were found to be, and the receipt of the session that found it.
+type Found = (Answer<u64, u64>, Answer<u64, u64>, Receipt<u64, u64>);
+
+/// One session for at least this number, which records both settings. None where it or memory was refused.
+fn read_both<L: Naming>(
     index: &Settings<'_, L>,
     local: &mut Local<Item>,
     at_least: u64,
-) -> Option<Receipt<u64, u64>>
+) -> Option<Found>
     requires home { home_of local.old ≡ L.place }
     requires closed { (own_of local.old).nesting ≡ 0 }
     ensures same { IsSame local.old local.new }
@@ -143,34 +149,74 @@ fn read_once<L: Naming>(
     let waiting = session.read(Query::Get(WAITING));
     let receipt = session.close(index.domain(), local);
     match (workers, waiting) {
-        (Ok(workers), Ok(waiting)) => {
-            if workers == waiting {
-                Some(receipt)
-            } else {
-                None
-            }
-        }
+        (Ok(workers), Ok(waiting)) => Some((workers, waiting, receipt)),
         _ => None,
     }
 }
 
-/// A hundred commits, each of which changes both settings.
-fn changed<L: Naming, R: Wait>(
+/// One session for at least this number: its receipt, if the settings belong together.
+fn read_once<L: Naming>(
+    index: &Settings<'_, L>,
+    local: &mut Local<Item>,
+    at_least: u64,
+) -> Option<Receipt<u64, u64>>
+    requires home { home_of local.old ≡ L.place }
+    requires closed { (own_of local.old).nesting ≡ 0 }
+    ensures same { IsSame local.old local.new }
+    ensures closed { (own_of local.new).nesting ≡ 0 }
+{
+    let (workers, waiting, receipt) = read_both(index, local, at_least)?;
+    if workers == waiting {
+        Some(receipt)
+    } else {
+        None
+    }
+}
+
+/// Reads both settings in a session, and commits one more of each on its receipt: it is refused if either was changed since.
+/// True if it is accepted.
+fn raised<L: Naming, R: Wait>(
     rt: &R,
     alloc: Global,
     index: &Settings<'_, L>,
-    share: Share<L>,
-) -> Share<L> {
-    let mut share = share;
-    let blank = Receipt::blank(alloc);
-    for number in 1..=100u64 {
-        if let Ok(writes) = vec![in alloc;
-            Write::Upsert(WORKERS, number),
-            Write::Upsert(WAITING, number),
-        ] {
-            let _ = index.commit(rt, &mut share, &blank, writes);
-        }
+    local: &mut Local<Item>,
+    share: &mut Share<L>,
+) -> bool
+    requires home { home_of local.old ≡ L.place }
+    requires closed { (own_of local.old).nesting ≡ 0 }
+    ensures same { IsSame local.old local.new }
+    ensures closed { (own_of local.new).nesting ≡ 0 }
+{
+    let Some((workers, _, receipt)) = read_both(index, local, 0) else {
+        return false;
+    };
+    let number = match workers {
+        Answer::Get(Some(number)) => number.wrapping_add(1),
+        _ => 1,
+    };
+    let Ok(writes) = vec![in alloc;
+        Write::Upsert(WORKERS, number),
+        Write::Upsert(WAITING, number),
+    ] else {
+        return false;
+    };
+    index.commit(rt, share, &receipt, writes).is_ok()
+}
+
+/// A hundred commits, each of which raises both settings.
+fn change<L: Naming, R: Wait>(
+    rt: &R,
+    alloc: Global,
+    index: &Settings<'_, L>,
+    share: &mut Share<L>,
+) {
+    let domain = index.domain();
+    let Ok(mut local) = domain.register() else {
+        return;
+    };
+    for _turn in 0..100u32 {
+        let _is_accepted = raised(rt, alloc, index, &mut local, share);
         index.reclaim(rt);
     }
-    share
+    local.end(domain);
 }

@@ -16,6 +16,11 @@ pub record IsUnengaged {T : Type 0} (place : TableId × Sizes) (local : Local T)
   pub closed : (own_of local).nesting ≡ 0
   pub bare : hand_of local ≡ []
 
+-- segments have one pair at least and 225 at most; the last number is the named one
+pub record HasBounds (s number named : ℕ) : Type 0 where
+  pub size : (1 ≤ s) × (s ≤ 225)
+  pub last : number ≡ named
+
 module _ {K V : Type 0} (cmp : K → K → Ordering) where
   -- the version of a place is that of the list that the transactions leave, and has their number
   pub record IsLatest (place : TableId × Sizes) (present : Placed K V) (history : List (Transaction K V)) : Type 0 where

@@ -13,7 +13,7 @@ ghost use Rattle.version_views.specs.Writes.{replies_to};
 use crate::auditing::rebuilt;
 use crate::commit::{begin, install};
 use crate::naming::Naming;
-use crate::share::{Share, cut};
+use crate::share::{Share, cut, end_all};
 use sdd_domain::atomic_shared::AtomicShared;
 use sdd_domain::domain::Domain;
 use sdd_domain::local::Local;
@@ -51,18 +51,17 @@ pub struct Book<L: Naming, K: Clone + Ord, V: Clone + Eq, const S: usize> {
 }
 
 /// Invariant: specs/Invariant.antt. The participant is at rest; the history is a serial run, counted in the ledger; the
-/// present version has the list that it leaves, and its length for a number.
+/// present version has the list that it leaves, and its length for a number; the last number is the named one.
 impl<L: Naming, K: Clone + Ord, V: Clone + Eq, const S: usize> Model for Book<L, K, V, S> {
-    ghost use Rattle.std.specs.Prelude.{◌≤◌};
     ghost use Rattle.sdd_domain.specs.Tokens.{misses_of};
     ghost use Rattle.shared_index.specs.Books.{BookState};
-    ghost use Rattle.shared_index.specs.Invariant.{IsUnengaged, IsHistory, IsLatest};
+    ghost use Rattle.shared_index.specs.Invariant.{IsUnengaged, IsHistory, IsLatest, HasBounds};
 
     ghost Value = { BookState K V };
 
     ghost view = { λ b. record { history = b.history.items; last = b.last; misses = misses_of b.local } };
 
-    ghost invariant = { λ b. IsUnengaged L.place b.local × IsLatest K.cmp L.place b.present b.history.items × IsHistory K.cmp b.history.items b.last b.ledger.total × ((1 ≤ S) × (S ≤ 225)) };
+    ghost invariant = { λ b. IsUnengaged L.place b.local × IsLatest K.cmp L.place b.present b.history.items × IsHistory K.cmp b.history.items b.last b.ledger.total × HasBounds S b.last L.last };
 }
 
 impl<L: Naming, K: Clone + Ord, V: Clone + Eq, const S: usize> Book<L, K, V, S> {
@@ -82,6 +81,7 @@ impl<L: Naming, K: Clone + Ord, V: Clone + Eq, const S: usize> Book<L, K, V, S> 
         requires size { (1 ≤ S) × (S ≤ 225) }
         requires name { blank.name ≡ L.name }
         requires parts { (blank.parts ≡ L.parts) × (blank.parts ≡ shares) }
+        requires last { last ≡ L.last }
         ensures book { IfOk result (λ made. made.0 ≡ record { history = []; last = last; misses = misses_of local }) }
         ensures root { IfOk result (λ made. cell_number made.1 < cell_count domain.now) }
         ensures shares { IfOk result (λ made. made.2.items ≡ replicate shares 0) }
@@ -94,6 +94,7 @@ impl<L: Naming, K: Clone + Ord, V: Clone + Eq, const S: usize> Book<L, K, V, S> 
             return Err((local, blank, NewRefused::Memory));
         };
         let Ok((present, root)) = begin::<K, V, S>(alloc, domain, &mut local) else {
+            room.destroy_empty();
             return Err((local, blank, NewRefused::NoSlot));
         };
         let (ledger, mark) = blank.open::<L>();
@@ -110,7 +111,8 @@ impl<L: Naming, K: Clone + Ord, V: Clone + Eq, const S: usize> Book<L, K, V, S> 
 
     /// How many commits were accepted: the number of the present list.
     pub fn number(&self) -> u64
-        ensures { result ≡ length self.now.history }
+        ensures number { result ≡ length self.now.history }
+        ensures last { result ≤ L.last }
     {
         self.history.len() as u64
     }
@@ -122,10 +124,12 @@ impl<L: Naming, K: Clone + Ord, V: Clone + Eq, const S: usize> Book<L, K, V, S> 
         self.present.view().len()
     }
 
-    /// What every book meets: its history is a serial run, no longer than the last number. Nothing here runs.
+    /// What every book meets: its history is a serial run, no longer than the last number, which is the named one. Nothing
+    /// here runs.
     pub fn laws(&self)
         ensures serial { IsSerial K.cmp self.now.history [] }
         ensures numbered { length self.now.history ≤ self.now.last }
+        ensures last { self.now.last ≡ L.last }
     {
         // what is read here opens the book to the proof
         let _last = self.last;
@@ -156,6 +160,7 @@ impl<L: Naming, K: Clone + Ord, V: Clone + Eq, const S: usize> Book<L, K, V, S> 
         ensures can { OnOk result (CanCommit K.cmp self.old receipt.now.reads) }
         ensures added { OnOk result (self.new ≡ record self.old { history = self.old.history ++ next_transaction K.cmp self.old receipt.now.reads writes.items ∷ [] }) }
         ensures number { IfOk result (λ told. told.number ≡ length self.old.history + 1) }
+        ensures last { IfOk result (λ told. told.number ≤ L.last) }
         ensures replies { IfOk result (λ told. told.replies.items ≡ replies_to K.cmp writes.items (present_list K.cmp self.old)) }
         ensures counted { OnOk result (share.new ≡ share.old + 1) }
         ensures cause { IfErr result (λ back. CanRefuse K.cmp self.old receipt.now.reads back.cause) }
@@ -211,9 +216,9 @@ impl<L: Naming, K: Clone + Ord, V: Clone + Eq, const S: usize> Book<L, K, V, S> 
         reclaim(domain, &mut self.local);
     }
 
-    /// Ends the book, and gives its participant back: what no cell owns is retired. The ledger goes, so no share is counted
-    /// any more.
-    pub fn end(self, domain: &Domain<Node<K, V>>) -> Local<Node<K, V>>
+    /// Ends the book and shares of it, and gives its participant back: what no cell owns is retired. The ledger goes, so no
+    /// share counts any more.
+    pub fn end(self, domain: &Domain<Node<K, V>>, shares: Vec<Share<L>>) -> Local<Node<K, V>>
         requires place { place_of domain.now ≡ L.place }
         ensures rest { IsUnengaged L.place result }
         ensures misses { misses_of result ≡ self.misses }
@@ -227,6 +232,7 @@ impl<L: Naming, K: Clone + Ord, V: Clone + Eq, const S: usize> Book<L, K, V, S> 
             ledger: _,
         } = self;
         present.end(domain, &mut local);
+        end_all(shares);
         local
     }
 
@@ -234,6 +240,7 @@ impl<L: Naming, K: Clone + Ord, V: Clone + Eq, const S: usize> Book<L, K, V, S> 
     pub(crate) fn balance(&mut self, all: &mut ledger::Share<L>) -> u64
         requires { all.old.parts ≡ L.parts }
         ensures number { result ≡ length self.old.history }
+        ensures last { result ≤ L.last }
         ensures amount { result ≡ all.old.amount }
         ensures same { self.new ≡ self.old }
     {

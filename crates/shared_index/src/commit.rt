@@ -9,10 +9,11 @@ ghost use Rattle.shared_versions.specs.Placing.{IsStillButMisses};
 ghost use Rattle.shared_index.specs.Books.{misses_told};
 ghost use Rattle.version_views.specs.Writes.{after_writes, replies_to};
 
+use sdd_base::refusal::NoSlot;
 use sdd_domain::atomic_shared::AtomicShared;
 use sdd_domain::domain::Domain;
 use sdd_domain::local::Local;
-use shared_versions::{NoSlot, Node, Present, build, publish};
+use shared_versions::{Node, Present, build, publish};
 use std::alloc::Global;
 use version_views::{Reply, Write, WriteRefused};
 

@@ -3,10 +3,10 @@
 ghost use Rattle.std.specs.Prelude.{◌≡◌, ◌≢◌, ◌≤◌, ◌<◌, ◌+◌, ◌↔◌, [], IfOk, IfErr, IsErr, IsErrOf, OnOk, OnErr, length, replicate};
 ghost use Rattle.std.specs.List.{sum};
 ghost use Rattle.leaf_array.specs.Values.{ClonesAreSame, EqualsAreSame};
-ghost use Rattle.sdd_domain.specs.Cells.{cell_number};
-ghost use Rattle.sdd_domain.specs.Tokens.{place_of, home_of, own_of, born_of, cell_count, nest_in, IsSame};
+ghost use Rattle.sdd_domain.specs.Tokens.{place_of, home_of, own_of, born_of, cell_count, misses_of, nest_in, IsSame};
+ghost use Rattle.shared_index.specs.Books.{misses_without};
 ghost use Rattle.shared_index.specs.Invariant.{IsUnengaged};
-ghost use Rattle.shared_sessions.specs.Openings.{IsBelow};
+ghost use Rattle.shared_sessions.specs.Openings.{IsBelow, root_number};
 
 use crate::book::{Book, NewRefused};
 use crate::naming::Naming;
@@ -15,7 +15,7 @@ use sdd_domain::atomic_shared::AtomicShared;
 use sdd_domain::domain::Domain;
 use sdd_domain::local::Local;
 use serial_history::{Accepted, Audit, Receipt, Refused};
-use shared_sessions::{OpenRefused, SharedSession};
+use shared_sessions::{OpenRefused, Root, SharedSession};
 use shared_versions::Node;
 use std::alloc::{AllocError, Global};
 use std::marker::Model;
@@ -55,7 +55,8 @@ impl<'d, L: Naming, K: Clone + Ord, V: Clone + Eq, const S: usize> Model
 
 impl<'d, L: Naming, K: Clone + Ord, V: Clone + Eq, const S: usize> SharedIndex<'d, L, K, V, S> {
     /// An empty index in a place, with so many shares, at least one. Its last number is `2^64 - 1`. Refused, all comes back:
-    /// `Memory` where there is no room for the shares, and `NoSlot` where no slot is free for the empty version, or no cell.
+    /// `Memory` where there is no room for the shares, and `NoSlot` where no slot is free for the empty version, or no cell,
+    /// which is one miss of the participant.
     pub fn new(
         alloc: Global,
         domain: &'d Domain<Node<K, V>>,
@@ -68,14 +69,16 @@ impl<'d, L: Naming, K: Clone + Ord, V: Clone + Eq, const S: usize> SharedIndex<'
         requires size { (1 ≤ S) × (S ≤ 225) }
         requires name { blank.name ≡ L.name }
         requires parts { (blank.parts ≡ L.parts) × (blank.parts ≡ shares) × (0 < shares) }
+        requires last { L.last ≡ 18446744073709551615 }
         ensures shares { IfOk result (λ made. made.1.items ≡ replicate shares 0) }
         ensures local { IfErr result (λ back. IsUnengaged L.place back.0) }
+        ensures missed { IfErr result (λ back. misses_of back.0 ≡ misses_without back.2 (misses_of local)) }
         ensures blank { IfErr result (λ back. back.1 ≡ blank) }
     {
         Self::with_last(alloc, domain, local, blank, shares, u64::MAX)
     }
 
-    /// The same, with this last number: so many commits are accepted, and the next is `Exhausted`.
+    /// The same, with this last number: so many commits are accepted at most, and the next is `Exhausted`.
     pub fn with_last(
         alloc: Global,
         domain: &'d Domain<Node<K, V>>,
@@ -89,8 +92,10 @@ impl<'d, L: Naming, K: Clone + Ord, V: Clone + Eq, const S: usize> SharedIndex<'
         requires size { (1 ≤ S) × (S ≤ 225) }
         requires name { blank.name ≡ L.name }
         requires parts { (blank.parts ≡ L.parts) × (blank.parts ≡ shares) × (0 < shares) }
+        requires last { last ≡ L.last }
         ensures shares { IfOk result (λ made. made.1.items ≡ replicate shares 0) }
         ensures local { IfErr result (λ back. IsUnengaged L.place back.0) }
+        ensures missed { IfErr result (λ back. misses_of back.0 ≡ misses_without back.2 (misses_of local)) }
         ensures blank { IfErr result (λ back. back.1 ≡ blank) }
     {
         let (book, root, cut) = Book::new(alloc, domain, local, blank, shares, last)?;
@@ -112,11 +117,11 @@ impl<'d, L: Naming, K: Clone + Ord, V: Clone + Eq, const S: usize> SharedIndex<'
         self.domain
     }
 
-    /// The cell that names the present version.
-    pub fn root(&self) -> &AtomicShared
-        ensures inside { cell_number result.now < L.place.1.cells }
+    /// The cell that names the present version, to open sessions on: only commits have it name another one.
+    pub fn root(&self) -> Root<'_>
+        ensures inside { root_number result < L.place.1.cells }
     {
-        &self.root
+        Root::new(&self.root)
     }
 
     /// Opens a session of the participant on the version that the root is found to name, by one load and without the lock: it
@@ -124,9 +129,9 @@ impl<'d, L: Naming, K: Clone + Ord, V: Clone + Eq, const S: usize> SharedIndex<'
     /// memory; what the session records takes some.
     ///
     /// It is refused, with as many guards open as before, where [`SharedSession::open`] is: as `Nested` exactly where no more
-    /// guards of the participant can be counted, and as `Earlier` exactly where the number of the version that it loaded is
+    /// guards of the participant can be counted, and as `Earlier`, with the number of the version that it loaded, where that is
     /// below `at_least`. Who was told the number of a commit asks for that number, so that it reads what was committed; 0 asks
-    /// for nothing. An index never publishes what `NoVersion` tells of.
+    /// for nothing. `NoVersion` never comes: only commits write to the cell, and each has it name a version of this width.
     ///
     /// ```text
     /// let mut session = index.open(&mut local, accepted.number)?;
@@ -150,11 +155,11 @@ impl<'d, L: Naming, K: Clone + Ord, V: Clone + Eq, const S: usize> SharedIndex<'
         ensures inner { 0 < (own_of local.old).nesting → (born_of local.new ≡ born_of local.old) × (nest_in local.new ≡ nest_in local.old) }
         ensures same { IsSame local.old local.new }
     {
-        SharedSession::open(self.domain, &self.root, local, self.alloc, at_least)
+        SharedSession::open(self.domain, self.root(), local, self.alloc, at_least)
     }
 
     /// Makes the writes on the present list, as [`Book::commit`] does, if each read of the receipt still holds there. The share
-    /// counts it if it is accepted.
+    /// counts it if it is accepted. No commit has a number above the last one.
     pub fn commit<R: Wait>(
         &self,
         rt: &R,
@@ -168,6 +173,7 @@ impl<'d, L: Naming, K: Clone + Ord, V: Clone + Eq, const S: usize> SharedIndex<'
         requires equal_values { EqualsAreSame V.eq }
         ensures counted { OnOk result (share.new ≡ share.old + 1) }
         ensures uncounted { OnErr result (share.new ≡ share.old) }
+        ensures last { IfOk result (λ told. told.number ≤ L.last) }
         ensures back { IfErr result (λ back. back.writes.items ≡ writes.items) }
     {
         let mut book = self.book.lock(rt);
@@ -205,6 +211,7 @@ impl<'d, L: Naming, K: Clone + Ord, V: Clone + Eq, const S: usize> SharedIndex<'
         ensures all { IsErr result ↔ (length shares.items ≢ L.parts) }
         ensures rest { IfOk result (λ ended. IsUnengaged L.place ended.0) }
         ensures number { IfOk result (λ ended. ended.1 ≡ sum shares.items) }
+        ensures last { IfOk result (λ ended. ended.1 ≤ L.last) }
         ensures err { IfErr result (λ back. back.1 ≡ shares) }
     {
         if shares.len() != self.shares {
@@ -215,14 +222,14 @@ impl<'d, L: Naming, K: Clone + Ord, V: Clone + Eq, const S: usize> SharedIndex<'
             root,
             book,
             shares: _,
-            alloc: _,
+            alloc,
         } = self;
         let Some(mut all) = merged(shares) else {
             unreachable!();
         };
         let mut book = book.into_inner();
         let number = book.balance(&mut all);
-        let mut local = book.end(domain);
+        let mut local = book.end(domain, Vec::new(alloc));
         root.retire(domain, &mut local);
         Ok((local, number))
     }

@@ -9,8 +9,8 @@ use std::sync::ledger;
 
 /// A share of an index. Who has it commits, and it counts the accepted commits that were made with it.
 ///
-/// Contracts see that count. A share that is dropped is lost to the index, which then can't be closed any more.
-#[derive(Drop)]
+/// Contracts see that count. A share must be spent, by [`SharedIndex::close`](crate::SharedIndex::close) or
+/// [`Book::end`](crate::Book::end), with all others.
 pub struct Share<L: Naming> {
     count: u64,
     mark: ledger::Share<L>,
@@ -91,13 +91,22 @@ pub(crate) fn cut<L: Naming>(
 }
 
 /// Puts shares to others, in one mark.
-fn merge_all<L: Naming>(shares: Vec<Share<L>>, all: &mut ledger::Share<L>)
+fn merge_all<L: Naming>(mut shares: Vec<Share<L>>, all: &mut ledger::Share<L>)
     ensures parts { all.new.parts ≡ all.old.parts + length shares.items }
     ensures amount { all.new.amount ≡ all.old.amount + sum shares.items }
 {
-    for share in shares {
+    while let Some(share) = shares.pop() {
         share.merge_into(all);
     }
+    shares.destroy_empty();
+}
+
+/// Ends shares of a ledger that goes.
+pub(crate) fn end_all<L: Naming>(mut shares: Vec<Share<L>>) {
+    while let Some(share) = shares.pop() {
+        let Share { count: _, mark: _ } = share;
+    }
+    shares.destroy_empty();
 }
 
 /// Puts all shares together, in one mark. None where there is none.
@@ -108,6 +117,7 @@ pub(crate) fn merged<L: Naming>(shares: Vec<Share<L>>) -> Option<ledger::Share<L
 {
     let mut shares = shares;
     let Some(Share { count: _, mark }) = shares.pop() else {
+        shares.destroy_empty();
         return None;
     };
     let mut all = mark;

@@ -1,10 +1,11 @@
 //! Each call of an index of numbers, of its sessions and of its place, in one function: the proof of a call at these types is
 //! long.
 
-ghost use Rattle.std.specs.Prelude.{◌≡◌, ◌+◌, IfNone, IfSome, OnErr, OnOk};
+ghost use Rattle.std.specs.Prelude.{◌≡◌, ◌+◌, ◌≤◌, IfNone, IfOk, IfSome, OnErr, OnOk};
 ghost use Rattle.sdd_domain.specs.Layout.{IsSized};
 ghost use Rattle.sdd_domain.specs.Tokens.{place_of, home_of, own_of, nest_in, IsSame};
 ghost use Rattle.shared_index.specs.Invariant.{IsUnengaged};
+ghost use Rattle.shared_index_tests.specs.Scenes.{CanBegin};
 
 use crate::place::Item;
 use sdd_base::sizes::Sizes;
@@ -12,14 +13,20 @@ use sdd_domain::domain::Domain;
 use sdd_domain::local::Local;
 use serial_history::{Accepted, Answer, Audit, Query, Receipt, Refused};
 use shared_index::{Naming, Share, SharedIndex};
-use shared_sessions::SharedSession;
+use shared_sessions::{OpenRefused, SharedSession};
 use std::alloc::{AllocError, Global};
+use std::process::Abort;
 use std::sync::Wait;
+use std::sync::ledger::Blank;
 use version_views::Write;
 
-pub(crate) type Numbers<'d, L> = SharedIndex<'d, L, u64, u64, 2>;
+/// An index of numbers, with so many pairs in a segment at most.
+pub(crate) type Index<'d, L, const S: usize> = SharedIndex<'d, L, u64, u64, S>;
 
-pub(crate) type Session = SharedSession<u64, u64, 2>;
+/// The same with two.
+pub(crate) type Numbers<'d, L> = Index<'d, L, 2>;
+
+pub(crate) type Session<const S: usize> = SharedSession<u64, u64, S>;
 
 pub(crate) fn place(alloc: Global, sizes: Sizes) -> Result<Domain<Item>, AllocError>
     requires { IsSized sizes }
@@ -49,12 +56,47 @@ pub(crate) fn in_use(domain: &Domain<Item>) -> usize {
     domain.slots_in_use()
 }
 
-/// A session for at least this number, if it is there.
-pub(crate) fn opened<L: Naming>(
-    index: &Numbers<'_, L>,
+/// An empty index with one share, up to a last number.
+pub(crate) fn bounded<'d, L: Naming, R: Abort, const S: usize>(
+    rt: &R,
+    alloc: Global,
+    domain: &'d Domain<Item>,
+    local: Local<Item>,
+    blank: Blank,
+    last: u64,
+) -> (Index<'d, L, S>, Vec<Share<L>>)
+    requires begins { CanBegin L.place L.name L.parts 1 domain.now local blank }
+    requires last { last ≡ L.last }
+    requires size { (1 ≤ S) × (S ≤ 225) }
+{
+    match SharedIndex::with_last(alloc, domain, local, blank, 1, last) {
+        Ok(made) => made,
+        Err(_) => panic!(rt; "there is memory, a slot and a cell"),
+    }
+}
+
+/// A session for at least this number, or why there is none.
+pub(crate) fn tried<L: Naming, const S: usize>(
+    index: &Index<'_, L, S>,
     local: &mut Local<Item>,
     at_least: u64,
-) -> Option<Session>
+) -> Result<Session<S>, OpenRefused>
+    requires home { home_of local.old ≡ L.place }
+    requires closed { (own_of local.old).nesting ≡ 0 }
+    ensures nest { IfOk result (λ s. s.nest ≡ nest_in local.new) }
+    ensures open { OnOk result ((own_of local.new).nesting ≡ 1) }
+    ensures closed { OnErr result ((own_of local.new).nesting ≡ 0) }
+    ensures same { IsSame local.old local.new }
+{
+    index.open(local, at_least)
+}
+
+/// A session for at least this number, if it is there.
+pub(crate) fn opened<L: Naming, const S: usize>(
+    index: &Index<'_, L, S>,
+    local: &mut Local<Item>,
+    at_least: u64,
+) -> Option<Session<S>>
     requires home { home_of local.old ≡ L.place }
     requires closed { (own_of local.old).nesting ≡ 0 }
     ensures nest { IfSome result (λ s. s.nest ≡ nest_in local.new) }
@@ -62,15 +104,15 @@ pub(crate) fn opened<L: Naming>(
     ensures closed { IfNone result ((own_of local.new).nesting ≡ 0) }
     ensures same { IsSame local.old local.new }
 {
-    match index.open(local, at_least) {
+    match tried(index, local, at_least) {
         Ok(session) => Some(session),
         Err(_) => None,
     }
 }
 
 /// Asks and records a query.
-pub(crate) fn asked(
-    session: &mut Session,
+pub(crate) fn asked<const S: usize>(
+    session: &mut Session<S>,
     query: Query<u64>,
 ) -> Result<Answer<u64, u64>, AllocError>
     ensures { session.new.nest ≡ session.old.nest }
@@ -79,9 +121,9 @@ pub(crate) fn asked(
 }
 
 /// Closes a session: its receipt.
-pub(crate) fn ended<L: Naming>(
-    session: Session,
-    index: &Numbers<'_, L>,
+pub(crate) fn ended<L: Naming, const S: usize>(
+    session: Session<S>,
+    index: &Index<'_, L, S>,
     local: &mut Local<Item>,
 ) -> Receipt<u64, u64>
     requires home { home_of local.old ≡ L.place }
@@ -94,9 +136,9 @@ pub(crate) fn ended<L: Naming>(
 }
 
 /// Commits writes that rest on a receipt.
-pub(crate) fn commit<L: Naming, R: Wait>(
+pub(crate) fn commit<L: Naming, R: Wait, const S: usize>(
     rt: &R,
-    index: &Numbers<'_, L>,
+    index: &Index<'_, L, S>,
     share: &mut Share<L>,
     receipt: &Receipt<u64, u64>,
     writes: Vec<Write<u64, u64>>,
@@ -108,25 +150,25 @@ pub(crate) fn commit<L: Naming, R: Wait>(
 }
 
 /// Audits a receipt.
-pub(crate) fn audit<L: Naming, R: Wait>(
+pub(crate) fn audit<L: Naming, R: Wait, const S: usize>(
     rt: &R,
-    index: &Numbers<'_, L>,
+    index: &Index<'_, L, S>,
     receipt: &Receipt<u64, u64>,
 ) -> Result<Audit, AllocError> {
     index.audit(rt, receipt)
 }
 
 /// Reclaims what nobody reads.
-pub(crate) fn reclaim<L: Naming, R: Wait>(rt: &R, index: &Numbers<'_, L>) {
+pub(crate) fn reclaim<L: Naming, R: Wait, const S: usize>(rt: &R, index: &Index<'_, L, S>) {
     index.reclaim(rt);
 }
 
 /// Ends an index with these shares: its number, or both back where a share is missing.
-pub(crate) fn close<'d, L: Naming>(
+pub(crate) fn close<'d, L: Naming, const S: usize>(
     domain: &Domain<Item>,
-    index: Numbers<'d, L>,
+    index: Index<'d, L, S>,
     shares: Vec<Share<L>>,
-) -> Result<u64, (Numbers<'d, L>, Vec<Share<L>>)>
+) -> Result<u64, (Index<'d, L, S>, Vec<Share<L>>)>
     requires { place_of domain.now ≡ L.place }
 {
     let (local, number) = index.close(shares)?;

@@ -1,5 +1,6 @@
 //! The calls of an index that threads share, each under its lock.
 
+ghost use Rattle.std.specs.Prelude.{◌≡◌};
 ghost use Rattle.shared_index_tests.specs.Scenes.{CanBegin};
 
 use crate::calls::{audit, close, commit, in_use, place, reclaim};
@@ -28,7 +29,8 @@ fn missing_share<L: Naming, R: Wait + Abort>(
     local: Local<Item>,
     blank: Blank,
 ) -> Missing
-    requires { CanBegin L.place L.name L.parts 2 domain.now local blank }
+    requires begins { CanBegin L.place L.name L.parts 2 domain.now local blank }
+    requires last { L.last ≡ 18446744073709551615 }
 {
     let (index, mut shares) = begun::<L, R>(rt, alloc, domain, local, blank, 2);
     let all = shares.len();
@@ -79,7 +81,8 @@ fn told_under_the_lock<L: Naming, R: Wait + Abort>(
     local: Local<Item>,
     blank: Blank,
 ) -> Locked
-    requires { CanBegin L.place L.name L.parts 1 domain.now local blank }
+    requires begins { CanBegin L.place L.name L.parts 1 domain.now local blank }
+    requires last { L.last ≡ 18446744073709551615 }
 {
     let (index, mut shares) = begun::<L, R>(rt, alloc, domain, local, blank, 1);
     let mut share = taken(rt, &mut shares);

@@ -58,79 +58,69 @@ pub(crate) struct Crowd {
     pub(crate) list: &'static [(u64, u64)],
 }
 
-/// A thread's task, and the share that it commits with.
-type Work<L> = (Task, Option<Share<L>>);
-
-/// The share that a thread is done with, and what it is told; none where it was refused.
-type Done<L> = (Option<Share<L>>, Option<u64>);
-
-/// The count of a share, which is back.
-fn counted<L: Naming>(share: Option<Share<L>>) -> Done<L> {
-    match share {
-        Some(share) => {
-            let count = share.count();
-            (Some(share), Some(count))
-        }
-        None => (None, None),
-    }
+/// The count of a share, if what it was to do was done.
+fn counted<L: Naming>(is_done: bool, share: &Share<L>) -> Option<u64> {
+    if is_done { Some(share.count()) } else { None }
 }
 
 /// What is told of key 1 that was counted up.
-fn counted_up<L: Naming>(ended: Option<(Share<L>, u64)>) -> Done<L> {
-    match ended {
-        Some((share, wrote)) => {
-            let is_right = share.count() == wrote;
-            (Some(share), Some(u64::from(is_right)))
-        }
-        None => (None, None),
-    }
+fn counted_up<L: Naming>(wrote: Option<u64>, share: &Share<L>) -> Option<u64> {
+    Some(u64::from(share.count() == wrote?))
 }
 
 /// What is told of commits that were read back.
-fn found_back<L: Naming>(ended: Option<(Share<L>, u32)>) -> Done<L> {
-    match ended {
-        Some((share, right)) => {
-            let told = if share.count() == 50 {
-                Some(u64::from(right))
-            } else {
-                None
-            };
-            (Some(share), told)
-        }
-        None => (None, None),
+fn found_back<L: Naming>(right: Option<u32>, share: &Share<L>) -> Option<u64> {
+    if share.count() == 50 {
+        Some(u64::from(right?))
+    } else {
+        None
     }
 }
 
-/// Does it with a share.
+/// Does it with a share: what is told.
 fn committed<L: Naming, R: Wait + Abort>(
     rt: &R,
     alloc: Global,
     index: &Numbers<'_, L>,
     task: Task,
-    share: Share<L>,
-) -> Done<L> {
+    share: &mut Share<L>,
+) -> Option<u64> {
     match task {
-        Task::Raises(key, last) => counted(own_key(rt, alloc, index, share, key, last)),
-        Task::CountsUp => counted_up(same_key(rt, alloc, index, share)),
-        Task::Writes => counted(writings(rt, alloc, index, share)),
-        Task::ReadsBack(key) => found_back(read_often(rt, alloc, index, share, key)),
-        Task::Reads | Task::Sums | Task::Rests => (Some(share), None),
+        Task::Raises(key, last) => {
+            let is_done = own_key(rt, alloc, index, share, key, last);
+            counted(is_done, share)
+        }
+        Task::CountsUp => {
+            let wrote = same_key(rt, alloc, index, share);
+            counted_up(wrote, share)
+        }
+        Task::Writes => {
+            let is_done = writings(rt, alloc, index, share);
+            counted(is_done, share)
+        }
+        Task::ReadsBack(key) => {
+            let right = read_often(rt, alloc, index, share, key);
+            found_back(right, share)
+        }
+        Task::Reads | Task::Sums | Task::Rests => None,
     }
 }
 
-/// Does it.
+/// Does it, with the share if it commits: what is told.
 fn done<L: Naming, R: Wait + Abort>(
     rt: &R,
     alloc: Global,
     index: &Numbers<'_, L>,
-    work: Work<L>,
-) -> Done<L> {
-    let (task, share) = work;
-    match (share, task) {
-        (Some(share), _) => committed(rt, alloc, index, task, share),
-        (None, Task::Reads) => (None, readings(rt, index).map(u64::from)),
-        (None, Task::Sums) => (None, sums(rt, index).map(u64::from)),
-        (None, _) => (None, None),
+    task: Task,
+    share: &mut Option<Share<L>>,
+) -> Option<u64> {
+    if let Some(share) = share {
+        return committed(rt, alloc, index, task, share);
+    }
+    match task {
+        Task::Reads => readings(rt, index).map(u64::from),
+        Task::Sums => sums(rt, index).map(u64::from),
+        _ => None,
     }
 }
 
@@ -139,14 +129,15 @@ fn two<L: Naming + Send + Sync, R: Threads + Wait + Abort + Sync>(
     rt: &R,
     alloc: Global,
     index: &Numbers<'_, L>,
-    one: Work<L>,
-    other: Work<L>,
-) -> (Done<L>, Done<L>) {
+    tasks: (Task, Task),
+    first: &mut Option<Share<L>>,
+    second: &mut Option<Share<L>>,
+) -> (Option<u64>, Option<u64>) {
     let (one, other) = join_over(
         rt,
         index,
-        |index| done(rt, alloc, index, one),
-        |index| done(rt, alloc, index, other),
+        |index| done(rt, alloc, index, tasks.0, first),
+        |index| done(rt, alloc, index, tasks.1, second),
     );
     (one, other)
 }
@@ -156,35 +147,34 @@ fn four<L: Naming + Send + Sync, R: Threads + Wait + Abort + Sync>(
     rt: &R,
     alloc: Global,
     index: &Numbers<'_, L>,
-    some: (Work<L>, Work<L>),
-    others: (Work<L>, Work<L>),
-) -> ((Done<L>, Done<L>), (Done<L>, Done<L>)) {
-    let (first, second) = some;
-    let (third, fourth) = others;
+    tasks: ((Task, Task), (Task, Task)),
+    first: &mut Option<Share<L>>,
+    second: &mut Option<Share<L>>,
+    third: &mut Option<Share<L>>,
+    fourth: &mut Option<Share<L>>,
+) -> ((Option<u64>, Option<u64>), (Option<u64>, Option<u64>)) {
     let (some, others) = join_over(
         rt,
         index,
-        |index| two(rt, alloc, index, first, second),
-        |index| two(rt, alloc, index, third, fourth),
+        |index| two(rt, alloc, index, tasks.0, first, second),
+        |index| two(rt, alloc, index, tasks.1, third, fourth),
     );
     (some, others)
 }
 
-/// The work of a task, with a share if it commits.
-fn work<L: Naming>(task: Task, shares: &mut Vec<Share<L>>) -> Work<L> {
+/// A share for a task, if it commits.
+fn share_for<L: Naming>(task: Task, shares: &mut Vec<Share<L>>) -> Option<Share<L>> {
     match task {
-        Task::Rests | Task::Reads | Task::Sums => (task, None),
-        _ => (task, shares.pop()),
+        Task::Rests | Task::Reads | Task::Sums => None,
+        _ => shares.pop(),
     }
 }
 
-/// What a thread is told, whose share is put back.
-fn told<L: Naming, R: Abort>(rt: &R, shares: &mut Vec<Share<L>>, done: Done<L>) -> Option<u64> {
-    let (share, told) = done;
+/// Puts a share back, if there is one.
+fn put_back<L: Naming, R: Abort>(rt: &R, shares: &mut Vec<Share<L>>, share: Option<Share<L>>) {
     if let Some(share) = share {
         put(rt, shares, share);
     }
-    told
 }
 
 /// What six threads are told that do these.
@@ -195,23 +185,36 @@ fn six<L: Naming + Send + Sync, R: Threads + Wait + Abort + Sync>(
     shares: &mut Vec<Share<L>>,
     tasks: [Task; 6],
 ) -> [Option<u64>; 6] {
-    let some = (work(tasks[0], shares), work(tasks[1], shares));
-    let others = (work(tasks[2], shares), work(tasks[3], shares));
-    let (fifth, sixth) = (work(tasks[4], shares), work(tasks[5], shares));
+    let mut first = share_for(tasks[0], shares);
+    let mut second = share_for(tasks[1], shares);
+    let mut third = share_for(tasks[2], shares);
+    let mut fourth = share_for(tasks[3], shares);
+    let mut fifth = share_for(tasks[4], shares);
+    let mut sixth = share_for(tasks[5], shares);
+    let four_tasks = ((tasks[0], tasks[1]), (tasks[2], tasks[3]));
+    let two_tasks = (tasks[4], tasks[5]);
     let (((a, b), (c, d)), (e, f)) = join_over(
         rt,
         index,
-        |index| four(rt, alloc, index, some, others),
-        |index| two(rt, alloc, index, fifth, sixth),
+        |index| four(
+            rt,
+            alloc,
+            index,
+            four_tasks,
+            &mut first,
+            &mut second,
+            &mut third,
+            &mut fourth,
+        ),
+        |index| two(rt, alloc, index, two_tasks, &mut fifth, &mut sixth),
     );
-    [
-        told(rt, shares, a),
-        told(rt, shares, b),
-        told(rt, shares, c),
-        told(rt, shares, d),
-        told(rt, shares, e),
-        told(rt, shares, f),
-    ]
+    put_back(rt, shares, first);
+    put_back(rt, shares, second);
+    put_back(rt, shares, third);
+    put_back(rt, shares, fourth);
+    put_back(rt, shares, fifth);
+    put_back(rt, shares, sixth);
+    [a, b, c, d, e, f]
 }
 
 /// Whether each of these pairs is in the list of this number, by the audit of a receipt of it.
@@ -251,6 +254,7 @@ fn crowded<L: Naming + Send + Sync, R: Threads + Wait + Abort + Sync>(
     crowd: &Crowd,
 ) -> Found
     requires begins { CanBegin L.place L.name L.parts shares domain.now local blank }
+    requires last { L.last ≡ 18446744073709551615 }
     requires some { 0 < shares }
 {
     let (index, mut shares) = begun::<L, R>(rt, alloc, domain, local, blank, shares);

@@ -10,9 +10,13 @@ mod index;
 #[cfg(test)]
 mod joined;
 #[cfg(test)]
+mod large;
+#[cfg(test)]
 mod own_commits;
 #[cfg(test)]
 mod place;
+#[cfg(test)]
+mod receipts;
 #[cfg(test)]
 mod sharing;
 #[cfg(test)]

@@ -3,13 +3,16 @@
 ghost use Rattle.std.specs.Prelude.{◌≡◌};
 ghost use Rattle.sdd_domain.specs.Tokens.{home_of, own_of, IsSame};
 
-use crate::calls::{Numbers, asked, audit, commit, ended, leave, opened, reclaim, registered};
+use crate::calls::{
+    Numbers, asked, audit, commit, ended, leave, opened, reclaim, registered, tried,
+};
 use crate::joined::Task::{ReadsBack, Rests};
 use crate::joined::{Crowd, first_wrong};
 use crate::place::Item;
 use sdd_domain::local::Local;
 use serial_history::{Accepted, Answer, Audit, Query, Receipt};
 use shared_index::{Naming, Share};
+use shared_sessions::OpenRefused;
 use std::alloc::Global;
 use std::sync::Wait;
 use version_views::Write;
@@ -55,32 +58,51 @@ fn read_back<L: Naming>(
     }
 }
 
+/// Whether a session for the greatest number is refused, and told one that is at least this.
+fn is_told_earlier<L: Naming>(index: &Numbers<'_, L>, local: &mut Local<Item>, number: u64) -> bool
+    requires home { home_of local.old ≡ L.place }
+    requires closed { (own_of local.old).nesting ≡ 0 }
+    ensures same { IsSame local.old local.new }
+    ensures closed { (own_of local.new).nesting ≡ 0 }
+{
+    match tried(index, local, u64::MAX) {
+        Ok(session) => {
+            let _receipt = ended(session, index, local);
+            false
+        }
+        Err(refused) => match refused {
+            OpenRefused::Earlier(present) => number <= present,
+            _ => false,
+        },
+    }
+}
+
 /// Fifty commits of a key that nobody else writes, each read back in a session of a participant of its own, for at least the number
-/// that the commit was told: the share, and how many were found, with a receipt that is right by an audit. None if no participant
-/// was free.
+/// that the commit was told: how many were found, with a receipt that is right by an audit, and whoever asks for the greatest number
+/// told one that isn't below that of the commit. None if no participant was free.
 pub(crate) fn read_often<L: Naming, R: Wait>(
     rt: &R,
     alloc: Global,
     index: &Numbers<'_, L>,
-    share: Share<L>,
+    share: &mut Share<L>,
     key: u64,
-) -> Option<(Share<L>, u32)> {
+) -> Option<u32> {
     let domain = index.domain();
     let mut local = registered(domain)?;
-    let mut share = share;
     let mut right: u32 = 0;
     for value in 1..=50u64 {
         // the last number stands for a commit that was refused: no session is opened for it
-        let number = raised(rt, alloc, index, &mut share, key, value).unwrap_or(u64::MAX);
+        let number = raised(rt, alloc, index, share, key, value).unwrap_or(u64::MAX);
+        let is_later = is_told_earlier(index, &mut local, number);
         if let Some(receipt) = read_back(index, &mut local, number, key, value) {
-            if audit(rt, index, &receipt) == Ok(Audit::Yes) {
+            if is_later && audit(rt, index, &receipt) == Ok(Audit::Yes) {
                 right = right.saturating_add(1);
             }
         }
         reclaim(rt, index);
     }
     leave(domain, local);
-    Some((share, right))
+    Some(right)
 }
 
 /// A session for the number of a commit finds what it wrote.

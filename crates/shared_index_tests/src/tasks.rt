@@ -5,7 +5,7 @@ ghost use Rattle.sdd_domain.specs.Tokens.{place_of, home_of, own_of, IsSame};
 ghost use Rattle.shared_index_tests.specs.Scenes.{CanBegin};
 
 use crate::calls::{
-    Numbers, asked, audit, close, commit, ended, leave, opened, reclaim, registered,
+    Index, Numbers, asked, audit, close, commit, ended, leave, opened, reclaim, registered,
 };
 use crate::place::{Item, ROOM, one, two};
 use sdd_base::sizes::Sizes;
@@ -44,6 +44,7 @@ pub(crate) fn begun<'d, L: Naming, R: Abort>(
     shares: usize,
 ) -> (Numbers<'d, L>, Vec<Share<L>>)
     requires begins { CanBegin L.place L.name L.parts shares domain.now local blank }
+    requires last { L.last ≡ 18446744073709551615 }
     requires some { 0 < shares }
 {
     match SharedIndex::new(alloc, domain, local, blank, shares) {
@@ -62,16 +63,17 @@ pub(crate) fn taken<L: Naming, R: Abort>(rt: &R, shares: &mut Vec<Share<L>>) -> 
 
 /// Puts a share back.
 pub(crate) fn put<L: Naming, R: Abort>(rt: &R, shares: &mut Vec<Share<L>>, share: Share<L>) {
-    if shares.push(share).is_err() {
-        panic!(rt; "memory is there");
+    match shares.push(share) {
+        Ok(()) => {}
+        Err(_) => panic!(rt; "{ROOM}"),
     }
 }
 
 /// Ends an index, with all its shares: its number.
-pub(crate) fn closed<L: Naming, R: Abort>(
+pub(crate) fn closed<L: Naming, R: Abort, const S: usize>(
     rt: &R,
     domain: &Domain<Item>,
-    index: Numbers<'_, L>,
+    index: Index<'_, L, S>,
     shares: Vec<Share<L>>,
 ) -> u64
     requires { place_of domain.now ≡ L.place }
@@ -111,25 +113,24 @@ pub(crate) fn swap<L: Naming, R: Wait>(
     }
 }
 
-/// So many upserts of one key, which nobody else writes, each resting on the one before: the share, if all were accepted.
+/// So many upserts of one key, which nobody else writes, each resting on the one before: whether all were accepted.
 pub(crate) fn own_key<L: Naming, R: Wait>(
     rt: &R,
     alloc: Global,
     index: &Numbers<'_, L>,
-    share: Share<L>,
+    share: &mut Share<L>,
     key: u64,
     last: u64,
-) -> Option<Share<L>> {
-    let mut share = share;
+) -> bool {
     let mut old = None;
     for new in 1..=last {
-        if swap(rt, alloc, index, &mut share, key, old, new) != Some(true) {
-            return None;
+        if swap(rt, alloc, index, share, key, old, new) != Some(true) {
+            return false;
         }
         old = Some(new);
         reclaim(rt, index);
     }
-    Some(share)
+    true
 }
 
 /// One session for at least this number, which records two keys: its receipt, if both had the same value.
@@ -172,23 +173,22 @@ pub(crate) fn readings<L: Naming, R: Wait>(rt: &R, index: &Numbers<'_, L>) -> Op
     Some(right)
 }
 
-/// A hundred commits that give two keys the same value: the share, if all were accepted.
+/// A hundred commits that give two keys the same value: whether all were accepted.
 pub(crate) fn writings<L: Naming, R: Wait + Abort>(
     rt: &R,
     alloc: Global,
     index: &Numbers<'_, L>,
-    share: Share<L>,
-) -> Option<Share<L>> {
-    let mut share = share;
+    share: &mut Share<L>,
+) -> bool {
     let blank = Receipt::blank(alloc);
     for value in 1..=100u64 {
         let writes = two(rt, alloc, Write::Upsert(1, value), Write::Upsert(2, value));
-        if commit(rt, index, &mut share, &blank, writes).is_err() {
-            return None;
+        if commit(rt, index, share, &blank, writes).is_err() {
+            return false;
         }
         reclaim(rt, index);
     }
-    Some(share)
+    true
 }
 
 /// Commits writes that rest on nothing. The share counts the commit, if it was accepted.

@@ -8,23 +8,23 @@ use shared_index::{Naming, Share};
 use std::alloc::Global;
 use std::sync::Wait;
 
-/// Counts a key up to a hundred beside others who do: each number is written by one of them. The share, and how many it wrote.
+/// Counts a key up to a hundred beside others who do: each number is written by one of them. How many this one wrote; none
+/// where a commit was refused for another reason.
 pub(crate) fn same_key<L: Naming, R: Wait>(
     rt: &R,
     alloc: Global,
     index: &Numbers<'_, L>,
-    share: Share<L>,
-) -> Option<(Share<L>, u64)> {
-    let mut share = share;
+    share: &mut Share<L>,
+) -> Option<u64> {
     let mut wrote = 0;
     for new in 1..=100u64 {
         let old = if new == 1 { None } else { Some(new - 1) };
-        if swap(rt, alloc, index, &mut share, 1, old, new)? {
+        if swap(rt, alloc, index, share, 1, old, new)? {
             wrote = u64::saturating_add(wrote, 1);
         }
         reclaim(rt, index);
     }
-    Some((share, wrote))
+    Some(wrote)
 }
 
 /// The counts of two threads with a key each sum to the number.

@@ -19,39 +19,40 @@ use shared_sessions::SharedWalk;
 use std::alloc::{AllocError, Global};
 use std::marker::Brand;
 use std::process::Abort;
+use std::sync::Wait;
+use std::sync::atomic::{AtomicBool, Ordering};
 use std::sync::ledger::Blank;
-use std::sync::{Condvar, Mutex, MutexGuard, Wait};
-use std::thread::Threads;
+use std::thread::{self, Threads};
 use version_views::Write;
 
-/// The first commit: ten pairs, which take five segments of two at least.
-fn ten<R: Abort>(rt: &R, alloc: Global) -> Vec<Write<u64, u64>> {
+/// The first list of a session that is kept over a thousand commits: it takes five segments of two pairs at least.
+const TEN: [(u64, u64); 10] = [
+    (1, 10),
+    (2, 20),
+    (3, 30),
+    (4, 40),
+    (5, 50),
+    (6, 60),
+    (7, 70),
+    (8, 80),
+    (9, 90),
+    (10, 100),
+];
+
+/// That of a session whose walk waits.
+const THREE: [(u64, u64); 3] = [(1, 10), (2, 20), (3, 30)];
+
+/// What that has behind its first pair.
+const TWO: [(u64, u64); 2] = [(2, 20), (3, 30)];
+
+/// Puts these pairs in.
+fn inserts<R: Abort>(rt: &R, alloc: Global, pairs: &[(u64, u64)]) -> Vec<Write<u64, u64>> {
     let mut writes = Vec::new(alloc);
-    for key in 1..=10u64 {
-        writes.push(Write::Insert(key, key * 10)).expect(rt, ROOM);
+    for (key, value) in pairs {
+        writes.push(Write::Insert(*key, *value)).expect(rt, ROOM);
     }
     writes
 }
-
-/// The list that the first commit leaves.
-fn first_list<R: Abort>(rt: &R, alloc: Global) -> Answer<u64, u64> {
-    let pairs = [
-        (1, 10),
-        (2, 20),
-        (3, 30),
-        (4, 40),
-        (5, 50),
-        (6, 60),
-        (7, 70),
-        (8, 80),
-        (9, 90),
-        (10, 100),
-    ];
-    range(rt, alloc, pairs)
-}
-
-/// What the first list has behind the middle.
-const HIGH: [(u64, u64); 5] = [(6, 60), (7, 70), (8, 80), (9, 90), (10, 100)];
 
 /// What a walk has before it. None where memory is refused.
 fn gathered(alloc: Global, walk: SharedWalk<'_, u64, u64>) -> Option<Answer<u64, u64>> {
@@ -64,68 +65,73 @@ fn gathered(alloc: Global, walk: SharedWalk<'_, u64, u64>) -> Option<Answer<u64,
     Some(Answer::Range(Seq::from_vec(pairs)))
 }
 
-/// Walks past the first five pairs: whether they are those of the first list.
-fn walk_to_the_middle(walk: &mut SharedWalk<'_, u64, u64>) -> bool {
-    let mut right = true;
-    for key in 1..=5u64 {
-        right = match walk.next() {
-            Some((found, value)) => *found == key && *value == key * 10 && right,
-            None => false,
-        };
+/// Takes the first pair of a walk: whether it is that of the first list.
+fn takes_the_first(walk: &mut SharedWalk<'_, u64, u64>) -> bool {
+    match walk.next() {
+        Some((key, value)) => *key == 1 && *value == 10,
+        None => false,
     }
-    right
 }
 
-/// Removes and changes pairs on both sides of the middle, and says so; then goes on to commit. It says so also where the commit is
-/// refused, so that nobody waits forever: then the share doesn't count it.
-fn change_both_sides<L: Naming, R: Wait + Abort>(
+/// Changes the pair that the walk has taken and those that it is yet to take, and says so; then goes on to commit. It says so
+/// also where the commit is refused: then the share doesn't count it.
+fn change_all<L: Naming, R: Wait + Abort>(
     rt: &R,
     alloc: Global,
     index: &Numbers<'_, L>,
-    share: Share<L>,
-    done: &Mutex<bool>,
-    changed: &Condvar,
-) -> Share<L> {
-    let mut share = share;
+    share: &mut Share<L>,
+    answered: &AtomicBool,
+) {
     let writes = vec![in alloc;
+        Write::Upsert(1, 11),
         Write::Remove(2),
-        Write::Upsert(4, 41),
-        Write::Remove(7),
-        Write::Upsert(9, 91),
+        Write::Upsert(3, 31),
         Write::Insert(11, 110),
     ]
     .expect(rt, ROOM);
-    write(rt, alloc, index, &mut share, writes);
+    write(rt, alloc, index, share, writes);
     reclaim(rt, index);
-    *done.lock(rt) = true;
-    changed.notify_all();
-    write_often(rt, alloc, index, &mut share, 100);
-    share
+    answered.store(true, Ordering::SeqCst);
+    write_often(rt, alloc, index, share, 100);
 }
 
-/// Waits until a commit is done: what the walk has before it then.
-fn walk_on<R: Wait>(
-    rt: &R,
+/// How often a walk looks whether another thread's commit has answered, at most.
+const TURNS: u32 = 10_000_000;
+
+/// Waits until another thread's commit has answered. False if it never did.
+fn has_answered(answered: &AtomicBool) -> bool {
+    for _turn in 0..TURNS {
+        if answered.load(Ordering::SeqCst) {
+            return true;
+        }
+        thread::yield_now();
+    }
+    false
+}
+
+/// Waits until a commit has answered: what the walk has before it then. None if it never did.
+fn walk_on(
     alloc: Global,
     walk: SharedWalk<'_, u64, u64>,
-    done: &Mutex<bool>,
-    changed: &Condvar,
+    answered: &AtomicBool,
 ) -> Option<Answer<u64, u64>> {
-    let seen = changed.wait_while(rt, done.lock(rt), |done| !*done);
-    MutexGuard::unlock(seen);
-    gathered(alloc, walk)
+    if has_answered(answered) {
+        gathered(alloc, walk)
+    } else {
+        None
+    }
 }
 
-/// A session of the first list walks to the middle, waits there until another thread has changed pairs on both sides, and
-/// walks on while the other thread goes on to commit: its receipt, the share of the other thread, and whether the session read
-/// the first list by the walk, on both sides of the middle, and by a query.
+/// A session of the first list walks past one pair, waits there until another thread's commit has changed all of them and
+/// answered, and walks on while the other thread goes on to commit: its receipt, and whether the session read the first list by
+/// the walk, before it waited and behind that, and by a query.
 fn walk_and_wait<L: Naming + Send + Sync, R: Threads + Wait + Abort + Sync>(
     rt: &R,
     alloc: Global,
     index: &Numbers<'_, L>,
     local: &mut Local<Item>,
-    share: Share<L>,
-) -> (Receipt<u64, u64>, Share<L>, bool)
+    share: &mut Share<L>,
+) -> (Receipt<u64, u64>, bool)
     requires home { home_of local.old ≡ L.place }
     requires closed { (own_of local.old).nesting ≡ 0 }
     ensures same { IsSame local.old local.new }
@@ -134,20 +140,19 @@ fn walk_and_wait<L: Naming + Send + Sync, R: Threads + Wait + Abort + Sync>(
     let Some(mut session) = opened(index, local, 1) else {
         panic!(rt; "the first commit is there");
     };
-    let done = Mutex::new(false);
-    let changed = Condvar::new();
+    let answered = AtomicBool::new(false);
     let mut walk = session.iter();
-    let low = walk_to_the_middle(&mut walk);
-    let (share, rest) = join_over(
+    let first = takes_the_first(&mut walk);
+    let ((), rest) = join_over(
         rt,
         index,
-        |index| change_both_sides(rt, alloc, index, share, &done, &changed),
-        |_index| walk_on(rt, alloc, walk, &done, &changed),
+        |index| change_all(rt, alloc, index, share, &answered),
+        |_index| walk_on(alloc, walk, &answered),
     );
     let all = asked(&mut session, all());
     let receipt = ended(session, index, local);
-    let high = rest == Some(range(rt, alloc, HIGH)) && all == Ok(first_list(rt, alloc));
-    (receipt, share, low && high)
+    let others = rest == Some(range(rt, alloc, TWO)) && all == Ok(range(rt, alloc, THREE));
+    (receipt, first && others)
 }
 
 /// A session of the first list, open over a thousand commits: its receipt, of a read before them and one after them, and
@@ -157,8 +162,8 @@ fn kept_open<L: Naming, R: Wait + Abort>(
     alloc: Global,
     index: &Numbers<'_, L>,
     local: &mut Local<Item>,
-    share: Share<L>,
-) -> (Receipt<u64, u64>, Share<L>, bool)
+    share: &mut Share<L>,
+) -> (Receipt<u64, u64>, bool)
     requires home { home_of local.old ≡ L.place }
     requires closed { (own_of local.old).nesting ≡ 0 }
     ensures same { IsSame local.old local.new }
@@ -167,21 +172,20 @@ fn kept_open<L: Naming, R: Wait + Abort>(
     let Some(mut session) = opened(index, local, 1) else {
         panic!(rt; "the first commit is there");
     };
-    let mut share = share;
     let before = asked(&mut session, all());
-    write_often(rt, alloc, index, &mut share, 1000);
+    write_often(rt, alloc, index, share, 1000);
     let walked = gathered(alloc, session.iter());
     let after = asked(&mut session, all());
     let receipt = ended(session, index, local);
-    let first = first_list(rt, alloc);
+    let first = range(rt, alloc, TEN);
     let read = before.as_ref() == Ok(&first) && after.as_ref() == Ok(&first);
-    (receipt, share, read && walked == Some(first))
+    (receipt, read && walked == Some(first))
 }
 
 /// A session of the first list, kept open while others commit.
 #[derive(Clone, Copy)]
 enum Kept {
-    /// A hundred and one commits, of which the first one changes both sides of where its walk waits.
+    /// A hundred and one commits, of which the first one changes each pair while its walk waits behind the first.
     Waits,
     /// A thousand.
     Reads,
@@ -208,15 +212,21 @@ fn kept_on<L: Naming + Send + Sync, R: Threads + Wait + Abort + Sync>(
     how: Kept,
     last: u64,
 ) -> Found
-    requires { CanBegin L.place L.name L.parts 1 domain.now local blank }
+    requires begins { CanBegin L.place L.name L.parts 1 domain.now local blank }
+    requires last { L.last ≡ 18446744073709551615 }
 {
     let (index, mut shares) = begun::<L, R>(rt, alloc, domain, local, blank, 1);
     let mut share = taken(rt, &mut shares);
     let mut reader = member(rt, domain);
-    write(rt, alloc, &index, &mut share, ten(rt, alloc));
-    let (receipt, share, is_first) = match how {
-        Kept::Waits => walk_and_wait(rt, alloc, &index, &mut reader, share),
-        Kept::Reads => kept_open(rt, alloc, &index, &mut reader, share),
+    let (receipt, is_first) = match how {
+        Kept::Waits => {
+            write(rt, alloc, &index, &mut share, inserts(rt, alloc, &THREE));
+            walk_and_wait(rt, alloc, &index, &mut reader, &mut share)
+        }
+        Kept::Reads => {
+            write(rt, alloc, &index, &mut share, inserts(rt, alloc, &TEN));
+            kept_open(rt, alloc, &index, &mut reader, &mut share)
+        }
     };
     let audit = audit(rt, &index, &receipt);
     let list = listed(rt, &index, &mut reader, last);
@@ -243,7 +253,7 @@ fn in_a_place<R: Threads + Wait + Abort + Sync>(
     found
 }
 
-/// Each key of the first list was raised again, last by the commits 93 to 102, which wrote 90 to 99.
+/// Ten keys were raised in turn, last by the commits 93 to 102, which wrote 90 to 99.
 const AFTER_THE_WALK: [(u64, u64); 11] = [
     (1, 90),
     (2, 91),
@@ -259,8 +269,8 @@ const AFTER_THE_WALK: [(u64, u64); 11] = [
 ];
 
 #[test]
-fn a_walk_goes_on_in_its_list_after_commits_on_both_sides(rt: HostRuntime) {
-    // 1 slot for the empty version, 21 for the first commit, 11 for the second, and 3 for each other one
+fn a_walk_that_waits_for_a_commit_goes_on_in_its_list(rt: HostRuntime) {
+    // 1 slot for the empty version, 7 for the first commit, 9 for the second, and 3 for each other one
     let found = in_a_place(&rt, rt.alloc(), 512, Kept::Waits, 102);
     let (is_first, read, audit, list, count, number) = found;
     assert!(rt; list == range(&rt, rt.alloc(), AFTER_THE_WALK));

@@ -12,7 +12,7 @@ use sdd_domain::domain::Domain;
 use sdd_domain::local::Local;
 use sdd_domain::refusal::RegisterRefused;
 use serial_history::{Answer, Query, Receipt};
-use shared_sessions::OpenRefused;
+use shared_sessions::{OpenRefused, Root};
 use std::alloc::{AllocError, Global};
 
 pub fn made(alloc: Global, sizes: Sizes) -> Result<Domain<Item>, AllocError>
@@ -73,7 +73,7 @@ pub fn opened(
     ensures inner { 0 < (own_of local.old).nesting → nest_in local.new ≡ nest_in local.old }
     ensures same { IsSame local.old local.new }
 {
-    Twos::open(domain, cell, local, alloc, at_least)
+    Twos::open(domain, Root::new(cell), local, alloc, at_least)
 }
 
 /// Closes a session: its receipt.

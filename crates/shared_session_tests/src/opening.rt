@@ -11,7 +11,7 @@ use sdd_domain::atomic_shared::AtomicShared;
 use sdd_domain::domain::Domain;
 use sdd_domain::guard::Guard;
 use sdd_domain::local::Local;
-use shared_sessions::{OpenRefused, SharedSession};
+use shared_sessions::{OpenRefused, Root, SharedSession};
 use std::alloc::Global;
 use std::process::Abort;
 
@@ -29,7 +29,8 @@ fn number_of<const S: usize>(
     ensures same { IsSame local.old local.new }
     ensures closed { (own_of local.new).nesting ≡ 0 }
 {
-    let session = SharedSession::<u64, u64, S>::open(domain, cell, local, alloc, at_least)?;
+    let root = Root::new(cell);
+    let session = SharedSession::<u64, u64, S>::open(domain, root, local, alloc, at_least)?;
     let number = session.number();
     let receipt = session.close(domain, local);
     if receipt.number == number && receipt.reads.as_slice().is_empty() {

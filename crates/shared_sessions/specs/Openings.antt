@@ -1,10 +1,16 @@
--- why no session is opened
+-- where sessions are opened, and why none is
 use Rattle.std.specs.Prelude.{◌≡◌, ℕ, ◌<◌, Option}
+use Rattle.sdd_domain.specs.Cells.{cell_number}
 use Rattle.shared_versions.specs.Readers.{HasWidth}
 use Rattle.shared_versions.specs.Sight.{Sight}
 use Rattle.shared_sessions.specs.Sessions.{number_in}
 use Rattle.shared_sessions.specs.declared.opening.OpenRefused.{OpenRefused}
 use Rattle.shared_sessions.specs.declared.opening.OpenRefused.TheVariants as causes
+use Rattle.shared_sessions.specs.declared.root.Root.{Root}
+
+-- the number of the cell that is lent, among those of its place
+abbrev pub root_number : Root → ℕ
+root_number r = cell_number r.cell.now
 
 -- what was loaded is no version of this width; or it is one, and its number, which is told, is below the one asked for
 abbrev pub RefusedFor : {K V : Type 0} → ℕ → ℕ → Option (Sight K V) → OpenRefused → Type 0

@@ -5,7 +5,8 @@
 //! no read asks whether the version is still there: what the guard loaded stays, whatever other threads publish meanwhile.
 //!
 //! ```text
-//! let mut session = SharedSession::<u64, u64, 64>::open(&domain, &root, &mut local, alloc, 0)?;
+//! let root = Root::new(&cell);
+//! let mut session = SharedSession::<u64, u64, 64>::open(&domain, root, &mut local, alloc, 0)?;
 //! session.get(&1);                                    // the value, or none: nothing is recorded
 //! session.range(Bound::Included(&1), Bound::Unbounded);  // a cursor
 //! session.read(Query::Get(1))?;                       // the same answer, and the receipt has it
@@ -15,8 +16,10 @@
 
 mod opening;
 mod reads;
+mod root;
 mod session;
 
 pub use opening::OpenRefused;
 pub use reads::{SharedNearby, SharedWalk};
+pub use root::Root;
 pub use session::SharedSession;

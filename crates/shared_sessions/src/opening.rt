@@ -1,12 +1,11 @@
 //! Opening a session, and why none is opened.
 
 ghost use Rattle.std.specs.Prelude.{◌≡◌, ◌+◌, ◌≤◌, ◌<◌, ◌↔◌, [], IfOk, IfErr, IfSome, IfNone, IsNone, OnOk, OnErr, IsErrOf};
-ghost use Rattle.sdd_domain.specs.Cells.{cell_number};
 ghost use Rattle.sdd_domain.specs.Tokens.{place_of, home_of, own_of, born_of, cell_count, nest_of, nest_in, IsSame};
-ghost use Rattle.shared_sessions.specs.Openings.{IsBelow};
+ghost use Rattle.shared_sessions.specs.Openings.{IsBelow, root_number};
 
+use crate::root::Root;
 use crate::session::SharedSession;
-use sdd_domain::atomic_shared::AtomicShared;
 use sdd_domain::domain::Domain;
 use sdd_domain::guard::Guard;
 use sdd_domain::holds::Holds;
@@ -34,13 +33,13 @@ impl<K: Clone + Ord, V: Clone + Eq, const S: usize> SharedSession<K, V, S> {
     /// loaded is below `at_least`, so 0 asks for nothing. Refused, the participant has as many guards open as before.
     pub fn open(
         domain: &Domain<Node<K, V>>,
-        root: &AtomicShared,
+        root: Root<'_>,
         local: &mut Local<Node<K, V>>,
         alloc: Global,
         at_least: u64,
     ) -> Result<Self, OpenRefused>
         requires home { home_of local.old ≡ place_of domain.now }
-        requires inside { cell_number root.now < cell_count domain.now }
+        requires inside { root_number root < cell_count domain.now }
         ensures number { IfOk result (λ s. at_least ≤ s.number) }
         ensures receipt { IfOk result (λ s. s.receipt ≡ record { number = s.number; reads = [] }) }
         ensures nest { IfOk result (λ s. s.nest ≡ nest_in local.new) }
@@ -54,7 +53,7 @@ impl<K: Clone + Ord, V: Clone + Eq, const S: usize> SharedSession<K, V, S> {
         let Some(guard) = one_more(domain, local) else {
             return Err(OpenRefused::Nested);
         };
-        let loaded = root.loaded(domain, &guard, local);
+        let loaded = root.cell.loaded(domain, &guard, local);
         match Self::of_loaded(guard, loaded, alloc, at_least) {
             Ok(session) => Ok(session),
             Err((guard, refused)) => {

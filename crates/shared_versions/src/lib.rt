@@ -30,7 +30,7 @@ mod session;
 pub use building::{Draft, build};
 pub use lending::view_of;
 pub use node::{Node, Rest, Version};
-pub use present::{NoSlot, Present, publish};
+pub use present::{Present, publish};
 pub use reader::{Reader, version_at};
 pub use reclaiming::reclaim;
 pub use session::Session;

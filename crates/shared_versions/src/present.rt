@@ -15,6 +15,7 @@ use crate::node::{Node, Version};
 use crate::owners::{let_go, place_two, take_back};
 use crate::pairs::{all_owners, hold_all};
 use crate::room::Room;
+use sdd_base::refusal::NoSlot;
 use sdd_base::tag::Tag;
 use sdd_domain::atomic_shared::AtomicShared;
 use sdd_domain::domain::Domain;
@@ -26,10 +27,6 @@ use std::marker::Model;
 use std::mem;
 use version_drafts::draft::Segments;
 use version_views::{Directory, VersionView};
-
-/// A version wasn't placed: too few slots are free, or an item has as many owners as it can have.
-#[derive(Clone, Copy, Debug, PartialEq, Eq)]
-pub struct NoSlot;
 
 /// The present version, and one more owner of each of its segments, for the versions to come. It must be spent by `end`.
 ///
@@ -100,8 +97,9 @@ impl<K: Ord + Drop, V: Drop, const S: usize> Present<K, V, S> {
     }
 
     /// Places a version that was built of the present one, which becomes the present one, and gives an owner of it for a cell.
-    /// Where it is refused, which is one miss of the participant, the present version is as it was, and what was placed before
-    /// that is released again: it waits to be reclaimed. It takes no memory.
+    /// It is refused where too few slots are free, or an item has as many owners as it can have, which is one miss of the
+    /// participant. Then the present version is as it was, and what was placed before that is released again: it waits to be
+    /// reclaimed. It takes no memory.
     pub fn place(
         &mut self,
         domain: &Domain<Node<K, V>>,

@@ -5,4 +5,4 @@ abbrev pub ghosts-told_under_the_lock-L-Ledger : goal.ghosts-told_under_the_lock
 ghosts-told_under_the_lock-L-Ledger g a = record { name = a.blank.name; parts = a.blank.parts }
 
 abbrev pub ghosts-told_under_the_lock-L-Naming : goal.ghosts-told_under_the_lock-L-Naming
-ghosts-told_under_the_lock-L-Naming g a = record { place = place_of a.domain.now }
+ghosts-told_under_the_lock-L-Naming g a = record { place = place_of a.domain.now; last = 18446744073709551615 }

@@ -5,4 +5,4 @@ abbrev pub ghosts-missing_share-L-Ledger : goal.ghosts-missing_share-L-Ledger
 ghosts-missing_share-L-Ledger g a = record { name = a.blank.name; parts = a.blank.parts }
 
 abbrev pub ghosts-missing_share-L-Naming : goal.ghosts-missing_share-L-Naming
-ghosts-missing_share-L-Naming g a = record { place = place_of a.domain.now }
+ghosts-missing_share-L-Naming g a = record { place = place_of a.domain.now; last = 18446744073709551615 }

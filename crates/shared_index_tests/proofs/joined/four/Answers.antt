@@ -3,5 +3,5 @@ use denote.Param.Send.{sendable}
 use Rattle.shared_index.proofs.SendLemmas.{index_sync}
 use Rattle.shared_index_tests.proofs.joined.four.Goals as goal
 
-pub join_over-some-requires-sync-T : goal.join_over-some-requires-sync-T
-join_over-some-requires-sync-T g c κs within = search (index_sync, crosses, sendable) depth 12
+pub join_over-requires-sync-T : goal.join_over-requires-sync-T
+join_over-requires-sync-T g c κs within = search (index_sync, crosses, sendable) depth 12

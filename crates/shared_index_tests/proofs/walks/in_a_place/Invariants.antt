@@ -5,4 +5,4 @@ abbrev pub ghosts-kept_on-L-Ledger : goal.ghosts-kept_on-L-Ledger
 ghosts-kept_on-L-Ledger g a = record { name = a.blank.name; parts = a.blank.parts }
 
 abbrev pub ghosts-kept_on-L-Naming : goal.ghosts-kept_on-L-Naming
-ghosts-kept_on-L-Naming g a = record { place = place_of a.domain.now }
+ghosts-kept_on-L-Naming g a = record { place = place_of a.domain.now; last = 18446744073709551615 }
