@@ -155,7 +155,7 @@ impl<'d, L: Naming, K: Clone + Ord, V: Clone + Eq, const S: usize> SharedIndex<'
         ensures inner { 0 < (own_of local.old).nesting → (born_of local.new ≡ born_of local.old) × (nest_in local.new ≡ nest_in local.old) }
         ensures same { IsSame local.old local.new }
     {
-        SharedSession::open(self.domain, self.root(), local, self.alloc, at_least)
+        SharedSession::open(self.alloc, self.domain, self.root(), at_least, local)
     }
 
     /// Makes the writes on the present list, as [`Book::commit`] does, if each read of the receipt still holds there. The share

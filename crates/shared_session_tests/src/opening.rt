@@ -30,7 +30,7 @@ fn number_of<const S: usize>(
     ensures closed { (own_of local.new).nesting ≡ 0 }
 {
     let root = Root::new(cell);
-    let session = SharedSession::<u64, u64, S>::open(domain, root, local, alloc, at_least)?;
+    let session = SharedSession::<u64, u64, S>::open(alloc, domain, root, at_least, local)?;
     let number = session.number();
     let receipt = session.close(domain, local);
     if receipt.number == number && receipt.reads.as_slice().is_empty() {

@@ -6,7 +6,7 @@
 //!
 //! ```text
 //! let root = Root::new(&cell);
-//! let mut session = SharedSession::<u64, u64, 64>::open(&domain, root, &mut local, alloc, 0)?;
+//! let mut session = SharedSession::<u64, u64, 64>::open(alloc, &domain, root, 0, &mut local)?;
 //! session.get(&1);                                    // the value, or none: nothing is recorded
 //! session.range(Bound::Included(&1), Bound::Unbounded);  // a cursor
 //! session.read(Query::Get(1))?;                       // the same answer, and the receipt has it

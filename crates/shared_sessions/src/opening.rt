@@ -32,11 +32,11 @@ impl<K: Clone + Ord, V: Clone + Eq, const S: usize> SharedSession<K, V, S> {
     /// named no version of segments of at most `S` pairs; and as `Earlier` exactly where the number of the version that it
     /// loaded is below `at_least`, so 0 asks for nothing. Refused, the participant has as many guards open as before.
     pub fn open(
+        alloc: Global,
         domain: &Domain<Node<K, V>>,
         root: Root<'_>,
-        local: &mut Local<Node<K, V>>,
-        alloc: Global,
         at_least: u64,
+        local: &mut Local<Node<K, V>>,
     ) -> Result<Self, OpenRefused>
         requires home { home_of local.old ≡ place_of domain.now }
         requires inside { root_number root < cell_count domain.now }
