@@ -16,7 +16,7 @@ use Rattle.sdd_base.specs.declared.status.Status.{Status}
 use Rattle.sdd_base.specs.declared.status.Status.TheVariants as status
 use Rattle.sdd_base.proofs.ListLemmas.{hit-same, hit-other}
 use Rattle.version_views.specs.Items.{held_by, slots_of}
-use Rattle.versions.specs.Placing.{IsLevelled, IsNoDirectory}
+use Rattle.versions.specs.Placing.{IsFlat, IsNoDirectory}
 use Rattle.sdd_base.specs.declared.owner.Kept.{Kept}
 use Rattle.version_views.specs.declared.directory.Directory.{Directory}
 use Rattle.version_views.specs.declared.item.Item.{Item}
@@ -212,7 +212,7 @@ module _ {K V : Type 0} {s : ℕ} where
     named : j ≡ get_or (slots_of directory) nth 0
 
   -- nothing waits, and no owner of an item is in hand
-  module _ (w : State (Item K V s)) (hand : List Hold) (place : IsPlace w) (counted : Counted held_by hand w) (outside : (j : ℕ) → tally (SharedItem j) hand ≡ 0) (plain : IsPlain w) (levelled : IsLevelled w) (empty : (q : ℕ) → bags_empty (participant_at w q) ≡ true) where
+  module _ (w : State (Item K V s)) (hand : List Hold) (place : IsPlace w) (counted : Counted held_by hand w) (outside : (j : ℕ) → tally (SharedItem j) hand ≡ 0) (plain : IsPlain w) (flat : IsFlat w) (empty : (q : ℕ) → bags_empty (participant_at w q) ≡ true) where
     not_waiting : (j : ℕ) → weight (status_at w j) ≡ 0
     not_waiting j = sym (place.sound.once j) ∙ all_none (held_times j) nobody w.participants (λ q. nothing_held j (participant_at w q) (empty q) (place.idle q))
 
@@ -241,7 +241,7 @@ module _ {K V : Type 0} {s : ℕ} where
           | inl e ↦ inl e
           | inr b ↦ elim (owner_of_used b.above (value_used b.above (items.Directory b.directory) b.is)) [
             | inl e ↦ inr (b, e)
-            | inr a ↦ absurd (subst (λ (o : Option (Item K V s)). IsNoDirectory o) b.is (subst (λ x. IsNoDirectory (value_at w x)) (sym a.named) (levelled.flat a.above a.directory a.is a.nth 0 a.inside)))
+            | inr a ↦ absurd (subst (λ (o : Option (Item K V s)). IsNoDirectory o) b.is (subst (λ x. IsNoDirectory (value_at w x)) (sym a.named) (flat a.above a.directory a.is a.nth 0 a.inside)))
           ]
         ]
 
@@ -258,7 +258,7 @@ module _ {K V : Type 0} {s : ℕ} where
         ])
 
   -- nothing waits, and the one owner outside is a root
-  module _ (w : State (Item K V s)) (c i : ℕ) (d : Directory K Kept) (t : Tag) (place : IsPlace w) (counted : Counted held_by (SharedIn c ∷ []) w) (plain : IsPlain w) (levelled : IsLevelled w) (root : cell_at w c ≡ cell.OfShared (Some i) t) (is : value_at w i ≡ Some (items.Directory d)) (empty : (q : ℕ) → bags_empty (participant_at w q) ≡ true) where
+  module _ (w : State (Item K V s)) (c i : ℕ) (d : Directory K Kept) (t : Tag) (place : IsPlace w) (counted : Counted held_by (SharedIn c ∷ []) w) (plain : IsPlain w) (flat : IsFlat w) (root : cell_at w c ≡ cell.OfShared (Some i) t) (is : value_at w i ≡ Some (items.Directory d)) (empty : (q : ℕ) → bags_empty (participant_at w q) ≡ true) where
     -- only the root keeps an owner
     kept_by_root : (j : ℕ) → 1 ≤ kept_times w j → j ≡ i
     kept_by_root j some =
@@ -280,7 +280,7 @@ module _ {K V : Type 0} {s : ℕ} where
     used_named : (j : ℕ) → 1 ≤ usage (status_at w j) → 1 ≤ times j (i ∷ slots_of d)
     used_named j used =
         let front = sum_by-cons (λ k. hit k j) i (slots_of d) in
-        elim (kept_or_below w (SharedIn c ∷ []) place counted (λ k. sum_by-cons (λ y. same_hold (SharedItem k) y) (SharedIn c) []) plain levelled empty j used) [
+        elim (kept_or_below w (SharedIn c ∷ []) place counted (λ k. sum_by-cons (λ y. same_hold (SharedItem k) y) (SharedIn c) []) plain flat empty j used) [
           | inl e ↦ let here = ap (λ k. hit k j) (sym (kept_by_root j e)) in let one = hit-same j in omega (arith, front, here, one)
           | inr r ↦
               let b = r.0 in

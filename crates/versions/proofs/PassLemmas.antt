@@ -172,7 +172,7 @@ module _ {K V : Type 0} {s : ℕ} (cmp : K → K → Ordering) where
       let rooted : IsRooted (length places) root store.slot d w = record {
         counted = store.counted;
         plain = store.plain;
-        levelled = store.levelled;
+        flat = (let levelled = store.levelled in levelled.flat);
         tag = tag.None;
         root = store.named;
         is = store.version.is;

@@ -27,11 +27,11 @@ use Rattle.sdd_base.proofs.IdleParticipantLemmas.{gives_only}
 use Rattle.sdd_base.proofs.BagInvariantLemmas.{Gives, gives_released_as}
 use Rattle.version_views.specs.Items.{held_by}
 use Rattle.versions.specs.Reclaiming.{IsRootless}
-use Rattle.versions.specs.Placing.{HasVersion, IsLevelled, IsPlaceable, Places, Plan, list_planned, slots_for}
+use Rattle.versions.specs.Placing.{HasVersion, IsFlat, IsLevelled, IsPlaceable, Places, Plan, list_planned, slots_for}
 use Rattle.version_views.specs.declared.item.Item.{Item}
 use Rattle.version_views.proofs.FilterLemmas.{rising_none}
 use Rattle.versions.proofs.PlacingLemmas.{keeps_then}
-use Rattle.versions.proofs.ReclaimLemmas.{levelled_after}
+use Rattle.versions.proofs.ReclaimLemmas.{flat_after, levelled_after}
 use Rattle.versions.proofs.StayingLemmas.{versions_stay}
 use Rattle.versions.specs.Store.{IsReader, IsStore, Version, no_version, read_by, store_of, version_in}
 use Rattle.versions.specs.declared.store.readers.Opened.{Opened}
@@ -290,7 +290,7 @@ module _ {K V : Type 0} {s : ℕ} (cmp : K → K → Ordering) where
         place = place;
         counted = subst (λ (y : State (Item K V s)). Counted held_by [] y) (sym now) counted;
         plain = subst (λ (y : State (Item K V s)). IsPlain y) (sym is) (λ j. shrinks.plain j (store.plain j));
-        levelled = subst (λ (y : State (Item K V s)). IsLevelled y) (sym is) (levelled_after v x shrinks.values (levelled_with root cell.Free w store.levelled));
+        flat = (let levelled = store.levelled in subst (λ (y : State (Item K V s)). IsFlat y) (sym is) (flat_after v x shrinks.values levelled.flat));
         cells = λ c.
             ap (λ (y : State (Item K V s)). cell_at y c) is
             ∙ ap (λ (cs : List Cell). get_or cs c cell.Free) (cells_released_as (status_at v store.slot) q store.slot v)

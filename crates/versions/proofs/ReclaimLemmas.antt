@@ -21,7 +21,7 @@ use Rattle.sdd_base.proofs.ListLemmas.{hit-same}
 use Rattle.sdd_base.proofs.PassLemmas.{passes_reclaim}
 use Rattle.sdd_base.proofs.IdleParticipantLemmas.{gives_only}
 use Rattle.version_views.specs.Items.{held_by, slots_of}
-use Rattle.versions.specs.Placing.{IsLevelled, IsNoDirectory}
+use Rattle.versions.specs.Placing.{IsFlat, IsLevelled, IsNoDirectory}
 use Rattle.versions.specs.Reclaiming.{IsRooted, PassesLeaveOne}
 use Rattle.sdd_base.specs.declared.owner.Kept.{Kept}
 use Rattle.version_views.specs.declared.directory.Directory.{Directory}
@@ -43,12 +43,12 @@ module _ {K V : Type 0} {s : ℕ} where
   level_none (items.Directory d) h = absurd h
   level_none (items.Segment t) h = refl
 
-  layered : (w : State (Item K V s)) → IsLevelled w → IsLayered held_by level w
-  layered w levelled i j v u h is some slot there =
+  layered : (w : State (Item K V s)) → IsFlat w → IsLayered held_by level w
+  layered w flat i j v u h is some slot there =
       let o = holds_segments v h some in
       let above : level v ≡ 1 = ap level o.1 in
       let named = slot_same (get_or (slots_of o.0) o.2 0) j (ap (slot_held w) (sym o.4) ∙ slot) in
-      let low = levelled.flat i o.0 (is ∙ ap (λ (x : Item K V s). Some x) o.1) o.2 0 o.3 in
+      let low = flat i o.0 (is ∙ ap (λ (x : Item K V s). Some x) o.1) o.2 0 o.3 in
       let below = level_none u (subst (λ (x : Option (Item K V s)). IsNoDirectory x) there (subst (λ (x : ℕ). IsNoDirectory (value_at w x)) named low)) in
       omega (arith, above, below)
     where
@@ -56,16 +56,16 @@ module _ {K V : Type 0} {s : ℕ} where
       slot_same x y e = cc
 
   -- where values only go, levels stay
-  pub levelled_after : (w w' : State (Item K V s)) → ((j : ℕ) (u : Item K V s) → value_at w' j ≡ Some u → value_at w j ≡ Some u) → IsLevelled w → IsLevelled w'
-  levelled_after w w' goes levelled = record {
-    flat = λ i d is k e h. still (value_at w (get_or (slots_of d) k e)) (value_at w' (get_or (slots_of d) k e)) (goes (get_or (slots_of d) k e)) (levelled.flat i d (goes i (items.Directory d) is) k e h);
-    once = λ i d is. levelled.once i d (goes i (items.Directory d) is);
-  }
+  pub flat_after : (w w' : State (Item K V s)) → ((j : ℕ) (u : Item K V s) → value_at w' j ≡ Some u → value_at w j ≡ Some u) → IsFlat w → IsFlat w'
+  flat_after w w' goes flat = λ i d is k e h. still (value_at w (get_or (slots_of d) k e)) (value_at w' (get_or (slots_of d) k e)) (goes (get_or (slots_of d) k e)) (flat i d (goes i (items.Directory d) is) k e h)
     where
       still : (o o' : Option (Item K V s)) → ((u : Item K V s) → o' ≡ Some u → o ≡ Some u) → IsNoDirectory o → IsNoDirectory o'
       still o None f h = tt
       still o (Some (items.Directory d)) f h = subst (λ (x : Option (Item K V s)). IsNoDirectory x) (f (items.Directory d) refl) h
       still o (Some (items.Segment t)) f h = tt
+
+  pub levelled_after : (w w' : State (Item K V s)) → ((j : ℕ) (u : Item K V s) → value_at w' j ≡ Some u → value_at w j ≡ Some u) → IsLevelled w → IsLevelled w'
+  levelled_after w w' goes levelled = record { flat = flat_after w w' goes levelled.flat; once = λ i d is. levelled.once i d (goes i (items.Directory d) is) }
 
   pass_on : (n p : ℕ) (w : State (Item K V s)) → CanPass (suc n) p w → CanPass n p (passed held_by p w) × OnlyParticipant p w (passed held_by p w)
   pass_on n p w can =
@@ -99,7 +99,7 @@ module _ {K V : Type 0} {s : ℕ} where
       record {
         counted = counted_passed p hand w can.place can.known r.counted;
         plain = λ j. subst (λ (ss : List Status). is_plain (get_or ss j status.Free) ≡ true) (sym closing.1) (opening.0.plain j (r.plain j));
-        levelled = levelled_after w (passed held_by p w) (λ j u e. opening.0.values j u (sym (ap (λ (vs : List (Option (Item K V s))). get_or vs j None) closing.0) ∙ e)) r.levelled;
+        flat = flat_after w (passed held_by p w) (λ j u e. opening.0.values j u (sym (ap (λ (vs : List (Option (Item K V s))). get_or vs j None) closing.0) ∙ e)) r.flat;
         tag = r.tag;
         root = ap (λ (cs : List Cell). get_or cs c cell.Free) closing.2 ∙ stays ∙ r.root;
         is = ap (λ (vs : List (Option (Item K V s))). get_or vs i None) closing.0 ∙ keeps.lives i live ∙ r.is;
@@ -123,7 +123,7 @@ module _ {K V : Type 0} {s : ℕ} where
       let can_w : CanPass 4 p w = record { place = can.place; known = can.known; none_open = can.none_open; room = (let room = can.room in omega (arith, room)) } in
       let can_u : CanPass 4 p u = (reclaims.raised 4 4 p w can).1 in
       let can_v : CanPass 0 p v = (reclaims.raised 4 0 p u can_u).1 in
-      let first = reclaims.lowered level 1 p w can_w (layered w r.levelled) (λ j x t e. level_low x) in
+      let first = reclaims.lowered level 1 p w can_w (layered w r.flat) (λ j x t e. level_low x) in
       let second = reclaims.lowered level 0 p u can_u first.0 first.1 in
       let end = rooted_times 4 p c i d u can_u (rooted_times 4 p c i d w can_w r) in
       let jobs : NoJobWaits v = λ j e. false≢true (sym (ap is_plain e) ∙ end.plain j) in
@@ -132,7 +132,7 @@ module _ {K V : Type 0} {s : ℕ} where
         | inl t ↦ ap (λ (k : ℕ). bags_empty (participant_at v k)) t.1 ∙ own
         | inr t ↦ end.others q t.1
       ] in
-      let left = one_left v c i d end.tag can_v.place end.counted end.plain end.levelled end.root end.is empty in
+      let left = one_left v c i d end.tag can_v.place end.counted end.plain end.flat end.root end.is empty in
       subst (λ (x : State (Item K V s)). in_use x ≤ length (slots_of d) + 1) (sym (times_after 4 4 p w)) left
 
   pub passes_leave_one : PassesLeaveOne K V s

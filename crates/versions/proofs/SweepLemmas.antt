@@ -15,7 +15,7 @@ use Rattle.version_views.specs.Items.{held_by, slots_of}
 use Rattle.versions.specs.Reclaiming.{IsRootless, SweepsLeaveNone}
 use Rattle.version_views.specs.declared.item.Item.{Item}
 use Rattle.version_views.specs.declared.item.Item.TheVariants as items
-use Rattle.versions.proofs.ReclaimLemmas.{levelled_after}
+use Rattle.versions.proofs.ReclaimLemmas.{flat_after}
 use Rattle.versions.proofs.NoGarbageLemmas.{free_cells, none_left}
 
 module _ {K V : Type 0} {s : ℕ} where
@@ -68,7 +68,7 @@ module _ {K V : Type 0} {s : ℕ} where
           place = (rotates held_by w p r.place known).place;
           counted = counted_rotated held_by p [] w r.place known r.counted;
           plain = λ j. shrinks.plain j (r.plain j);
-          levelled = levelled_after w (participant_rotated held_by p w) shrinks.values r.levelled;
+          flat = flat_after w (participant_rotated held_by p w) shrinks.values r.flat;
           cells = λ c. ap (λ (cs : List Cell). get_or cs c cell.Free) (cells_rotated p w) ∙ r.cells c;
         }
     | inr past ↦ subst (λ (x : State (Item K V s)). IsRootless x) (sym (rotated_past p w past)) r
@@ -81,7 +81,7 @@ module _ {K V : Type 0} {s : ℕ} where
   leaves_none : (w w' : State (Item K V s)) → IsRootless w → AllSwept held_by w w' → IsUnused w'
   leaves_none w w' r swept =
       let end : IsRootless w' = subst (λ (x : State (Item K V s)). IsRootless x) (sym swept.now) (rootless_each swept.turns w r) in
-      (none_left w' [] end.place end.counted (λ j. refl) end.plain end.levelled swept.empty end.cells, free_cells w'.cells end.cells)
+      (none_left w' [] end.place end.counted (λ j. refl) end.plain end.flat swept.empty end.cells, free_cells w'.cells end.cells)
 
   pub sweeps_leave_none : SweepsLeaveNone K V s
   sweeps_leave_none = record { none = leaves_none }

@@ -71,9 +71,13 @@ module _ {K V : Type 0} {s : ℕ} where
   IsNoDirectory (Some (items.Directory d)) = ⊥
   IsNoDirectory (Some (items.Segment t)) = Unit {0}
 
-  -- no directory that is there, also one that waits, holds a directory, or holds a segment twice
+  -- no directory that is there, also one that waits, holds a directory
+  abbrev pub IsFlat : State (Item K V s) → Type 0
+  IsFlat w = (i : ℕ) (d : Directory K Kept) → value_at w i ≡ Some (items.Directory d) → All (λ j. IsNoDirectory (value_at w j)) (slots_of d)
+
+  -- nor does one hold a segment twice
   pub record IsLevelled (w : State (Item K V s)) : Type 0 where
-    pub flat : (i : ℕ) (d : Directory K Kept) → value_at w i ≡ Some (items.Directory d) → All (λ j. IsNoDirectory (value_at w j)) (slots_of d)
+    pub flat : IsFlat w
     pub once : (i : ℕ) (d : Directory K Kept) → value_at w i ≡ Some (items.Directory d) → (j : ℕ) → times j (slots_of d) ≤ 1
 
   -- n items more, and all else as it was

@@ -9,7 +9,7 @@ use Rattle.sdd_base.specs.Steps.{AllSwept, bags_empty}
 use Rattle.sdd_base.specs.declared.status.Cell.TheVariants as cell
 use Rattle.sdd_base.specs.declared.tag.Tag.{Tag}
 use Rattle.version_views.specs.Items.{held_by, slots_of}
-use Rattle.versions.specs.Placing.{IsLevelled}
+use Rattle.versions.specs.Placing.{IsFlat}
 use Rattle.sdd_base.specs.declared.owner.Kept.{Kept}
 use Rattle.version_views.specs.declared.directory.Directory.{Directory}
 use Rattle.version_views.specs.declared.item.Item.{Item}
@@ -19,7 +19,7 @@ use Rattle.version_views.specs.declared.item.Item.TheVariants as items
 pub record IsRooted {K V : Type 0} {s : ℕ} (p c i : ℕ) (d : Directory K Kept) (w : State (Item K V s)) : Type 0 where
   pub counted : Counted held_by (SharedIn c ∷ []) w
   pub plain : IsPlain w
-  pub levelled : IsLevelled w
+  pub flat : IsFlat w
   pub tag : Tag
   pub root : cell_at w c ≡ cell.OfShared (Some i) tag
   pub is : value_at w i ≡ Some (items.Directory d)
@@ -34,7 +34,7 @@ pub record IsRootless {K V : Type 0} {s : ℕ} (w : State (Item K V s)) : Type 0
   pub place : IsPlace w
   pub counted : Counted held_by [] w
   pub plain : IsPlain w
-  pub levelled : IsLevelled w
+  pub flat : IsFlat w
   pub cells : (c : ℕ) → cell_at w c ≡ cell.Free
 
 -- rotations that leave nothing waiting leave no item
