@@ -12,6 +12,18 @@ pub struct RawPtr {
     pub(crate) tag: Tag,
 }
 
+/// The pointer to nothing, without a tag.
+impl Default for RawPtr {
+    ghost use Rattle.sdd_base.specs.declared.tag.Tag.TheVariants as tags;
+    ghost use Rattle.shared_owned.specs.Raw.{raw_slot, raw_tag};
+
+    ghost is_default = { λ r. (raw_slot r ≡ None) × (raw_tag r ≡ tags.None) };
+
+    fn default() -> RawPtr {
+        RawPtr::null()
+    }
+}
+
 impl RawPtr {
     ghost use Rattle.shared_owned.specs.declared.raw_ptr.RawPtr.{RawPtr};
     ghost use Rattle.shared_owned.specs.Raw.{raw_slot, raw_tag, raw_word, IsWithin};

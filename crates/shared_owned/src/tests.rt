@@ -536,6 +536,7 @@ fn a_word_has_the_raw_pointer_that_was_written(rt: HostRuntime) -> Result<(), Fa
     assert!(rt; tried == [Err(it), Ok(it)] && more == [Ok(tagged), Err(it)]);
     assert!(rt; set == [false, true] && now == (Tag::Second, it.with_tag(Tag::Second)));
     // one that is made with a pointer, and exchanged for nothing and back
+    assert!(rt; RawPtr::default() == null);
     let made = AtomicRaw::new(tagged);
     let had = (made.is_null(), made.tag(), made.load());
     let gone = (made.compare_exchange(tagged, null), made.is_null());
