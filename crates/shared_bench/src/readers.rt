@@ -60,7 +60,7 @@ pub fn session(
     let mut state = sample.state;
     let mut wrong = sample.wrong;
     let mut sum = sample.sum;
-    let Ok(session) = Reader::open(domain, root, local, alloc, 0) else {
+    let Ok(session) = Reader::open(alloc, domain, root, 0, local) else {
         return Sample {
             state,
             sessions: sample.sessions,

@@ -73,7 +73,7 @@ pub fn opened(
     ensures inner { 0 < (own_of local.old).nesting → nest_in local.new ≡ nest_in local.old }
     ensures same { IsSame local.old local.new }
 {
-    Twos::open(domain, Root::new(cell), local, alloc, at_least)
+    Twos::open(alloc, domain, Root::new(cell), at_least, local)
 }
 
 /// Closes a session: its receipt.
