@@ -21,11 +21,17 @@ use Rattle.sdd_table.specs.Dropping.{Dropped, undone, undone_times}
 use Rattle.sdd_table.proofs.DropLemmas.{calls_recalled}
 use Rattle.sdd_table.proofs.BagInvariantLemmas.{inside_by, due_waiting, gives_given, reclaims_next, sound_turned}
 use Rattle.std.specs.List.{list_all}
-use Rattle.sdd_base.proofs.PrivateCollectorLemmas.{overdue_noted, purges_next}
+use Rattle.sdd_base.proofs.PrivateCollectorLemmas.{overdue_noted}
 use Rattle.std.proofs.lemmas.List.{length-reverse}
 use Rattle.sdd_table.proofs.PlaceLemmas.{place_begun, get_or-replicate_default}
 use Rattle.std.proofs.lemmas.List.Folds.{sum_by-replicate}
 use Rattle.sdd_table.specs.declared.sizes.Sizes.{Sizes}
+
+-- what the values weigh without that of a slot
+sum_without : {X : Type 0} (f : Option X → ℕ) → f None ≡ 0 → (xs : List (Option X)) (i : ℕ) → sum_by f (set xs i None) + f (get_or xs i None) ≡ sum_by f xs
+sum_without f none [] i = omega (arith, none)
+sum_without f none (x ∷ xs) zero = omega (arith, none, sum_by-cons f x xs, sum_by-cons f None xs)
+sum_without f none (x ∷ xs) (suc i) = omega (arith, sum_without f none xs i, sum_by-cons f x xs, sum_by-cons f x (set xs i None))
 
 -- what an element weighs where one is changed
 module _ {X : Type 0} (f : X → ℕ) where
@@ -562,23 +568,20 @@ module _ {T : Type 0} (holds : T → List Hold) where
       elim (ltb (length is) n) as (λ b. Counted holds hand (cond b (with_status i s w) (retired p i w))) [ true ↦ put | false ↦ out ]
 
   -- what was collected is taken: what it held is in hand
-  counted_removed : (i n : ℕ) (hand : List Hold) (w : State T) → Sound w → status_at w i ≡ status.Collected n → Counted holds hand w → Counted holds (held_in holds (value_at w i) ++ hand) (slot_freed i w)
-  counted_removed i n hand w sound is h = record {
+  counted_removed : (i n : ℕ) (hand : List Hold) (w : State T) → status_at w i ≡ status.Collected n → Counted holds hand w → Counted holds (held_in holds (value_at w i) ++ hand) (slot_freed i w)
+  counted_removed i n hand w is h = record {
     each = λ k.
         let inside = inside_by w.states i (status.Collected n) (sym is) (λ f. cc) in
         let u : Uses w (slot_freed i w) i status.Free = record { states = refl; cells = refl; inside = inside } in
-        omega (arith, h.each k, tally-append k (held_in holds (value_at w i)) hand, sum_by-set (λ v. tally k (held_in holds v)) w.values i None None (omega (arith, sound.sizes, inside)), uses_same k w (slot_freed i w) i status.Free u (sym (ap single_owner is)) (sym (ap shared_owners is)));
+        omega (arith, h.each k, tally-append k (held_in holds (value_at w i)) hand, sum_without (λ v. tally k (held_in holds v)) refl w.values i, uses_same k w (slot_freed i w) i status.Free u (sym (ap single_owner is)) (sym (ap shared_owners is)));
   }
 
-  counted_purged : (p : ℕ) (is : List ℕ) (hand : List Hold) (w : State T) → Sound w → p < length w.participants → Counted holds hand w → Counted holds hand (purged holds p is w)
-  counted_purged p [] hand w sound known h = h
-  counted_purged p (i ∷ is) hand w sound known h =
+  counted_purged : (p : ℕ) (is : List ℕ) (hand : List Hold) (w : State T) → Counted holds hand w → Counted holds hand (purged holds p is w)
+  counted_purged p [] hand w h = h
+  counted_purged p (i ∷ is) hand w h =
       let v : State T = given_all p (held_in holds (value_at w i)) (slot_freed i w) in
       (elim (overdue w.count (status_at w i)) as (λ b. overdue w.count (status_at w i) ≡ b → Counted holds hand (cond b (purged holds p is v) w)) [
-        | true ↦ λ e.
-            let n = overdue_noted w.count (status_at w i) e in
-            let g = purges_next holds p i w sound known e in
-            counted_purged p is hand v g.sound (omega (arith, g.known, known)) (counted_all p (held_in holds (value_at w i)) hand (slot_freed i w) (counted_removed i n.note hand w sound n.is h))
+        | true ↦ λ e. let n = overdue_noted w.count (status_at w i) e in counted_purged p is hand v (counted_all p (held_in holds (value_at w i)) hand (slot_freed i w) (counted_removed i n.note hand w n.is h))
         | false ↦ λ e. h
       ]) refl
 
@@ -629,7 +632,7 @@ module _ {T : Type 0} (holds : T → List Hold) where
     raw_cell_ended = λ c o t hand w inside is h. cell_changed c (cell.OfRaw o t) cell.Free hand w inside is refl refl h;
     collected_owned = collects_owned;
     collected_shared = collects_shared;
-    purged = λ p is hand w place known h. counted_purged p is hand w place.sound known h;
+    purged = counted_purged;
     handed = counted_handed;
     deferred = counted_deferred;
   }

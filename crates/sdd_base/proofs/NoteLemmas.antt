@@ -276,8 +276,8 @@ module _ {T : Type 0} (holds : T → List Hold) where
       let x = purged_all p mine others w h.named h.rise in
       (record { named = x.named; rise = x.rise }, timely_all (left_waiting holds p mine w) (purged holds p mine w) x.first x.rise)
 
-  collects : (p n i : ℕ) (mine others : List ℕ) (w : State T) → length mine < n → i < length w.states → note_at w i ≡ None → IsInOrder mine others w → IsInOrder (enqueued n mine i) others (set_aside p n mine i w)
-  collects p n i mine others w room inside none h =
+  collects : (p n i : ℕ) (mine others : List ℕ) (w : State T) → i < length w.states → note_at w i ≡ None → IsInOrder mine others w → IsInOrder (enqueued n mine i) others (set_aside p n mine i w)
+  collects p n i mine others w inside none h =
       let s = status.Collected w.count in
       let u : State T = with_status i s w in
       let free : note_count (status_at w i) ≡ 0 = ap (λ (o : Option ℕ). cond (is_some o) 1 0) none in
@@ -291,8 +291,9 @@ module _ {T : Type 0} (holds : T → List Hold) where
             omega (arith, h.named j, a, b, times-append j mine i, noted_up w.states i j s inside free refl);
         rise = rise_push 0 i mine u mark (rise_other 0 i mine w u refl far (λ j m. get_or-set_other w.states i j s status.Free m) h.rise);
       } in
-      let fits : ltb (length mine) n ≡ true = grind (arith, nat_tests) in
-      subst (λ (b : Bool). IsInOrder (cond b (mine ++ i ∷ []) mine) others (cond b u (retired p i w))) (sym fits) whole
+      let same = quiet w (retired p i w) (same_waiting p i status.Retired w inside (sym none)) in
+      let full : IsInOrder mine others (retired p i w) = record { named = are_same (mine ++ others) w (retired p i w) same h.named; rise = rise_same 0 mine w (retired p i w) same h.rise } in
+      elim (ltb (length mine) n) as (λ b. IsInOrder (cond b (mine ++ i ∷ []) mine) others (cond b u (retired p i w))) [ true ↦ whole | false ↦ full ]
 
   hands_over : (p : ℕ) (mine others : List ℕ) (w : State T) → AreCollected (mine ++ others) w → AreCollected others (handed_over p mine w)
   hands_over p [] others w h = h

@@ -136,7 +136,7 @@ pub record OwnersAreCounted {T : Type 0} (holds : T → List Hold) : Type 0 wher
   -- an item is collected by its last owner, what is overdue is reclaimed, and the rest is handed over
   pub collected_owned : (p n i : ℕ) (is : List ℕ) (hand : List Hold) (w : State T) → Counted holds (OwnedItem i ∷ hand) w → Counted holds hand (set_aside p n is i w)
   pub collected_shared : (p n i : ℕ) (is : List ℕ) (hand : List Hold) (w : State T) → status_at w i ≡ status.Shared 1 → Counted holds (SharedItem i ∷ hand) w → Counted holds hand (set_aside p n is i w)
-  pub purged : (p : ℕ) (is : List ℕ) (hand : List Hold) (w : State T) → IsPlace w → p < length w.participants → Counted holds hand w → Counted holds hand (purged holds p is w)
+  pub purged : (p : ℕ) (is : List ℕ) (hand : List Hold) (w : State T) → Counted holds hand w → Counted holds hand (purged holds p is w)
   pub handed : (p : ℕ) (is : List ℕ) (hand : List Hold) (w : State T) → Counted holds hand w → Counted holds hand (handed_over p is w)
   -- a job waits
   pub deferred : (p i : ℕ) (hand : List Hold) (w : State T) → IsIdle w i → Counted holds hand w → Counted holds hand (waiting_as status.Deferred p i w)

@@ -70,6 +70,6 @@ pub record CollectorsAreInOrder {T : Type 0} (holds : T → List Hold) : Type 0 
   -- a collector with room for all places has room for one more item
   pub room : (mine others : List ℕ) (i : ℕ) (w : State T) → AreCollected (mine ++ others) w → i < length w.states → note_at w i ≡ None → length mine < length w.states
   -- an item is collected, what is overdue is reclaimed, and the rest is handed over
-  pub collected : (p n i : ℕ) (mine others : List ℕ) (w : State T) → length mine < n → i < length w.states → note_at w i ≡ None → IsInOrder mine others w → IsInOrder (enqueued n mine i) others (set_aside p n mine i w)
+  pub collected : (p n i : ℕ) (mine others : List ℕ) (w : State T) → i < length w.states → note_at w i ≡ None → IsInOrder mine others w → IsInOrder (enqueued n mine i) others (set_aside p n mine i w)
   pub purged : (p : ℕ) (mine others : List ℕ) (w : State T) → IsInOrder mine others w → IsInOrder (left_waiting holds p mine w) others (purged holds p mine w) × NoneOverdue (left_waiting holds p mine w) (purged holds p mine w)
   pub handed : (p : ℕ) (mine others : List ℕ) (w : State T) → AreCollected (mine ++ others) w → AreCollected others (handed_over p mine w)
