@@ -1,7 +1,7 @@
 //! An index at a size: many pairs, many writes in a commit, many reads in a session, many participants.
 
 ghost use Rattle.std.specs.Prelude.{◌≡◌};
-ghost use Rattle.sdd_domain.specs.Tokens.{home_of, own_of, IsSame};
+ghost use Rattle.sdd_domain.specs.Tokens.{home_of, own_of, nest_in, IsSame};
 ghost use Rattle.shared_index_tests.specs.Scenes.{CanBegin};
 
 use crate::calls::{Index, Session, asked, bounded, commit, ended, leave, opened, place, reclaim};
@@ -118,6 +118,52 @@ fn a_session_of_ten_thousand_reads_of_a_hundred_thousand_pairs_is_committed(rt: 
     );
 }
 
+/// A commit of another value.
+fn changed<L: Naming, R: Wait + Abort>(
+    rt: &R,
+    alloc: Global,
+    index: &Index<'_, L, 64>,
+    share: &mut Share<L>,
+) {
+    let writes = one(rt, alloc, Write::Upsert(1, 11));
+    let _told = commit(rt, index, share, &Receipt::blank(alloc), writes);
+}
+
+/// A session of a participant, on the list of the first commit or of a later one.
+fn reader<L: Naming, R: Abort>(
+    rt: &R,
+    index: &Index<'_, L, 64>,
+    local: &mut Local<Item>,
+) -> Session<64>
+    requires home { home_of local.old ≡ L.place }
+    requires closed { (own_of local.old).nesting ≡ 0 }
+    ensures nest { result.nest ≡ nest_in local.new }
+    ensures open { (own_of local.new).nesting ≡ 1 }
+    ensures same { IsSame local.old local.new }
+{
+    match opened(index, local, 1) {
+        Some(session) => session,
+        None => panic!(rt; "the first commit is there"),
+    }
+}
+
+/// Asks a session for the value, and closes it: whether it finds the first one.
+fn finds_first<L: Naming>(
+    mut session: Session<64>,
+    index: &Index<'_, L, 64>,
+    local: &mut Local<Item>,
+) -> bool
+    requires home { home_of local.old ≡ L.place }
+    requires mine { session.nest ≡ nest_in local.old }
+    requires open { (own_of local.old).nesting ≡ 1 }
+    ensures same { IsSame local.old local.new }
+    ensures closed { (own_of local.new).nesting ≡ 0 }
+{
+    let found = asked(&mut session, Query::Get(1));
+    let _receipt = ended(session, index, local);
+    found == Ok(Answer::Get(Some(10)))
+}
+
 /// So many participants, each of which opens a session that stays open until all others have opened and read theirs, and a
 /// commit has changed what they read: how many find the first value.
 fn at_once<L: Naming, R: Wait + Abort>(
@@ -128,19 +174,15 @@ fn at_once<L: Naming, R: Wait + Abort>(
     participants: u32,
 ) -> u32 {
     if participants == 0 {
-        let writes = one(rt, alloc, Write::Upsert(1, 11));
-        let _told = commit(rt, index, share, &Receipt::blank(alloc), writes);
+        changed(rt, alloc, index, share);
         return 0;
     }
     let mut local = member(rt, index.domain());
-    let Some(mut session) = opened(index, &mut local, 1) else {
-        panic!(rt; "the first commit is there");
-    };
+    let session = reader(rt, index, &mut local);
     let others = at_once(rt, alloc, index, share, participants - 1);
-    let found = asked(&mut session, Query::Get(1));
-    let _receipt = ended(session, index, &mut local);
+    let found = finds_first(session, index, &mut local);
     leave(index.domain(), local);
-    others.saturating_add(u32::from(found == Ok(Answer::Get(Some(10)))))
+    others.saturating_add(u32::from(found))
 }
 
 /// A commit, which so many participants read beside the next one: how many find it, and the number.
