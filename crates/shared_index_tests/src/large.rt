@@ -1,6 +1,7 @@
 //! An index at a size: many pairs, many writes in a commit, many reads in a session, many participants.
 
 ghost use Rattle.std.specs.Prelude.{◌≡◌};
+ghost use Rattle.shared_index.specs.Invariant.{IsUnengaged};
 ghost use Rattle.sdd_domain.specs.Tokens.{home_of, own_of, nest_in, IsSame};
 ghost use Rattle.shared_index_tests.specs.Scenes.{CanBegin};
 
@@ -129,6 +130,20 @@ fn changed<L: Naming, R: Wait + Abort>(
     let _told = commit(rt, index, share, &Receipt::blank(alloc), writes);
 }
 
+/// A new participant of the place of an index.
+fn entered<L: Naming, R: Abort>(rt: &R, index: &Index<'_, L, 64>) -> Local<Item>
+    ensures { IsUnengaged L.place result }
+{
+    member(rt, index.domain())
+}
+
+/// Ends a participant of the place of an index.
+fn left<L: Naming>(index: &Index<'_, L, 64>, local: Local<Item>)
+    requires { IsUnengaged L.place local }
+{
+    leave(index.domain(), local);
+}
+
 /// A session of a participant, on the list of the first commit or of a later one.
 fn reader<L: Naming, R: Abort>(
     rt: &R,
@@ -177,11 +192,11 @@ fn at_once<L: Naming, R: Wait + Abort>(
         changed(rt, alloc, index, share);
         return 0;
     }
-    let mut local = member(rt, index.domain());
+    let mut local = entered(rt, index);
     let session = reader(rt, index, &mut local);
     let others = at_once(rt, alloc, index, share, participants - 1);
     let found = finds_first(session, index, &mut local);
-    leave(index.domain(), local);
+    left(index, local);
     others.saturating_add(u32::from(found))
 }
 
