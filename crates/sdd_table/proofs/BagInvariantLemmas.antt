@@ -1,13 +1,13 @@
 -- what each step of a participant leaves: lengths, other participants, times, and that a place which waits is in one bag
-use Rattle.std.proofs.Common.{◌≡◌, ◌≢◌, ℕ, zero, suc, ◌+◌, ◌-◌, ◌<◌, ◌≤◌, true, false, Option, None, Some, List, [], ◌∷◌, length, get_or, set, refl, sym, ap, ◌∙◌, arith, length-set, subst, reverse, cond, get_or-set_other, get_or-set_same, leb, inl, inr, is_some}
+use Rattle.std.proofs.Common.{◌≡◌, ◌≢◌, ℕ, zero, suc, ◌+◌, ◌-◌, ◌<◌, ◌≤◌, true, false, Option, None, Some, List, [], ◌∷◌, length, get_or, set, take, drop, ◌++◌, refl, sym, ap, ◌∙◌, arith, length-set, subst, reverse, cond, get_or-set_other, get_or-set_same, leb, inl, inr, is_some}
 use Rattle.std.specs.List.{sum_by}
-use Rattle.std.proofs.lemmas.List.Sums.{sum_by-set, sum_by-cons, get_or-le-sum_by}
+use Rattle.std.proofs.lemmas.List.Sums.{sum_by-set, sum_by-cons, sum_by-append, get_or-le-sum_by}
 use Rattle.std.proofs.lemmas.Bool.{false≢true}
 use Rattle.std.proofs.lemmas.Bool.Decides.{eqb_tells}
 use Rattle.std.proofs.lemmas.List.Sorted.{IsPermutation-reverse, sum_by-IsPermutation}
-use Rattle.std.proofs.lemmas.List.{nil_from_length}
+use Rattle.std.proofs.lemmas.List.{nil_from_length, take-append-drop}
 use Rattle.sdd_table.specs.Holding.{Hold, OwnedItem, SharedItem, OwnedIn, SharedIn}
-use Rattle.sdd_table.specs.State.{State, ParticipantState, put_participant, retired, waiting_as, nobody, status_at, value_at, participant_at, left_due, is_used, taken, weight, bags_moved_on, rotated_bags, with_status, with_cell, with_local, vacated, occupied}
+use Rattle.sdd_table.specs.State.{State, ParticipantState, put_participant, recalled, retired, waiting_as, nobody, status_at, value_at, participant_at, left_due, is_used, taken, weight, bags_moved_on, rotated_bags, with_status, with_cell, with_local, vacated, occupied}
 use Rattle.sdd_table.specs.Steps.{times, hit, released_as, disowned_as, owned_ended_as, shared_ended_as, given, given_all, due_reclaimed_as, due_reclaimed, reclaimed, held_in}
 use Rattle.sdd_table.specs.Place.{Sound, held_times}
 use Rattle.sdd_table.specs.declared.status.Status.{Status}
@@ -171,6 +171,14 @@ pub times_turned : (j : ℕ) (m : ParticipantState) → m.due ≡ [] → held_ti
 times_turned j m none =
     let e : times j m.due ≡ times j [] = ap (times j) none in
     omega (arith, e, times_reversed j m.oldest)
+
+pub times_recalled : (j : ℕ) (m : ParticipantState) → held_times j (recalled m) ≡ held_times j m
+times_recalled j m =
+    let n = length m.current - 1 in
+    let parts : times j (take n m.current ++ drop n m.current) ≡ times j (take n m.current) + times j (drop n m.current) = sum_by-append (λ k. hit k j) (take n m.current) (drop n m.current) in
+    let whole : times j (take n m.current ++ drop n m.current) ≡ times j m.current = ap (times j) (take-append-drop n m.current) in
+    let dues : times j (drop n m.current ++ m.due) ≡ times j (drop n m.current) + times j m.due = sum_by-append (λ k. hit k j) (drop n m.current) m.due in
+    omega (arith, parts, whole, dues)
 
 pub sound_waiting : {T : Type 0} (w : State T) (p i : ℕ) (s : Status) → Sound w → p < length w.participants → i < length w.states → weight (status_at w i) ≡ 0 → weight s ≡ 1 → is_used s ≡ is_used (status_at w i) → Sound (waiting_as s p i w)
 sound_waiting w p i s h known inside light heavy even = record {

@@ -16,7 +16,7 @@ use Rattle.sdd_table.specs.declared.status.Status.TheVariants as status
 use Rattle.sdd_table.specs.declared.status.Cell.{Cell}
 use Rattle.sdd_table.specs.declared.status.Cell.TheVariants as cell
 use Rattle.sdd_table.specs.declared.status.LocalState.{LocalState}
-use Rattle.sdd_table.proofs.BagInvariantLemmas.{Calm, calm, reclaims_next, due_waiting, sound_taken, gives_given, times_set, sound_local}
+use Rattle.sdd_table.proofs.BagInvariantLemmas.{times_recalled, Calm, calm, reclaims_next, due_waiting, sound_taken, gives_given, times_set, sound_local}
 
 -- what giving owners back adds to the current bag of p
 abbrev pub Grows : {T : Type 0} → ℕ → State T → State T → Type 0
@@ -79,14 +79,6 @@ grows_all w p (h ∷ hs) sound known =
     grows_then p w (given p h w) (given_all p hs (given p h w)) (grows_given w p h known) (grows_all (given p h w) p hs g.sound (omega (arith, known, g.known)))
 
 -- the place that came last is due, and in the same bags as often
-times_recalled : (j : ℕ) (m : ParticipantState) → held_times j (recalled m) ≡ held_times j m
-times_recalled j m =
-    let n = length m.current - 1 in
-    let parts : times j (take n m.current ++ drop n m.current) ≡ times j (take n m.current) + times j (drop n m.current) = sum_by-append (λ k. hit k j) (take n m.current) (drop n m.current) in
-    let whole : times j (take n m.current ++ drop n m.current) ≡ times j m.current = ap (times j) (take-append-drop n m.current) in
-    let dues : times j (drop n m.current ++ m.due) ≡ times j (drop n m.current) + times j m.due = sum_by-append (λ k. hit k j) (drop n m.current) m.due in
-    omega (arith, parts, whole, dues)
-
 sound_recalled : {T : Type 0} (w : State T) (p : ℕ) → Sound w → p < length w.participants → Sound (changing p recalled w)
 sound_recalled w p h known = record {
   sizes = h.sizes;

@@ -1,6 +1,8 @@
 pub mod ListLemmas
-pub mod SlotLemmas
+pub mod ChainLemmas
+pub mod ThreadLemmas
 pub mod BagInvariantLemmas
+pub mod SlotLemmas
 pub mod RotationLemmas
 pub mod PlaceLemmas
 pub mod SweepLemmas

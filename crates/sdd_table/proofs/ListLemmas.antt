@@ -1,5 +1,5 @@
 -- names of the places whose use weighs 1, as that use changes
-use Rattle.std.proofs.Common.{◌≡◌, ◌≢◌, ℕ, zero, suc, ◌+◌, ◌<◌, ◌≤◌, List, [], ◌∷◌, ◌++◌, length, map, get_or, set, refl, sym, ap, ◌∙◌, arith, subst, get_or-set_same, get_or-set_other, inl, inr}
+use Rattle.std.proofs.Common.{◌≡◌, ◌≢◌, ℕ, zero, suc, ◌+◌, ◌<◌, ◌≤◌, List, [], ◌∷◌, ◌++◌, length, map, get_or, set, replicate, refl, sym, ap, ◌∙◌, arith, subst, get_or-set_same, get_or-set_other, inl, inr}
 use Rattle.std.proofs.lemmas.List.{map-set, length-map, length-append, get_or-map}
 use Rattle.std.proofs.lemmas.List.{map-append}
 use Rattle.std.proofs.lemmas.List.Sums.{sum_by-set, sum_by-cons, sum_by-append}
@@ -65,6 +65,14 @@ extended_at (x ∷ xs) (suc j) = omega (arith, extended_at xs j, hit-suc (length
 
 pub extended : (xs : List ℕ) (n j : ℕ) → n ≡ length xs → get_or (xs ++ 1 ∷ []) j 0 ≡ get_or xs j 0 + hit n j
 extended xs n j e = extended_at xs j ∙ ap (λ (m : ℕ). get_or xs j 0 + hit m j) (sym e)
+
+pub replicate-push : {X : Type 0} (n : ℕ) (x : X) → replicate (n + 1) x ≡ replicate n x ++ x ∷ []
+replicate-push zero x = refl
+replicate-push {X} (suc n) x = let e : suc n + 1 ≡ suc (n + 1) = omega arith in ap (λ (k : ℕ). replicate k x) e ∙ ap (λ (xs : List X). x ∷ xs) (replicate-push n x)
+
+pub map-replicate : {X Y : Type 0} (f : X → Y) (n : ℕ) (x : X) → map f (replicate n x) ≡ replicate n (f x)
+map-replicate f zero x = refl
+map-replicate f (suc n) x = ap (λ (ys : List _). f x ∷ ys) (map-replicate f n x)
 
 module _ {X : Type 0} (f : X → ℕ) where
   pub lists_same : (all : List X) (i : ℕ) (s d : X) (names : List ℕ) → i < length all → f s ≡ f (get_or all i d) → Lists f all names → Lists f (set all i s) names

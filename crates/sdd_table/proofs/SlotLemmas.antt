@@ -8,7 +8,7 @@ use Rattle.std.proofs.Math.Seq.{map-set_same}
 use Rattle.std.proofs.lemmas.List.Elements.{All-set, All-get_or}
 use Rattle.std.proofs.lemmas.List.Sums.{sum_by-set, sum_by-cons, sum_by-append, get_or-le-sum_by}
 use Rattle.sdd_table.specs.State.{State, ParticipantState, put_participant, retired, waiting_as, is_job, nobody, status_at, participant_at, left_due, changing, is_present, TakesDue, taken, is_used, usage, vacancy, idleness, emptiness, vacated, cell_at}
-use Rattle.sdd_table.proofs.ListLemmas.{lists_same, lists_names, lists_pop, lists_push}
+use Rattle.sdd_table.proofs.ListLemmas.{replicate-push, map-replicate, lists_same, lists_names, lists_pop, lists_push}
 use Rattle.std.proofs.lemmas.Bool.{false≢true}
 use Rattle.sdd_table.specs.declared.status.Cell.{Cell}
 use Rattle.sdd_table.specs.declared.status.Cell.TheVariants as cell
@@ -20,24 +20,13 @@ use Rattle.std.proofs.lemmas.List.{set-get_or, get_or_default, nil_from_length, 
 use Rattle.std.proofs.lemmas.Bool.Decides.{nat_tests}
 use Rattle.std.proofs.Math.ListN.{get_or-map as at_map}
 use Rattle.sdd_table.specs.State.{weight}
-use Rattle.sdd_table.specs.View.{IsTable, IsFreeList, Lists, BagsHaveRoom, waiting, participant_state, state_of}
-use Rattle.sdd_table.specs.declared.bags.Participant.{Participant}
+use Rattle.sdd_table.specs.View.{IsTable, IsFreeList, Lists, state_of}
+use Rattle.sdd_table.specs.Place.{held_times}
+use Rattle.sdd_table.specs.Chains.{Shown, participant_in, changed_in}
+use Rattle.sdd_table.proofs.BagInvariantLemmas.{times_set, times_put, times_left, weight_up, weight_down, weight_same}
+use Rattle.sdd_table.proofs.ThreadLemmas.{none_held}
 use Rattle.sdd_table.specs.declared.status.Status.{Status}
 use Rattle.sdd_table.specs.declared.status.Status.TheVariants as status
-
-pub weight-one : (s : Status) → weight s ≤ 1
-weight-one status.Free = omega arith
-weight-one status.Owned = omega arith
-weight-one (status.Shared n) = omega arith
-weight-one status.Raw = omega arith
-weight-one (status.Collected n) = omega arith
-weight-one status.Retired = omega arith
-weight-one status.Idle = omega arith
-weight-one status.Deferred = omega arith
-
-pub weight-le : (ss : List Status) → sum_by weight ss ≤ length ss
-weight-le [] = omega arith
-weight-le (s ∷ ss) = omega (arith, weight-le ss, sum_by-cons weight s ss, weight-one s)
 
 pub used-vacancy : (s : Status) → is_used s ≡ true → vacancy s ≡ 0
 used-vacancy status.Free h = cc
@@ -92,89 +81,48 @@ vacant-is status.Deferred h = absurd (omega arith)
 pub filled_same : {T J : Type 0} (a : Inside T J) (i : ℕ) (s : Status) → IsTable a → is_used s ≡ is_used (get_or a.states.items i status.Free) → map is_some a.values.items ≡ map is_used (set a.states.items i s)
 filled_same a i s h e = h.filled ∙ sym (map-set_same is_used a.states.items i s status.Free e)
 
--- where a place doesn't wait yet, a bag has room for it
-pub has_room : (n : ℕ) (ss : List Status) (ms : List Participant) (i p : ℕ) (q : Participant) → n ≡ length ss → sum_by waiting ms ≤ sum_by weight ss → All (BagsHaveRoom n) ms → i < length ss → weight (get_or ss i status.Free) ≡ 0 → p < length ms → q ≡ get_or ms p q → length q.current.items < vec_capacity q.current
-has_room n ss ms i p q e waits room inside light known is =
-    let after = sum_by-set weight ss i status.Retired status.Free inside in
-    let all = weight-le (set ss i status.Retired) in
-    let size = length-set {A = Status} ss i status.Retired in
-    let part = get_or-le-sum_by waiting ms p q known in
-    let mine : BagsHaveRoom n (get_or ms p q) = All-get_or (BagsHaveRoom n) ms p q known room in
-    let cap = mine.current in
-    let same = ap waiting is in
-    let caps = ap (λ (x : Participant). vec_capacity x.current) is in
-    omega arith
-
--- where a place waits in the current bag, there is room for it among what is due
-pub due_room : (n : ℕ) (ss : List Status) (ms : List Participant) (p : ℕ) (q : Participant) → n ≡ length ss → sum_by waiting ms ≤ sum_by weight ss → All (BagsHaveRoom n) ms → p < length ms → q ≡ get_or ms p q → length q.current.items ≢ 0 → length q.due.items < vec_capacity q.due
-due_room n ss ms p q e waits room known is some =
-    let all = weight-le ss in
-    let part = get_or-le-sum_by waiting ms p q known in
-    let mine : BagsHaveRoom n (get_or ms p q) = All-get_or (BagsHaveRoom n) ms p q known room in
-    let cap = mine.due in
-    let same = ap waiting is in
-    let caps = ap (λ (x : Participant). vec_capacity x.due) is in
-    omega arith
-
-pub get_or-map_at : (ms : List Participant) (p : ℕ) (q : Participant) → p < length ms → q ≡ get_or ms p q → get_or (map participant_state ms) p nobody ≡ participant_state q
-get_or-map_at ms p q known is = get_or-map participant_state ms p q nobody known ∙ ap participant_state (sym is)
-
--- one participant is changed by f
-pub participants_after : (f : ParticipantState → ParticipantState) (ms : List Participant) (p : ℕ) (q q' : Participant) → p < length ms → q ≡ get_or ms p q → participant_state q' ≡ f (participant_state q) → map participant_state (set ms p q') ≡ set (map participant_state ms) p (f (get_or (map participant_state ms) p nobody))
-participants_after f ms p q q' known is shown =
-    let there : get_or (map participant_state ms) p nobody ≡ participant_state q = get_or-map_at ms p q known is in
-    map-set participant_state ms p q' ∙ ap (λ (m : ParticipantState). set (map participant_state ms) p m) (shown ∙ ap f (sym there))
-
--- what another element of a bag leaves
-pub next_none : (q : Participant) (v : Vec ℕ) (r : Option ℕ) → q.due.items ≡ v.items ++ option_to_list r → MatchOption r (length q.due.items ≡ 0) (λ _. Unit {0}) → IfNone r (((participant_state q).due ≡ []) × (participant_state (record q { due = v }) ≡ participant_state q))
-next_none q v None e z =
-    let same : v.items ≡ q.due.items = sym (e ∙ append-nil v.items) in
-    let none : q.due.items ≡ [] = nil_from_length q.due.items z in
-    (ap reverse none, ap (λ (xs : List ℕ). record (participant_state q) { due = reverse xs }) same)
-next_none q v (Some i) e z = tt
-
-pub next_taken : (q : Participant) (v : Vec ℕ) (r : Option ℕ) → q.due.items ≡ v.items ++ option_to_list r → IfSome r (λ i. (is : List ℕ) × ((participant_state q).due ≡ i ∷ is) × (participant_state (record q { due = v }) ≡ left_due is (participant_state q)))
-next_taken q v None e = tt
-next_taken q v (Some i) e = (reverse v.items, ap reverse e ∙ reverse-append v.items (i ∷ []), refl)
-
--- a change of one participant alone
-pub changed_view : {T J : Type 0} (a : Inside T J) (p : ℕ) (f : ParticipantState → ParticipantState) (q q' : Participant) → p < length a.participants.items → q ≡ get_or a.participants.items p q → participant_state q' ≡ f (participant_state q) → state_of (record a { participants = with_item a.participants p q' }) ≡ changing p f (state_of a)
-changed_view a p f q q' known is shown =
-    let w = state_of a in
-    let put : State _ → List ParticipantState → State _ = λ (s : State _) (ms : List ParticipantState). record s { participants = ms } in
-    ap (put w) (participants_after f a.participants.items p q q' known is shown)
-
-pub room_set : (n : ℕ) (ms : List Participant) (p : ℕ) (q q' : Participant) → All (BagsHaveRoom n) ms → p < length ms → q ≡ get_or ms p q → (BagsHaveRoom n q → BagsHaveRoom n q') → All (BagsHaveRoom n) (set ms p q')
-room_set n ms p q q' all known is keeps =
-    let mine : BagsHaveRoom n (get_or ms p q) = All-get_or (BagsHaveRoom n) ms p q known all in
-    let mine' : BagsHaveRoom n q = subst (λ (x : Participant). BagsHaveRoom n x) (sym is) mine in
-    All-set (BagsHaveRoom n) ms p q' (keeps mine') all
-
-pub changed_invariant : {T J : Type 0} (a : Inside T J) (p : ℕ) (q q' : Participant) → IsTable a → p < length a.participants.items → q ≡ get_or a.participants.items p q → (BagsHaveRoom (length a.states.items) q → BagsHaveRoom (length a.states.items) q') → waiting q' ≤ waiting q → IsTable (record a { participants = with_item a.participants p q' })
-changed_invariant a p q q' h known is keeps less =
-    let parts = sum_by-set waiting a.participants.items p q' q known in
-    let same = ap waiting is in
-    let before = h.waits in
-    record {
+-- participants change, and their bags hold what they held
+pub changed_invariant : {T J : Type 0} (a : Inside T J) (p : ℕ) (f : ParticipantState → ParticipantState) (s : Shown) → IsTable a → p < length a.participants.all → s ≡ changed_in p f a.participants → ((j : ℕ) → held_times j (f (participant_in a.participants.all p)) ≡ held_times j (participant_in a.participants.all p)) → IsTable (record a { participants = s })
+changed_invariant {T} {J} a p f s h known is same =
+    let ms = a.participants.all in
+    let whole : IsTable {T = T} {J = J} (record a { participants = changed_in p f a.participants }) = record {
       filled = h.filled;
       tally = h.tally;
-      room = room_set (length a.states.items) a.participants.items p q q' h.room known is keeps;
-      waits = omega arith;
+      links = h.links;
+      held = λ j. omega (arith, h.held j, times_set ms p j (f (participant_in ms p)) known, same j);
       kinds = h.kinds;
       slots = h.slots;
       places = h.places;
       cells = h.cells;
-    }
+    } in
+    subst (λ (z : Shown). IsTable {T = T} {J = J} (record a { participants = z })) (sym is) whole
+
+pub changed_view : {T J : Type 0} (a : Inside T J) (p : ℕ) (f : ParticipantState → ParticipantState) (s : Shown) → s ≡ changed_in p f a.participants → state_of (record a { participants = s }) ≡ changing p f (state_of a)
+changed_view a p f s is = ap (λ (z : Shown). record (state_of a) { participants = z.all }) is
+
+-- what the bags hold once place i is used in another way: as before, with i, without i
+pub same_held : {T J : Type 0} (a : Inside T J) (i : ℕ) (s : Status) → IsTable a → i < length a.states.items → weight s ≡ weight (get_or a.states.items i status.Free) → (j : ℕ) → sum_by (held_times j) a.participants.all ≡ weight (get_or (set a.states.items i s) j status.Free)
+same_held a i s h inside even j = h.held j ∙ sym (weight_same a.states.items i j s inside even)
+
+pub waiting_held : {T J : Type 0} (a : Inside T J) (p i : ℕ) (s : Status) (m : Shown) → IsTable a → p < length a.participants.all → i < length a.states.items → weight (get_or a.states.items i status.Free) ≡ 0 → weight s ≡ 1 → m ≡ changed_in p (put_participant i) a.participants → (j : ℕ) → sum_by (held_times j) m.all ≡ weight (get_or (set a.states.items i s) j status.Free)
+waiting_held a p i s m h known inside light heavy is j =
+    let ms = a.participants.all in
+    ap (λ (z : Shown). sum_by (held_times j) z.all) is ∙ omega (arith, h.held j, times_set ms p j (put_participant i (participant_in ms p)) known, times_put i j (participant_in ms p), weight_up a.states.items i j s inside light heavy)
+
+pub taken_held : {T J : Type 0} (a : Inside T J) (p i : ℕ) (is : List ℕ) (s : Status) (m : Shown) → IsTable a → p < length a.participants.all → i < length a.states.items → weight (get_or a.states.items i status.Free) ≡ 1 → weight s ≡ 0 → (participant_in a.participants.all p).due ≡ i ∷ is → m ≡ changed_in p (left_due is) a.participants → (j : ℕ) → sum_by (held_times j) m.all ≡ weight (get_or (set a.states.items i s) j status.Free)
+taken_held a p i is s m h known inside heavy light was to j =
+    let ms = a.participants.all in
+    ap (λ (z : Shown). sum_by (held_times j) z.all) to ∙ omega (arith, h.held j, times_set ms p j (left_due is (participant_in ms p)) known, times_left i j is (participant_in ms p) was, weight_down a.states.items i j s inside heavy light)
 
 -- place i is used in another way, whatever else changes
-pub states_invariant : {T J : Type 0} (a : Inside T J) (v : Vec (Option T)) (jb : Vec (Option J)) (u : ℕ) (ms : Vec Participant) (fr idl : Vec ℕ) (i : ℕ) (s : Status) → IsTable a → length jb.items ≡ length a.jobs.items → is_job s ≡ is_job (get_or a.states.items i status.Free) → map is_some v.items ≡ map is_used (set a.states.items i s) → u ≡ sum_by usage (set a.states.items i s) → All (BagsHaveRoom (length a.states.items)) ms.items → sum_by waiting ms.items ≤ sum_by weight (set a.states.items i s) → Lists vacancy (set a.states.items i s) fr.items → length a.states.items ≤ vec_capacity fr → Lists idleness (set a.states.items i s) idl.items → length a.states.items ≤ vec_capacity idl → IsTable (record a { used = u; values = v; jobs = jb; states = with_item a.states i s; participants = ms; free = fr; idle = idl })
-states_invariant a v jb u ms fr idl i s h many kind fill tally room waits slots roomy places roomier =
+pub states_invariant : {T J : Type 0} (a : Inside T J) (v : Vec (Option T)) (jb : Vec (Option J)) (u : ℕ) (m : Shown) (fr idl : Vec ℕ) (i : ℕ) (s : Status) → IsTable a → length jb.items ≡ length a.jobs.items → is_job s ≡ is_job (get_or a.states.items i status.Free) → map is_some v.items ≡ map is_used (set a.states.items i s) → u ≡ sum_by usage (set a.states.items i s) → m.places ≡ a.participants.places → ((j : ℕ) → sum_by (held_times j) m.all ≡ weight (get_or (set a.states.items i s) j status.Free)) → Lists vacancy (set a.states.items i s) fr.items → length a.states.items ≤ vec_capacity fr → Lists idleness (set a.states.items i s) idl.items → length a.states.items ≤ vec_capacity idl → IsTable (record a { used = u; values = v; jobs = jb; states = with_item a.states i s; participants = m; free = fr; idle = idl })
+states_invariant a v jb u m fr idl i s h many kind fill tally links held slots roomy places roomier =
     let size = length-set {A = Status} a.states.items i s in
     record {
       filled = fill;
       tally = tally;
-      room = subst (λ (m : ℕ). All (BagsHaveRoom m) ms.items) (sym size) room;
-      waits = waits;
+      links = links ∙ h.links ∙ sym size;
+      held = held;
       kinds = map-set_same is_job a.states.items i s status.Free kind ∙ h.kinds ∙ ap (λ (n : ℕ). replicate a.slots false ++ replicate n true) (sym many);
       slots = record { lists = slots; room = omega (arith, size, roomy) };
       places = record { lists = places; room = omega (arith, size, roomier) };
@@ -184,13 +132,11 @@ states_invariant a v jb u ms fr idl i s h many kind fill tally room waits slots 
 -- an item's use is another one, and it waits neither before nor after
 pub status_invariant : {T J : Type 0} (a : Inside T J) (i : ℕ) (s : Status) → IsTable a → i < length a.states.items → is_used (get_or a.states.items i status.Free) ≡ true → is_used s ≡ true → weight (get_or a.states.items i status.Free) ≡ weight s → IsTable (record a { states = with_item a.states i s })
 status_invariant a i s h inside was is even =
-    let sums = sum_by-set weight a.states.items i s status.Free inside in
     let tallies = sum_by-set usage a.states.items i s status.Free inside in
     let one : usage (get_or a.states.items i status.Free) ≡ 1 = ap (λ (b : Bool). cond b 1 0) was in
     let other : usage s ≡ 1 = ap (λ (b : Bool). cond b 1 0) is in
-    let before = h.waits in
     let t = h.tally in
-    states_invariant a a.values a.jobs a.used a.participants a.free a.idle i s h refl (used-job s is ∙ sym (used-job _ was)) (filled_same a i s h (is ∙ sym was)) (omega (arith, t, tallies, one, other)) h.room (omega (arith, before, sums, even))
+    states_invariant a a.values a.jobs a.used a.participants a.free a.idle i s h refl (used-job s is ∙ sym (used-job _ was)) (filled_same a i s h (is ∙ sym was)) (omega (arith, t, tallies, one, other)) refl (same_held a i s h inside (sym even))
     (lists_same vacancy a.states.items i s status.Free a.free.items inside (used-vacancy s is ∙ sym (used-vacancy _ was)) h.slots.lists) h.slots.room
     (lists_same idleness a.states.items i s status.Free a.idle.items inside (used-idleness s is ∙ sym (used-idleness _ was)) h.places.lists) h.places.room
 
@@ -199,32 +145,26 @@ pub value_there : {T J : Type 0} (a : Inside T J) (i : ℕ) → IsTable a → is
 value_there a i h =
     sym (at_map is_some a.values.items i None) ∙ ap (λ (bs : List Bool). get_or bs i false) h.filled ∙ at_map is_used a.states.items i status.Free
 
-pub retired_view : {T J : Type 0} (a : Inside T J) (p i : ℕ) (q q' : Participant) → p < length a.participants.items → q ≡ get_or a.participants.items p q → participant_state q' ≡ put_participant i (participant_state q) → state_of (record a { states = with_item a.states i status.Retired; participants = with_item a.participants p q' }) ≡ retired p i (state_of a)
-retired_view a p i q q' known is shown =
-    let w = state_of a in
-    let put : State _ → List ParticipantState → State _ = λ (s : State _) (ms : List ParticipantState). record s { states = set a.states.items i status.Retired; participants = ms } in
-    ap (put w) (participants_after (put_participant i) a.participants.items p q q' known is shown)
+pub waiting_view : {T J : Type 0} (a : Inside T J) (p i : ℕ) (s : Status) (m : Shown) → m ≡ changed_in p (put_participant i) a.participants → state_of (record a { states = with_item a.states i s; participants = m }) ≡ waiting_as s p i (state_of a)
+waiting_view a p i s m is = ap (λ (z : Shown). record (state_of a) { states = set a.states.items i s; participants = z.all }) is
 
-pub retired_invariant : {T J : Type 0} (a : Inside T J) (p i : ℕ) (q q' : Participant) → IsTable a → p < length a.participants.items → i < length a.states.items → is_used (get_or a.states.items i status.Free) ≡ true → weight (get_or a.states.items i status.Free) ≡ 0 → q ≡ get_or a.participants.items p q → ((n : ℕ) → BagsHaveRoom n q → BagsHaveRoom n q') → waiting q' ≡ waiting q + 1 → IsTable (record a { states = with_item a.states i status.Retired; participants = with_item a.participants p q' })
-retired_invariant a p i q q' h known inside was light is keeps more =
+pub retired_invariant : {T J : Type 0} (a : Inside T J) (p i : ℕ) (m : Shown) → IsTable a → p < length a.participants.all → i < length a.states.items → is_used (get_or a.states.items i status.Free) ≡ true → weight (get_or a.states.items i status.Free) ≡ 0 → m ≡ changed_in p (put_participant i) a.participants → IsTable (record a { states = with_item a.states i status.Retired; participants = m })
+retired_invariant a p i m h known inside was light is =
     let s = status.Retired in
-    let sums = sum_by-set weight a.states.items i s status.Free inside in
     let tallies = sum_by-set usage a.states.items i s status.Free inside in
-    let parts = sum_by-set waiting a.participants.items p q' q known in
-    let same = ap waiting is in
     let one : usage (get_or a.states.items i status.Free) ≡ 1 = ap (λ (b : Bool). cond b 1 0) was in
-    let before = h.waits in
     let t = h.tally in
-    states_invariant a a.values a.jobs a.used (with_item a.participants p q') a.free a.idle i s h refl (sym (used-job _ was)) (filled_same a i s h (sym was)) (omega (arith, t, tallies, one)) (room_set (length a.states.items) a.participants.items p q q' h.room known is (keeps _)) (omega (arith, before, sums, parts, same, light, more))
+    states_invariant a a.values a.jobs a.used m a.free a.idle i s h refl (sym (used-job _ was)) (filled_same a i s h (sym was)) (omega (arith, t, tallies, one)) (ap (λ (z : Shown). z.places) is) (waiting_held a p i s m h known inside light refl is)
     (lists_same vacancy a.states.items i s status.Free a.free.items inside (sym (used-vacancy _ was)) h.slots.lists) h.slots.room
     (lists_same idleness a.states.items i s status.Free a.idle.items inside (sym (used-idleness _ was)) h.places.lists) h.places.room
 
 -- what is asked of the state, of the fields
-pub known_in : {T J : Type 0} (a : Inside T J) (w : State T) (p : ℕ) → state_of a ≡ w → p < length w.participants → p < length a.participants.items
-known_in a w p e h =
-    let P : State _ → Type 0 = λ s. p < length s.participants in
-    let k : p < length (map participant_state a.participants.items) = subst P (sym e) h in
-    rw length-map at k
+pub known_in : {T J : Type 0} (a : Inside T J) (w : State T) (p : ℕ) → state_of a ≡ w → p < length w.participants → p < length a.participants.all
+known_in a w p e h = let P : State _ → Type 0 = λ s. p < length s.participants in subst P (sym e) h
+
+-- a place that doesn't wait is in no bag
+pub in_none : {T J : Type 0} (a : Inside T J) (i : ℕ) → IsTable a → weight (get_or a.states.items i status.Free) ≡ 0 → sum_by (held_times i) a.participants.all ≡ 0
+in_none a i h light = h.held i ∙ light
 
 pub slot_in : {T J : Type 0} (a : Inside T J) (w : State T) (i : ℕ) → state_of a ≡ w → i < length w.states → i < length a.states.items
 slot_in a w i e h = let P : State _ → Type 0 = λ s. i < length s.states in subst P (sym e) h
@@ -237,10 +177,6 @@ used_in a w i b e h = let P : State _ → Type 0 = λ t. is_used (status_at t i)
 
 pub weight_in : {T J : Type 0} (a : Inside T J) (w : State T) (i n : ℕ) → state_of a ≡ w → weight (status_at w i) ≡ n → weight (get_or a.states.items i status.Free) ≡ n
 weight_in a w i n e h = let P : State _ → Type 0 = λ t. weight (status_at t i) ≡ n in subst P (sym e) h
-
-pub empty_then : (r : Option ℕ) (v v' : Vec ℕ) → MatchOption r ((vec_len v ≡ 0) × (vec_len v' ≡ 0)) (λ _. vec_len v' + 1 ≡ vec_len v) → MatchOption r (length v.items ≡ 0) (λ _. Unit {0})
-empty_then None v v' h = sym v.ok.0 ∙ h.0
-empty_then (Some i) v v' h = tt
 
 pub no_value : {T J : Type 0} (a : Inside T J) (i : ℕ) (x : Option T) → IsTable a → is_used (get_or a.states.items i status.Free) ≡ true → x ≡ get_or a.values.items i x → x ≡ None → ⊥
 no_value a i x h is e n =
@@ -260,8 +196,8 @@ pub written_invariant : {T J : Type 0} (a : Inside T J) (i : ℕ) (v : T) → Is
 written_invariant a i v h is = record {
   filled = map-set_same is_some a.values.items i (Some v) None (sym (value_there a i h ∙ is)) ∙ h.filled;
   tally = h.tally;
-  room = h.room;
-  waits = h.waits;
+  links = h.links;
+  held = h.held;
   kinds = h.kinds;
   slots = h.slots;
   places = h.places;
@@ -277,34 +213,22 @@ a_value a i x v h inside is e n =
     let f : true ≡ is_some (get_or a.values.items i None) = ap is_some (sym n ∙ e ∙ other) in
     cc
 
-pub list_all_members : (n : ℕ) (ms : List Participant) → list_all (is_present n) (map participant_state ms) ≡ list_all (λ m. is_present n (participant_state m)) ms
-list_all_members n [] = refl
-list_all_members n (m ∷ ms) = ap (λ (b : Bool). is_present n (participant_state m) && b) (list_all_members n ms)
-
 pub filled_set : {T J : Type 0} (a : Inside T J) (i : ℕ) (x : Option T) (s : Status) → IsTable a → is_some x ≡ is_used s → map is_some (set a.values.items i x) ≡ map is_used (set a.states.items i s)
 filled_set a i x s h e =
     map-set is_some a.values.items i x ∙ ap (λ (bs : List Bool). set bs i (is_some x)) h.filled ∙ ap (λ (b : Bool). set (map is_used a.states.items) i b) e ∙ sym (map-set is_used a.states.items i s)
 
-pub same_view : {T J : Type 0} (a : Inside T J) (p : ℕ) (q q' : Participant) → p < length a.participants.items → q ≡ get_or a.participants.items p q → participant_state q' ≡ participant_state q → state_of (record a { participants = with_item a.participants p q' }) ≡ state_of a
-same_view a p q q' known is shown =
-    let put : List ParticipantState → State _ = λ (ms : List ParticipantState). record (state_of a) { participants = ms } in
-    changed_view a p (λ m. m) q q' known is shown ∙ ap put (set-get_or (map participant_state a.participants.items) p nobody)
-
-pub due_in : {T J : Type 0} (a : Inside T J) (p : ℕ) (q : Participant) → p < length a.participants.items → q ≡ get_or a.participants.items p q → participant_at (state_of a) p ≡ participant_state q
-due_in a p q known is = get_or-map_at a.participants.items p q known is
-
 -- place i was due and is vacated, whatever the stacks are
-pub taken_result : {T J : Type 0} (a : Inside T J) (w : State T) (p i : ℕ) (is : List ℕ) (q q' : Participant) (x y : Option T) (s : Status) (u : ℕ) (fr idl : Vec ℕ) → state_of a ≡ w → IsTable a → p < length a.participants.items → q ≡ get_or a.participants.items p q → (participant_state q).due ≡ i ∷ is → participant_state q' ≡ left_due is (participant_state q) → i < length a.states.items → s ≡ vacated (get_or a.states.items i status.Free) → x ≡ get_or a.values.items i x → y ≡ None → TakesDue p x w (state_of (record a { used = u; values = with_item a.values i y; states = with_item a.states i s; participants = with_item a.participants p q'; free = fr; idle = idl }))
-taken_result {T} {J} a w p i is q q' x y s u fr idl e h known at was shown inside left val gone =
+pub taken_result : {T J : Type 0} (a : Inside T J) (w : State T) (p i : ℕ) (is : List ℕ) (m : Shown) (x y : Option T) (s : Status) (u : ℕ) (fr idl : Vec ℕ) → state_of a ≡ w → IsTable a → (participant_in a.participants.all p).due ≡ i ∷ is → m ≡ changed_in p (left_due is) a.participants → i < length a.states.items → s ≡ vacated (get_or a.states.items i status.Free) → x ≡ get_or a.values.items i x → y ≡ None → TakesDue p x w (state_of (record a { used = u; values = with_item a.values i y; states = with_item a.states i s; participants = m; free = fr; idle = idl }))
+taken_result {T} {J} a w p i is m x y s u fr idl e h was to inside left val gone =
     let sizes : length (map is_some a.values.items) ≡ length (map is_used a.states.items) = ap length h.filled in
     let within : i < length a.values.items = omega (arith, length-map a.values.items is_some, length-map a.states.items is_used) in
-    let b : Inside T J = record a { used = u; values = with_item a.values i y; states = with_item a.states i s; participants = with_item a.participants p q'; free = fr; idle = idl } in
+    let b : Inside T J = record a { used = u; values = with_item a.values i y; states = with_item a.states i s; participants = m; free = fr; idle = idl } in
     let put : List (Option T) → List Status → List ParticipantState → State T = λ (vs : List (Option T)) (ss : List Status) (ms : List ParticipantState). record (state_of a) { values = vs; states = ss; participants = ms } in
-    let now : state_of b ≡ taken p i is (state_of a) = ap (λ (z : Option T). put (set a.values.items i z) (set a.states.items i s) (map participant_state (set a.participants.items p q'))) gone ∙ ap (λ (z : Status). put (set a.values.items i None) (set a.states.items i z) (map participant_state (set a.participants.items p q'))) left ∙ ap (put (set a.values.items i None) (set a.states.items i (vacated (get_or a.states.items i status.Free)))) (participants_after (left_due is) a.participants.items p q q' known at shown) in
+    let now : state_of b ≡ taken p i is (state_of a) = ap (λ (z : Option T). put (set a.values.items i z) (set a.states.items i s) m.all) gone ∙ ap (λ (z : Status). put (set a.values.items i None) (set a.states.items i z) m.all) left ∙ ap (λ (z : Shown). put (set a.values.items i None) (set a.states.items i (vacated (get_or a.states.items i status.Free))) z.all) to in
     let result : TakesDue p x (state_of a) (state_of b) = record {
       place = i;
       rest = is;
-      was = ap (λ (m : ParticipantState). m.due) (due_in a p q known at) ∙ was;
+      was = was;
       value = get_or_default a.values.items i None x within ∙ sym val;
       now = now;
     } in
@@ -360,28 +284,11 @@ within_values a i h inside =
     omega (arith, length-map a.values.items is_some, length-map a.states.items is_used)
 
 -- slot i is due to p, so it waits
-pub due_waits : {T J : Type 0} (a : Inside T J) (w : State T) (p : ℕ) (q : Participant) (i : ℕ) (is : List ℕ) → state_of a ≡ w → p < length a.participants.items → q ≡ get_or a.participants.items p q → (participant_state q).due ≡ i ∷ is → ((i : ℕ) (is : List ℕ) → (participant_at w p).due ≡ i ∷ is → (i < length w.states) × (weight (status_at w i) ≡ 1)) → (i < length a.states.items) × (weight (get_or a.states.items i status.Free) ≡ 1)
-due_waits a w p q i is e known at was waits =
-    let there : (participant_at w p).due ≡ i ∷ is = ap (λ (s : State _). (participant_at s p).due) (sym e) ∙ ap (λ (m : ParticipantState). m.due) (due_in a p q known at) ∙ was in
+pub due_waits : {T J : Type 0} (a : Inside T J) (w : State T) (p i : ℕ) (is : List ℕ) → state_of a ≡ w → (participant_in a.participants.all p).due ≡ i ∷ is → ((i : ℕ) (is : List ℕ) → (participant_at w p).due ≡ i ∷ is → (i < length w.states) × (weight (status_at w i) ≡ 1)) → (i < length a.states.items) × (weight (get_or a.states.items i status.Free) ≡ 1)
+due_waits a w p i is e was waits =
+    let there : (participant_at w p).due ≡ i ∷ is = ap (λ (s : State _). (participant_at s p).due) (sym e) ∙ was in
     let r = waits i is there in
     (slot_in a w i e r.0, weight_in a w i 1 e r.1)
-
-pub passes : (p : Participant → Bool) (xs : List Participant) → ((k : ℕ) (d : Participant) → k < length xs → p (get_or xs k d) ≡ true) → list_all p xs ≡ true
-passes p [] h = refl
-passes p (x ∷ xs) h =
-    let here : p x ≡ true = h 0 x (omega arith) in
-    let rest : list_all p xs ≡ true = passes p xs (λ k d l. h (suc k) d (omega arith)) in
-    rw here rest
-
-pub absent : (n : ℕ) (m : Participant) → (m.local.nesting ≡ 0 → ⊥) → (m.local.published ≡ n → ⊥) → is_present n (participant_state m) ≡ false
-absent n m opens other = grind (arith, nat_tests)
-
-pub fails : (p : Participant → Bool) (xs : List Participant) (k : ℕ) (d : Participant) → k < length xs → p (get_or xs k d) ≡ false → list_all p xs ≡ false
-fails p [] k d l h = absurd (omega arith)
-fails p (x ∷ xs) zero d l h = rw h
-fails p (x ∷ xs) (suc k) d l h =
-    let rest : list_all p xs ≡ false = fails p xs k d (omega arith) h in
-    elim (p x) as (λ b. (b && list_all p xs) ≡ false) [ true ↦ rest | false ↦ refl ]
 
 pub last_value : {T : Type 0} (ys : List (Option T)) (x : Option T) (v : T) → x ≡ Some v → is_some (get_or (ys ++ x ∷ []) (length ys) None) ≡ true
 last_value [] x v e = ap is_some e
@@ -423,16 +330,14 @@ used_room a i h inside not =
 
 pub placed_invariant : {T J : Type 0} (a : Inside T J) (x : Option T) (i : ℕ) (s : Status) (fr : Vec ℕ) → IsTable a → i < length a.states.items → get_or a.states.items i status.Free ≡ status.Free → is_some x ≡ true → is_used s ≡ true → weight s ≡ 0 → a.free.items ≡ fr.items ++ i ∷ [] → vec_capacity a.free ≤ vec_capacity fr → IsTable (record a { used = a.used + 1; values = with_item a.values i x; states = with_item a.states i s; free = fr })
 placed_invariant a x i s fr h inside was some is light popped cap =
-    let sums = sum_by-set weight a.states.items i s status.Free inside in
     let tallies = sum_by-set usage a.states.items i s status.Free inside in
     let one : usage s ≡ 1 = ap (λ (b : Bool). cond b 1 0) is in
     let none : usage (get_or a.states.items i status.Free) ≡ 0 = ap usage was in
     let heavy : weight (get_or a.states.items i status.Free) ≡ 0 = ap weight was in
     let vacant : vacancy (get_or a.states.items i status.Free) ≡ 1 = ap vacancy was in
     let busy : idleness (get_or a.states.items i status.Free) ≡ 0 = ap idleness was in
-    let before = h.waits in
     let t = h.tally in
-    states_invariant a (with_item a.values i x) a.jobs (a.used + 1) a.participants fr a.idle i s h refl (used-job s is ∙ sym (ap is_job was)) (filled_set a i x s h (some ∙ sym is)) (omega (arith, t, tallies, one, none)) h.room (omega (arith, before, sums, light, heavy))
+    states_invariant a (with_item a.values i x) a.jobs (a.used + 1) a.participants fr a.idle i s h refl (used-job s is ∙ sym (ap is_job was)) (filled_set a i x s h (some ∙ sym is)) (omega (arith, t, tallies, one, none)) refl (same_held a i s h inside (light ∙ sym heavy))
     (lists_pop vacancy a.states.items i s status.Free a.free.items fr.items popped inside vacant (used-vacancy s is) h.slots.lists) (omega (arith, h.slots.room, cap))
     (lists_same idleness a.states.items i s status.Free a.idle.items inside (used-idleness s is ∙ sym busy) h.places.lists) h.places.room
 
@@ -477,42 +382,26 @@ job_room a i h is =
     (r.0, omega (arith, r.1, a.jobs.ok.0))
 
 -- a job is put into a place
-pub deferred_invariant : {T J : Type 0} (a : Inside T J) (p i : ℕ) (q q' : Participant) (jb : Vec (Option J)) (idl : Vec ℕ) → IsTable a → p < length a.participants.items → i < length a.states.items → get_or a.states.items i status.Free ≡ status.Idle → length jb.items ≡ length a.jobs.items → q ≡ get_or a.participants.items p q → ((n : ℕ) → BagsHaveRoom n q → BagsHaveRoom n q') → waiting q' ≡ waiting q + 1 → a.idle.items ≡ idl.items ++ i ∷ [] → vec_capacity a.idle ≤ vec_capacity idl → IsTable (record a { states = with_item a.states i status.Deferred; jobs = jb; participants = with_item a.participants p q'; idle = idl })
-deferred_invariant a p i q q' jb idl h known inside was many is keeps more popped cap =
+pub deferred_invariant : {T J : Type 0} (a : Inside T J) (p i : ℕ) (m : Shown) (jb : Vec (Option J)) (idl : Vec ℕ) → IsTable a → p < length a.participants.all → i < length a.states.items → get_or a.states.items i status.Free ≡ status.Idle → length jb.items ≡ length a.jobs.items → m ≡ changed_in p (put_participant i) a.participants → a.idle.items ≡ idl.items ++ i ∷ [] → vec_capacity a.idle ≤ vec_capacity idl → IsTable (record a { states = with_item a.states i status.Deferred; jobs = jb; participants = m; idle = idl })
+deferred_invariant a p i m jb idl h known inside was many is popped cap =
     let s = status.Deferred in
-    let sums = sum_by-set weight a.states.items i s status.Free inside in
     let tallies = sum_by-set usage a.states.items i s status.Free inside in
-    let parts = sum_by-set waiting a.participants.items p q' q known in
-    let same = ap waiting is in
     let none : usage (get_or a.states.items i status.Free) ≡ 0 = ap usage was in
-    let light : weight (get_or a.states.items i status.Free) ≡ 0 = ap weight was in
-    let before = h.waits in
     let t = h.tally in
-    states_invariant a a.values jb a.used (with_item a.participants p q') a.free idl i s h many (sym (ap is_job was)) (filled_same a i s h (sym (ap is_used was))) (omega (arith, t, tallies, none)) (room_set (length a.states.items) a.participants.items p q q' h.room known is (keeps _)) (omega (arith, before, sums, parts, same, light, more))
+    states_invariant a a.values jb a.used m a.free idl i s h many (sym (ap is_job was)) (filled_same a i s h (sym (ap is_used was))) (omega (arith, t, tallies, none)) (ap (λ (z : Shown). z.places) is) (waiting_held a p i s m h known inside (ap weight was) refl is)
     (lists_same vacancy a.states.items i s status.Free a.free.items inside (sym (ap vacancy was)) h.slots.lists) h.slots.room
     (lists_pop idleness a.states.items i s status.Free a.idle.items idl.items popped inside (ap idleness was) refl h.places.lists) (omega (arith, h.places.room, cap))
 
-pub deferred_view : {T J : Type 0} (a : Inside T J) (p i : ℕ) (q q' : Participant) → p < length a.participants.items → q ≡ get_or a.participants.items p q → participant_state q' ≡ put_participant i (participant_state q) → state_of (record a { states = with_item a.states i status.Deferred; participants = with_item a.participants p q' }) ≡ waiting_as status.Deferred p i (state_of a)
-deferred_view a p i q q' known is shown =
-    let w = state_of a in
-    let put : State _ → List ParticipantState → State _ = λ (s : State _) (ms : List ParticipantState). record s { states = set a.states.items i status.Deferred; participants = ms } in
-    ap (put w) (participants_after (put_participant i) a.participants.items p q q' known is shown)
-
 -- an item that was due is gone
-pub vacated_invariant : {T J : Type 0} (a : Inside T J) (x : Option T) (p i : ℕ) (q q' : Participant) (fr : Vec ℕ) → IsTable a → p < length a.participants.items → i < length a.states.items → get_or a.states.items i status.Free ≡ status.Retired → x ≡ None → q ≡ get_or a.participants.items p q → ((n : ℕ) → BagsHaveRoom n q → BagsHaveRoom n q') → waiting q' + 1 ≡ waiting q → fr.items ≡ a.free.items ++ i ∷ [] → vec_capacity a.free ≤ vec_capacity fr → IsTable (record a { used = a.used - 1; values = with_item a.values i x; states = with_item a.states i status.Free; participants = with_item a.participants p q'; free = fr })
-vacated_invariant a x p i q q' fr h known inside was gone is keeps less pushed cap =
+pub vacated_invariant : {T J : Type 0} (a : Inside T J) (x : Option T) (p i : ℕ) (is : List ℕ) (m : Shown) (fr : Vec ℕ) → IsTable a → p < length a.participants.all → i < length a.states.items → get_or a.states.items i status.Free ≡ status.Retired → x ≡ None → (participant_in a.participants.all p).due ≡ i ∷ is → m ≡ changed_in p (left_due is) a.participants → fr.items ≡ a.free.items ++ i ∷ [] → vec_capacity a.free ≤ vec_capacity fr → IsTable (record a { used = a.used - 1; values = with_item a.values i x; states = with_item a.states i status.Free; participants = m; free = fr })
+vacated_invariant a x p i is m fr h known inside was gone due to pushed cap =
     let s = status.Free in
-    let sums = sum_by-set weight a.states.items i s status.Free inside in
     let tallies = sum_by-set usage a.states.items i s status.Free inside in
-    let parts = sum_by-set waiting a.participants.items p q' q known in
-    let same = ap waiting is in
     let one : usage (get_or a.states.items i status.Free) ≡ 1 = ap usage was in
-    let heavy : weight (get_or a.states.items i status.Free) ≡ 1 = ap weight was in
     let full : vacancy (get_or a.states.items i status.Free) ≡ 0 = ap vacancy was in
     let busy : idleness (get_or a.states.items i status.Free) ≡ 0 = ap idleness was in
-    let before = h.waits in
     let t = h.tally in
-    states_invariant a (with_item a.values i x) a.jobs (a.used - 1) (with_item a.participants p q') fr a.idle i s h refl (sym (ap is_job was)) (filled_set a i x s h (ap is_some gone)) (omega (arith, t, tallies, one)) (room_set (length a.states.items) a.participants.items p q q' h.room known is (keeps _)) (omega (arith, before, sums, parts, same, heavy, less))
+    states_invariant a (with_item a.values i x) a.jobs (a.used - 1) m fr a.idle i s h refl (sym (ap is_job was)) (filled_set a i x s h (ap is_some gone)) (omega (arith, t, tallies, one)) (ap (λ (z : Shown). z.places) to) (taken_held a p i is s m h known inside (ap weight was) refl due to)
     (lists_push vacancy a.states.items i s status.Free a.free.items fr.items pushed inside full refl h.slots.lists) (omega (arith, h.slots.room, cap))
     (lists_same idleness a.states.items i s status.Free a.idle.items inside (sym busy) h.places.lists) h.places.room
 
@@ -520,30 +409,23 @@ vacated_invariant a x p i q q' fr h known inside was gone is keeps less pushed c
 pub removed_invariant : {T J : Type 0} (a : Inside T J) (x : Option T) (i : ℕ) (fr : Vec ℕ) → IsTable a → i < length a.states.items → is_used (get_or a.states.items i status.Free) ≡ true → weight (get_or a.states.items i status.Free) ≡ 0 → x ≡ None → fr.items ≡ a.free.items ++ i ∷ [] → vec_capacity a.free ≤ vec_capacity fr → IsTable (record a { used = a.used - 1; values = with_item a.values i x; states = with_item a.states i status.Free; free = fr })
 removed_invariant a x i fr h inside was light gone pushed cap =
     let s = status.Free in
-    let sums = sum_by-set weight a.states.items i s status.Free inside in
     let tallies = sum_by-set usage a.states.items i s status.Free inside in
     let one : usage (get_or a.states.items i status.Free) ≡ 1 = ap (λ (b : Bool). cond b 1 0) was in
-    let before = h.waits in
     let t = h.tally in
-    states_invariant a (with_item a.values i x) a.jobs (a.used - 1) a.participants fr a.idle i s h refl (sym (used-job _ was)) (filled_set a i x s h (ap is_some gone)) (omega (arith, t, tallies, one)) h.room (omega (arith, before, sums, light))
+    states_invariant a (with_item a.values i x) a.jobs (a.used - 1) a.participants fr a.idle i s h refl (sym (used-job _ was)) (filled_set a i x s h (ap is_some gone)) (omega (arith, t, tallies, one)) refl (same_held a i s h inside (sym light))
     (lists_push vacancy a.states.items i s status.Free a.free.items fr.items pushed inside (used-vacancy _ was) refl h.slots.lists) (omega (arith, h.slots.room, cap))
     (lists_same idleness a.states.items i s status.Free a.idle.items inside (sym (used-idleness _ was)) h.places.lists) h.places.room
 
 -- a job that was due is gone
-pub run_invariant : {T J : Type 0} (a : Inside T J) (x : Option T) (jb : Vec (Option J)) (p i : ℕ) (q q' : Participant) (idl : Vec ℕ) → IsTable a → length jb.items ≡ length a.jobs.items → p < length a.participants.items → i < length a.states.items → get_or a.states.items i status.Free ≡ status.Deferred → x ≡ None → q ≡ get_or a.participants.items p q → ((n : ℕ) → BagsHaveRoom n q → BagsHaveRoom n q') → waiting q' + 1 ≡ waiting q → idl.items ≡ a.idle.items ++ i ∷ [] → vec_capacity a.idle ≤ vec_capacity idl → IsTable (record a { values = with_item a.values i x; jobs = jb; states = with_item a.states i status.Idle; participants = with_item a.participants p q'; idle = idl })
-run_invariant a x jb p i q q' idl h many known inside was gone is keeps less pushed cap =
+pub run_invariant : {T J : Type 0} (a : Inside T J) (x : Option T) (jb : Vec (Option J)) (p i : ℕ) (is : List ℕ) (m : Shown) (idl : Vec ℕ) → IsTable a → length jb.items ≡ length a.jobs.items → p < length a.participants.all → i < length a.states.items → get_or a.states.items i status.Free ≡ status.Deferred → x ≡ None → (participant_in a.participants.all p).due ≡ i ∷ is → m ≡ changed_in p (left_due is) a.participants → idl.items ≡ a.idle.items ++ i ∷ [] → vec_capacity a.idle ≤ vec_capacity idl → IsTable (record a { values = with_item a.values i x; jobs = jb; states = with_item a.states i status.Idle; participants = m; idle = idl })
+run_invariant a x jb p i is m idl h many known inside was gone due to pushed cap =
     let s = status.Idle in
-    let sums = sum_by-set weight a.states.items i s status.Free inside in
     let tallies = sum_by-set usage a.states.items i s status.Free inside in
-    let parts = sum_by-set waiting a.participants.items p q' q known in
-    let same = ap waiting is in
     let none : usage (get_or a.states.items i status.Free) ≡ 0 = ap usage was in
-    let heavy : weight (get_or a.states.items i status.Free) ≡ 1 = ap weight was in
     let full : vacancy (get_or a.states.items i status.Free) ≡ 0 = ap vacancy was in
     let busy : idleness (get_or a.states.items i status.Free) ≡ 0 = ap idleness was in
-    let before = h.waits in
     let t = h.tally in
-    states_invariant a (with_item a.values i x) jb a.used (with_item a.participants p q') a.free idl i s h many (sym (ap is_job was)) (filled_set a i x s h (ap is_some gone)) (omega (arith, t, tallies, none)) (room_set (length a.states.items) a.participants.items p q q' h.room known is (keeps _)) (omega (arith, before, sums, parts, same, heavy, less))
+    states_invariant a (with_item a.values i x) jb a.used m a.free idl i s h many (sym (ap is_job was)) (filled_set a i x s h (ap is_some gone)) (omega (arith, t, tallies, none)) (ap (λ (z : Shown). z.places) to) (taken_held a p i is s m h known inside (ap weight was) refl due to)
     (lists_same vacancy a.states.items i s status.Free a.free.items inside (sym full) h.slots.lists) h.slots.room
     (lists_push idleness a.states.items i s status.Free a.idle.items idl.items pushed inside busy refl h.places.lists) (omega (arith, h.places.room, cap))
 
@@ -551,7 +433,7 @@ run_invariant a x jb p i q q' idl h many known inside was gone is keeps less pus
 pub cell_invariant : {T J : Type 0} (a : Inside T J) (c : ℕ) (k : Cell) (fr : Vec ℕ) → IsTable a → Lists emptiness (set a.cells.items c k) fr.items → length a.cells.items ≤ vec_capacity fr → IsTable (record a { cells = with_item a.cells c k; free_cells = fr })
 cell_invariant a c k fr h lists cap =
     let size = length-set {A = Cell} a.cells.items c k in
-    record { filled = h.filled; tally = h.tally; room = h.room; waits = h.waits; kinds = h.kinds; slots = h.slots; places = h.places; cells = record { lists = lists; room = omega (arith, size, cap) } }
+    record { filled = h.filled; tally = h.tally; links = h.links; held = h.held; kinds = h.kinds; slots = h.slots; places = h.places; cells = record { lists = lists; room = omega (arith, size, cap) } }
 
 pub cell_in : {T J : Type 0} (a : Inside T J) (w : State T) (c : ℕ) → state_of a ≡ w → c < length w.cells → c < length a.cells.items
 cell_in a w c e h = let P : State _ → Type 0 = λ s. c < length s.cells in subst P (sym e) h
@@ -562,28 +444,31 @@ emptiness_in a w c n e h = let P : State _ → Type 0 = λ s. emptiness (cell_at
 pub some_left : (v : Vec ℕ) (b : Bool) → b ≡ (vec_len v == 0) → b ≡ false → length v.items ≢ 0
 some_left v b e h = λ none. let z : vec_len v ≡ 0 = v.ok.0 ∙ none in let t : (vec_len v == 0) ≡ false = sym e ∙ h in grind (arith, nat_tests)
 
-pub replicate-push : {X : Type 0} (n : ℕ) (x : X) → replicate (n + 1) x ≡ replicate n x ++ x ∷ []
-replicate-push zero x = refl
-replicate-push {X} (suc n) x = let e : suc n + 1 ≡ suc (n + 1) = omega arith in ap (λ (k : ℕ). replicate k x) e ∙ ap (λ (xs : List X). x ∷ xs) (replicate-push n x)
-
-pub map-replicate : {X Y : Type 0} (f : X → Y) (n : ℕ) (x : X) → map f (replicate n x) ≡ replicate n (f x)
-map-replicate f zero x = refl
-map-replicate f (suc n) x = ap (λ (ys : List _). f x ∷ ys) (map-replicate f n x)
-
 pub replicate-add : {X : Type 0} (m n : ℕ) (x : X) → replicate (m + n) x ≡ replicate m x ++ replicate n x
 replicate-add zero n x = let e : 0 + n ≡ n = omega arith in ap (λ (k : ℕ). replicate k x) e
 replicate-add {X} (suc m) n x = let e : suc m + n ≡ suc (m + n) = omega arith in ap (λ (k : ℕ). replicate k x) e ∙ ap (λ (xs : List X). x ∷ xs) (replicate-add m n x)
 
+-- nothing waits in a new store
+light_at : (m n j : ℕ) → weight (get_or (replicate m status.Free ++ replicate n status.Idle) j status.Free) ≡ 0
+light_at zero zero j = refl
+light_at zero (suc n) zero = refl
+light_at zero (suc n) (suc j) = light_at zero n j
+light_at (suc m) n zero = refl
+light_at (suc m) n (suc j) = light_at m n j
+
+none_waits : (m n j : ℕ) (ss : List Status) → ss ≡ replicate m status.Free ++ replicate n status.Idle → weight (get_or ss j status.Free) ≡ 0
+none_waits m n j ss s = ap (λ (xs : List Status). weight (get_or xs j status.Free)) s ∙ light_at m n j
+
 -- a new store
-pub table_fresh : {T J : Type 0} (a : Inside T J) (m n : ℕ) → a.used ≡ 0 → a.slots ≡ m → length a.jobs.items ≡ n → a.values.items ≡ replicate (m + n) None → a.states.items ≡ replicate m status.Free ++ replicate n status.Idle → All (BagsHaveRoom (m + n)) a.participants.items → sum_by waiting a.participants.items ≡ 0 → Lists vacancy a.states.items a.free.items → m + n ≤ vec_capacity a.free → Lists idleness a.states.items a.idle.items → m + n ≤ vec_capacity a.idle → IsFreeList emptiness a.cells.items a.free_cells → IsTable a
-table_fresh a m n u first many v s room none free roomy idle roomier cells =
+pub table_fresh : {T J : Type 0} (a : Inside T J) (m n : ℕ) → a.used ≡ 0 → a.slots ≡ m → length a.jobs.items ≡ n → a.values.items ≡ replicate (m + n) None → a.states.items ≡ replicate m status.Free ++ replicate n status.Idle → (k : ℕ) → a.participants ≡ record { places = m + n; all = replicate k nobody } → Lists vacancy a.states.items a.free.items → m + n ≤ vec_capacity a.free → Lists idleness a.states.items a.idle.items → m + n ≤ vec_capacity a.idle → IsFreeList emptiness a.cells.items a.free_cells → IsTable a
+table_fresh a m n u first many v s k new free roomy idle roomier cells =
     let size : length a.states.items ≡ m + n = ap length s ∙ length-append (replicate m status.Free) (replicate n status.Idle) ∙ omega (arith, length-replicate m status.Free, length-replicate n status.Idle) in
     let count : sum_by usage a.states.items ≡ 0 = ap (sum_by usage) s ∙ sum_by-append usage (replicate m status.Free) (replicate n status.Idle) ∙ omega (arith, sum_by-replicate usage m status.Free, sum_by-replicate usage n status.Idle) in
     record {
       filled = ap (map is_some) v ∙ map-replicate is_some (m + n) None ∙ replicate-add m n false ∙ sym (ap (map is_used) s ∙ map-append is_used (replicate m status.Free) (replicate n status.Idle) ∙ ap (λ (bs : List Bool). bs ++ map is_used (replicate n status.Idle)) (map-replicate is_used m status.Free) ∙ ap (λ (bs : List Bool). replicate m false ++ bs) (map-replicate is_used n status.Idle));
       tally = u ∙ sym count;
-      room = subst (λ (k : ℕ). All (BagsHaveRoom k) a.participants.items) (sym size) room;
-      waits = omega (arith, none);
+      links = ap (λ (z : Shown). z.places) new ∙ sym size;
+      held = λ j. ap (λ (z : Shown). sum_by (held_times j) z.all) new ∙ none_held k j ∙ sym (none_waits m n j a.states.items s);
       kinds = ap (map is_job) s ∙ map-append is_job (replicate m status.Free) (replicate n status.Idle) ∙ ap (λ (bs : List Bool). bs ++ map is_job (replicate n status.Idle)) (map-replicate is_job m status.Free) ∙ ap (λ (bs : List Bool). replicate m false ++ bs) (map-replicate is_job n status.Idle) ∙ ap (λ (k : ℕ). replicate k false ++ replicate n true) (sym first) ∙ ap (λ (k : ℕ). replicate a.slots false ++ replicate k true) (sym many);
       slots = record { lists = free; room = omega (arith, size, roomy) };
       places = record { lists = idle; room = omega (arith, size, roomier) };
@@ -603,9 +488,3 @@ unused_if false h = refl
 -- no slot has an item
 pub unused_all : {T J : Type 0} (a : Inside T J) (k : ℕ) → sum_by usage a.states.items ≡ 0 → is_used (get_or a.states.items k status.Free) ≡ false
 unused_all a k none = unused_if _ (let m = at_most usage a.states.items k status.Free refl in omega (arith, m, none))
-
--- no guard is open
-pub none_open : (ms : List Participant) → ((k : ℕ) (d : Participant) → k < length ms → (get_or ms k d).local.nesting ≡ 0) → (p : ℕ) → (get_or (map participant_state ms) p nobody).local.nesting ≡ 0
-none_open [] h p = refl
-none_open (m ∷ ms) h zero = h 0 m (omega arith)
-none_open (m ∷ ms) h (suc p) = none_open ms (λ k d lt. h (suc k) d (omega (arith, lt))) p

@@ -8,8 +8,8 @@ use Rattle.sdd_table.specs.State.{State, ParticipantState, participant_at, nobod
 use Rattle.sdd_table.specs.Steps.{participant_rotated, rotated_each, is_nil, bags_empty, Swept, AllSwept}
 use Rattle.sdd_table.specs.Place.{IsPlace}
 use Rattle.sdd_table.specs.Frame.{OnlyParticipant}
+use Rattle.sdd_table.proofs.ListLemmas.{replicate-push}
 use Rattle.sdd_table.proofs.PlaceLemmas.{Rotates, rotates}
-use Rattle.sdd_table.proofs.SlotLemmas.{replicate-push}
 
 -- how many rotations empty the bags, where nothing is added
 abbrev pub rank_of : List ℕ → List ℕ → List ℕ → ℕ

@@ -4,6 +4,7 @@ pub mod Tokens
 pub mod State
 pub mod Steps
 pub mod Place
+pub mod Chains
 pub mod View
 pub mod Frame
 pub mod Dropping

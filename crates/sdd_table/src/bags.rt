@@ -1,95 +1,210 @@
-//! The bags of a participant, with room for every place from the start.
+//! Participants, and the bags in which places wait for them.
+//!
+//! A bag is a chain: a participant notes which place came into it last, and the link word of each place names the one
+//! that came before it. No place is in two bags, so one word a place serves the bags of all participants, and what
+//! waits takes no memory of its own. A place is put, taken out or recalled, and bags move on, in constant time.
 
-ghost use Rattle.std.specs.Prelude.{◌≡◌, ◌≢◌, ℕ, ◌+◌, ◌<◌, List, [], ◌∷◌, length, MatchOption, IfNone, IfSome, IfOk, vec_capacity};
-ghost use Rattle.sdd_table.specs.State.{nobody, put_participant, bags_moved_on, left_due, recalled};
-ghost use Rattle.sdd_table.specs.View.{BagsHaveRoom, participant_state, waiting};
+ghost use Rattle.std.specs.Prelude.{◌≡◌, ◌<◌, List, ◌∷◌, [], length, replicate, IfSome, IfNone, IfOk, IsTrue, IsFalse, ℕ, sum_by};
+ghost use Rattle.std.specs.List.{list_all};
+ghost use Rattle.sdd_table.specs.State.{nobody, put_participant, bags_moved_on, left_due, recalled, with_local_state, is_present};
+ghost use Rattle.sdd_table.specs.Steps.{bags_empty};
+ghost use Rattle.sdd_table.specs.Place.{held_times};
+ghost use Rattle.sdd_table.specs.Chains.{participant_in, changed_in};
 
 use crate::status::LocalState;
 use std::alloc::{AllocError, Global};
-use std::mem;
+use std::marker::Model;
 
-/// A participant: its notes, and the places that wait for it.
-#[derive(Drop)]
+/// A participant: its notes, and for each of its bags one more than the place that came into it last, or 0 where the bag
+/// is empty.
+#[derive(Clone, Copy, Drop)]
 pub(crate) struct Participant {
-    pub(crate) local: LocalState,
-    pub(crate) current: Vec<usize>,
-    pub(crate) prior: Vec<usize>,
-    pub(crate) oldest: Vec<usize>,
-    pub(crate) due: Vec<usize>,
+    local: LocalState,
+    current: usize,
+    prior: usize,
+    oldest: usize,
+    due: usize,
+    /// How many places are in the current bag.
+    newest: usize,
 }
 
-impl Participant {
-    /// A participant whose bags have room for `n` places each.
-    pub(crate) fn new(alloc: Global, n: usize) -> Result<Participant, AllocError>
-        ensures shown { IfOk result (λ q. participant_state q ≡ nobody) }
-        ensures room { IfOk result (λ q. BagsHaveRoom n q) }
-        ensures waits { IfOk result (λ q. waiting q ≡ 0) }
+/// All participants. No place is in two of their bags.
+#[derive(Drop)]
+pub(crate) struct Participants {
+    /// One more than the place that came before, for each place in a bag, or 0 where it came first.
+    links: Vec<usize>,
+    all: Vec<Participant>,
+}
+
+/// Invariant: specs/Chains.antt, AreThreaded: each bag is the chain from its head, and no place is in two.
+impl Model for Participants {
+    ghost use Rattle.sdd_table.specs.Chains.{Shown, shown_of, AreThreaded};
+
+    ghost Value = { Shown };
+
+    ghost view = { shown_of };
+
+    ghost invariant = { AreThreaded };
+}
+
+impl Participants {
+    /// `n` participants whose bags are empty, and a link word for each of `places` places.
+    pub(crate) fn new(alloc: Global, n: usize, places: usize) -> Result<Participants, AllocError>
+        ensures { IfOk result (λ q. q ≡ record { places = places; all = replicate n nobody }) }
     {
-        Ok(Participant {
+        let mut links = Vec::with_capacity(alloc, places)?;
+        for _ in 0..places {
+            links.push(0)?;
+        }
+        let mut all = Vec::with_capacity(alloc, n)?;
+        for _ in 0..n {
+            all.push(Participant {
+                local: LocalState {
+                    nesting: 0,
+                    published: 0,
+                    previous: 0,
+                    accelerated: false,
+                    garbage: false,
+                    closings: 0,
+                },
+                current: 0,
+                prior: 0,
+                oldest: 0,
+                due: 0,
+                newest: 0,
+            })?;
+        }
+        Ok(Participants { links, all })
+    }
+
+    /// How many participants there are.
+    pub(crate) fn len(&self) -> usize
+        ensures { result ≡ length self.now.all }
+    {
+        self.all.len()
+    }
+
+    /// What participant `p` notes of itself.
+    pub(crate) fn local(&self, p: usize) -> LocalState
+        requires { p < length self.now.all }
+        ensures { result ≡ (participant_in self.now.all p).local }
+    {
+        self.all[p].local
+    }
+
+    /// Participant `p` notes this of itself.
+    pub(crate) fn set_local(&mut self, p: usize, local: LocalState)
+        requires { p < length self.old.all }
+        ensures { self.new ≡ changed_in p (with_local_state local) self.old }
+    {
+        self.all[p].local = local;
+    }
+
+    /// Place `i`, which is in no bag, waits in the current bag of `p`.
+    pub(crate) fn put(&mut self, p: usize, i: usize)
+        requires participant { p < length self.old.all }
+        requires place { i < self.old.places }
+        requires none { sum_by (held_times i) self.old.all ≡ 0 }
+        ensures { self.new ≡ changed_in p (put_participant i) self.old }
+    {
+        let participant = &mut self.all[p];
+        self.links[i] = participant.current;
+        *participant = Participant {
             local: LocalState {
-                nesting: 0,
-                published: 0,
-                previous: 0,
-                accelerated: false,
-                garbage: false,
-                closings: 0,
+                garbage: true,
+                ..participant.local
             },
-            current: Vec::with_capacity(alloc, n)?,
-            prior: Vec::with_capacity(alloc, n)?,
-            oldest: Vec::with_capacity(alloc, n)?,
-            due: Vec::with_capacity(alloc, n)?,
-        })
-    }
-
-    /// Place `i` waits in the current bag, which has room for it.
-    pub(crate) fn put(&mut self, i: usize)
-        requires { length self.old.current.items < vec_capacity self.old.current }
-        ensures shown { participant_state self.new ≡ put_participant i (participant_state self.old) }
-        ensures room { (n : ℕ) → BagsHaveRoom n self.old → BagsHaveRoom n self.new }
-        ensures waits { waiting self.new ≡ waiting self.old + 1 }
-    {
-        self.local.garbage = true;
-        match self.current.push(i) {
-            Ok(()) => {}
-            Err(_) => unreachable!(),
-        }
-    }
-
-    /// The next place that is due.
-    pub(crate) fn next(&mut self) -> Option<usize>
-        ensures none { IfNone result (((participant_state self.old).due ≡ []) × (participant_state self.new ≡ participant_state self.old)) }
-        ensures taken { IfSome result (λ i. (is : List ℕ) × ((participant_state self.old).due ≡ i ∷ is) × (participant_state self.new ≡ left_due is (participant_state self.old))) }
-        ensures room { (n : ℕ) → BagsHaveRoom n self.old → BagsHaveRoom n self.new }
-        ensures waits { MatchOption result (waiting self.new ≡ waiting self.old) (λ _. waiting self.new + 1 ≡ waiting self.old) }
-    {
-        self.due.pop()
-    }
-
-    /// The place that came last into the current bag is due; there is room for it.
-    pub(crate) fn unretire(&mut self)
-        requires { length self.old.current.items ≢ 0 → length self.old.due.items < vec_capacity self.old.due }
-        ensures shown { participant_state self.new ≡ recalled (participant_state self.old) }
-        ensures room { (n : ℕ) → BagsHaveRoom n self.old → BagsHaveRoom n self.new }
-        ensures waits { waiting self.new ≡ waiting self.old }
-    {
-        let Some(i) = self.current.pop() else {
-            return;
+            current: i + 1,
+            newest: participant.newest + 1,
+            ..*participant
         };
-        match self.due.push(i) {
-            Ok(()) => {}
-            Err(_) => unreachable!(),
-        }
     }
 
-    /// The bags move on, and the oldest is due.
-    pub(crate) fn turn(&mut self)
-        requires { length self.old.due.items ≡ 0 }
-        ensures shown { participant_state self.new ≡ bags_moved_on (participant_state self.old) }
-        ensures room { (n : ℕ) → BagsHaveRoom n self.old → BagsHaveRoom n self.new }
-        ensures waits { waiting self.new ≡ waiting self.old }
+    /// The next place that is due to `p`, which waits no longer.
+    pub(crate) fn next(&mut self, p: usize) -> Option<usize>
+        requires { p < length self.old.all }
+        ensures none { IfNone result (((participant_in self.old.all p).due ≡ []) × (self.new ≡ self.old)) }
+        ensures taken { IfSome result (λ i. (is : List ℕ) × ((participant_in self.old.all p).due ≡ i ∷ is) × (self.new ≡ changed_in p (left_due is) self.old)) }
     {
-        mem::swap(&mut self.due, &mut self.oldest);
-        mem::swap(&mut self.oldest, &mut self.prior);
-        mem::swap(&mut self.prior, &mut self.current);
+        let participant = &mut self.all[p];
+        if participant.due == 0 {
+            return None;
+        }
+        let i = participant.due - 1;
+        participant.due = self.links[i];
+        Some(i)
+    }
+
+    /// How many places wait in the current bag of `p`.
+    pub(crate) fn newest(&self, p: usize) -> usize
+        requires { p < length self.now.all }
+        ensures { result ≡ length (participant_in self.now.all p).current }
+    {
+        self.all[p].newest
+    }
+
+    /// The place that came last into the current bag of `p` is due.
+    pub(crate) fn unretire(&mut self, p: usize)
+        requires { p < length self.old.all }
+        ensures { self.new ≡ changed_in p recalled self.old }
+    {
+        let participant = &mut self.all[p];
+        if participant.current == 0 {
+            return;
+        }
+        let link = &mut self.links[participant.current - 1];
+        let before = *link;
+        *link = participant.due;
+        participant.due = participant.current;
+        participant.current = before;
+        participant.newest -= 1;
+    }
+
+    /// The bags of `p` move on, and the oldest is due.
+    pub(crate) fn turn(&mut self, p: usize)
+        requires participant { p < length self.old.all }
+        requires due { (participant_in self.old.all p).due ≡ [] }
+        ensures { self.new ≡ changed_in p bags_moved_on self.old }
+    {
+        let participant = &mut self.all[p];
+        participant.due = participant.oldest;
+        participant.oldest = participant.prior;
+        participant.prior = participant.current;
+        participant.current = 0;
+        participant.newest = 0;
+    }
+
+    /// Whether nothing waits in the three bags of `p`.
+    pub(crate) fn are_empty(&self, p: usize) -> bool
+        requires { p < length self.now.all }
+        ensures { result ≡ bags_empty (participant_in self.now.all p) }
+    {
+        let participant = &self.all[p];
+        participant.current == 0 && participant.prior == 0 && participant.oldest == 0
+    }
+
+    /// Whether every open guard published this count.
+    pub(crate) fn all_present(&self, count: u64) -> bool
+        ensures { result ≡ list_all (is_present count) self.now.all }
+    {
+        for participant in &self.all {
+            if participant.local.nesting != 0 && participant.local.published != count {
+                return false;
+            }
+        }
+        true
+    }
+
+    /// Whether a guard is open.
+    pub(crate) fn any_open(&self) -> bool
+        ensures open { IsTrue result → (p : ℕ) × (0 < (participant_in self.now.all p).local.nesting) }
+        ensures none { IsFalse result → (p : ℕ) → (participant_in self.now.all p).local.nesting ≡ 0 }
+    {
+        for participant in &self.all {
+            if participant.local.nesting != 0 {
+                return true;
+            }
+        }
+        false
     }
 }

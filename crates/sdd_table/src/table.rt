@@ -6,12 +6,12 @@ ghost use Rattle.std.specs.Borrow.{sem};
 ghost use Rattle.std.specs.Option.Follows.{option_follows_value};
 ghost use Rattle.sdd_table.specs.State.{changing, recalled, IsIdle, NoneIdle, with_status, with_local, IsFree, NoneFree, IsFreeCell, NoCellFree, in_use, IsUnused, waiting_as, status_at, participant_at, value_at, cell_at, rotated_bags, placed, raised, nobody, TakesDue, with_cell, is_present, is_used, weight, idleness, vacancy, emptiness, fresh, slot_freed, usage};
 ghost use Rattle.std.specs.List.{list_all};
-ghost use Rattle.sdd_table.specs.View.{Lists, IsFreeList, BagsHaveRoom, participant_state, waiting};
+ghost use Rattle.sdd_table.specs.View.{Lists, IsFreeList};
 ghost use Rattle.sdd_table.specs.Steps.{bags_empty, NoneOpen};
 ghost use Rattle.sdd_table.specs.Place.{IsOpen};
 ghost use Rattle.sdd_table.specs.Tokens.{kept_slot};
 
-use crate::bags::Participant;
+use crate::bags::Participants;
 use crate::job::Deferred;
 use crate::owner::Kept;
 use crate::sizes::Sizes;
@@ -39,7 +39,7 @@ pub struct Table<T, J: Deferred> {
     jobs: Vec<Option<J>>,
     states: Vec<Status>,
     cells: Vec<Cell>,
-    participants: Vec<Participant>,
+    participants: Participants,
     /// The free slots, the job places without a job and the free cells.
     free: Vec<usize>,
     idle: Vec<usize>,
@@ -47,7 +47,7 @@ pub struct Table<T, J: Deferred> {
 }
 
 /// Invariant: specs/View.antt, IsTable: a value stands in each slot that is used, the stacks of free places name those that
-/// are free, and each bag has room for all.
+/// are free, and the places in bags are those that wait.
 impl<T, J: Deferred> Model for Table<T, J> {
     ghost use Rattle.sdd_table.specs.State.{State};
 
@@ -121,7 +121,7 @@ impl<T, J: Deferred> Table<T, J> {
         requires { p < length self.now.participants }
         ensures { result ≡ (participant_at self.now p).local }
     {
-        self.participants[p].local
+        self.participants.local(p)
     }
 
     /// Participant `p` notes this of itself.
@@ -129,7 +129,7 @@ impl<T, J: Deferred> Table<T, J> {
         requires { p < length self.old.participants }
         ensures { self.new ≡ with_local p local self.old }
     {
-        self.participants[p].local = local;
+        self.participants.set_local(p, local);
     }
 
     /// What is in slot `i` waits in the current bag of `p`.
@@ -141,7 +141,7 @@ impl<T, J: Deferred> Table<T, J> {
         ensures { self.new ≡ waiting_as Status.Retired p i self.old }
     {
         self.states[i] = Status::Retired;
-        self.participants[p].put(i);
+        self.participants.put(p, i);
     }
 
     /// Puts a job into a job place that has none, if there is one; it waits in the current bag of `p`.
@@ -155,7 +155,7 @@ impl<T, J: Deferred> Table<T, J> {
         };
         self.states[i] = Status::Deferred;
         self.jobs[i - self.slots] = Some(job);
-        self.participants[p].put(i);
+        self.participants.put(p, i);
         Ok(())
     }
 
@@ -164,7 +164,7 @@ impl<T, J: Deferred> Table<T, J> {
         requires due { (participant_at self.old p).due ≡ [] }
         ensures { self.new ≡ rotated_bags p self.old }
     {
-        self.participants[p].turn();
+        self.participants.turn(p);
     }
 
     /// How many places wait in the current bag of `p`.
@@ -172,7 +172,7 @@ impl<T, J: Deferred> Table<T, J> {
         requires { p < length self.now.participants }
         ensures { result ≡ length (participant_at self.now p).current }
     {
-        self.participants[p].current.len()
+        self.participants.newest(p)
     }
 
     /// What `p` retired last is due.
@@ -180,7 +180,7 @@ impl<T, J: Deferred> Table<T, J> {
         requires { p < length self.old.participants }
         ensures { self.new ≡ changing p recalled self.old }
     {
-        self.participants[p].unretire();
+        self.participants.unretire(p);
     }
 
     /// Puts a value into a free slot, if there is one.
@@ -219,7 +219,7 @@ impl<T, J: Deferred> Table<T, J> {
         requires waits { (i : ℕ) (is : List ℕ) → (participant_at self.old p).due ≡ i ∷ is → (i < length self.old.states) × (weight (status_at self.old i) ≡ 1) }
         ensures { MatchOption result (((participant_at self.old p).due ≡ []) × (self.new ≡ self.old)) (λ d. TakesDue p d.value self.old self.new) }
     {
-        match self.participants[p].next() {
+        match self.participants.next(p) {
             None => None,
             Some(i) => {
                 if self.states[i].has_item() {
@@ -273,12 +273,7 @@ impl<T, J: Deferred> Table<T, J> {
     pub(crate) fn all_present(&self) -> bool
         ensures { result ≡ list_all (is_present self.now.count) self.now.participants }
     {
-        for m in &self.participants {
-            if m.local.nesting != 0 && m.local.published != self.count {
-                return false;
-            }
-        }
-        true
+        self.participants.all_present(self.count)
     }
 
     /// Whether a guard is open.
@@ -286,12 +281,7 @@ impl<T, J: Deferred> Table<T, J> {
         ensures open { IsTrue result → (p : ℕ) × IsOpen self.now p }
         ensures none { IsFalse result → NoneOpen self.now }
     {
-        for m in &self.participants {
-            if m.local.nesting != 0 {
-                return true;
-            }
-        }
-        false
+        self.participants.any_open()
     }
 
     /// Whether no slot has an item, and every cell is free.
@@ -398,8 +388,7 @@ impl<T, J: Deferred> Table<T, J> {
         requires { p < length self.now.participants }
         ensures { result ≡ bags_empty (participant_at self.now p) }
     {
-        let m = &self.participants[p];
-        m.current.is_empty() && m.prior.is_empty() && m.oldest.is_empty()
+        self.participants.are_empty(p)
     }
 
     /// Rooms for all that the sizes name.
@@ -411,7 +400,7 @@ impl<T, J: Deferred> Table<T, J> {
         let (mut states, free) = free_slots(alloc, sizes.slots, places)?;
         let idle = idle_places(alloc, &mut states, sizes.jobs, places)?;
         let (cells, free_cells) = free_cells(alloc, sizes.cells)?;
-        let participants = new_participants(alloc, sizes.participants, places)?;
+        let participants = Participants::new(alloc, sizes.participants, places)?;
         let jobs = empty_slots(alloc, sizes.jobs)?;
         let values = empty_slots(alloc, places)?;
         Ok(Table {
@@ -553,19 +542,6 @@ fn free_cells(alloc: Global, n: usize) -> Result<(Vec<Cell>, Vec<usize>), AllocE
         free.push(i)?;
     }
     Ok((cells, free))
-}
-
-/// `n` participants whose bags have room for `places` places.
-fn new_participants(alloc: Global, n: usize, places: usize) -> Result<Vec<Participant>, AllocError>
-    ensures participants { IfOk result (λ r. map participant_state r.items ≡ replicate n nobody) }
-    ensures room { IfOk result (λ r. All (BagsHaveRoom places) r.items) }
-    ensures waits { IfOk result (λ r. sum_by waiting r.items ≡ 0) }
-{
-    let mut participants = Vec::with_capacity(alloc, n)?;
-    for _ in 0..n {
-        participants.push(Participant::new(alloc, places)?)?;
-    }
-    Ok(participants)
 }
 
 /// Room for `n` values, and none there.

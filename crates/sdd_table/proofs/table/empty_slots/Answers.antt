@@ -1,6 +1,6 @@
 use Rattle.std.proofs.Common.{◌≡◌, ◌++◌, ◌∷◌, [], ℕ, List, Option, None, length, replicate, sym, ap, ◌∙◌, arith}
 use Rattle.std.proofs.lemmas.List.{length-replicate}
-use Rattle.sdd_table.proofs.SlotLemmas.{replicate-push}
+use Rattle.sdd_table.proofs.ListLemmas.{replicate-push}
 use Rattle.sdd_table.proofs.table.empty_slots.Goals as goal
 
 pub loop-preserved : goal.loop-preserved

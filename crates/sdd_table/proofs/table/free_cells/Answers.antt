@@ -3,8 +3,7 @@ use Rattle.std.proofs.lemmas.List.{length-replicate}
 use Rattle.sdd_table.specs.State.{emptiness}
 use Rattle.sdd_table.specs.declared.status.Cell.{Cell}
 use Rattle.sdd_table.specs.declared.status.Cell.TheVariants as cell
-use Rattle.sdd_table.proofs.ListLemmas.{lists_grow}
-use Rattle.sdd_table.proofs.SlotLemmas.{replicate-push}
+use Rattle.sdd_table.proofs.ListLemmas.{replicate-push, lists_grow}
 use Rattle.sdd_table.proofs.table.free_cells.Goals as goal
 
 pub loop-i-preserved : goal.loop-i-preserved

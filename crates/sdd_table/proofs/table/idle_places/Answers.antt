@@ -3,8 +3,7 @@ use Rattle.std.proofs.lemmas.List.{append_assoc}
 use Rattle.sdd_table.specs.State.{vacancy, idleness}
 use Rattle.sdd_table.specs.declared.status.Status.{Status}
 use Rattle.sdd_table.specs.declared.status.Status.TheVariants as status
-use Rattle.sdd_table.proofs.ListLemmas.{lists_grow, lists_skip}
-use Rattle.sdd_table.proofs.SlotLemmas.{replicate-push}
+use Rattle.sdd_table.proofs.ListLemmas.{replicate-push, lists_grow, lists_skip}
 use Rattle.sdd_table.proofs.table.idle_places.Goals as goal
 
 pub loop-preserved : goal.loop-preserved

@@ -1,7 +1,7 @@
 use Rattle.std.proofs.Common.{◌≡◌, ◌<◌, ◌∙◌, ap, arith, length, length-set, refl, subst}
 use Rattle.sdd_table.specs.State.{State, idleness, is_job, status_at, waiting_as, weight, NoneIdle}
 use Rattle.sdd_table.specs.declared.status.Status.TheVariants as status
-use Rattle.sdd_table.proofs.SlotLemmas.{named_idle, none_named, stack_kept, job_room, has_room, known_in, deferred_invariant, deferred_view}
+use Rattle.sdd_table.proofs.SlotLemmas.{named_idle, none_named, stack_kept, job_room, in_none, waiting_view, known_in, deferred_invariant}
 use Rattle.sdd_table.proofs.table.Table.defer.Goals as goal
 
 pub index_mut-requires : goal.index_mut-requires
@@ -23,24 +23,25 @@ pub put-requires : goal.put-requires
 put-requires g c =
     let a = c.self.inside in
     let r = named_idle a c.pop.new.self.items c.in-Some.i c.self.invariant c.in-Some.ensures.items in
-    has_room (length a.states.items) _ a.participants.items c.in-Some.i c.args.p _ refl c.self.invariant.waits c.self.invariant.room r.0 (ap weight r.1) (known_in a c.args.self.now _ c.self.view_is c.requires) c.index_mut-3.ensures.value
+    record {
+      participant = known_in a c.args.self.now _ c.self.view_is c.requires;
+      place = omega (arith, c.self.invariant.links, r.0);
+      none = in_none a c.in-Some.i c.self.invariant (ap weight r.1);
+    }
 
 pub invariant_of-self-2 : goal.invariant_of-self-2
 invariant_of-self-2 g c =
     let a = c.self.inside in
     let r = named_idle a c.pop.new.self.items c.in-Some.i c.self.invariant c.in-Some.ensures.items in
     let cap = c.in-Some.ensures.capacity in
-    deferred_invariant a c.args.p c.in-Some.i c.index_mut-3.result.now c.put.new.self _ c.pop.new.self c.self.invariant (known_in a c.args.self.now _ c.self.view_is c.requires) r.0 r.1 (length-set a.jobs.items _ _) c.index_mut-3.ensures.value c.put.ensures.room c.put.ensures.waits c.in-Some.ensures.items (omega (arith, cap))
+    deferred_invariant a c.args.p c.in-Some.i c.put.new.self _ c.pop.new.self c.self.invariant (known_in a c.args.self.now _ c.self.view_is c.requires) r.0 r.1 (length-set a.jobs.items _ _) c.put.ensures c.in-Some.ensures.items (omega (arith, cap))
 
 pub returns-clause-deferred : goal.returns-clause-deferred
 returns-clause-deferred g c =
     let a = c.self.inside in
     let r = named_idle a c.pop.new.self.items c.in-Some.i c.self.invariant c.in-Some.ensures.items in
     let idle = subst (λ (w : State _). (c.in-Some.i < length w.states) × (status_at w c.in-Some.i ≡ status.Idle)) c.self.view_is r in
-    (c.in-Some.i, idle, deferred_view a c.args.p c.in-Some.i c.index_mut-3.result.now c.put.new.self (known_in a c.args.self.now _ c.self.view_is c.requires) c.index_mut-3.ensures.value c.put.ensures.shown ∙ ap (λ (w : State _). waiting_as status.Deferred c.args.p c.in-Some.i w) c.self.view_is)
-
-pub index_mut-requires-3 : goal.index_mut-requires-3
-index_mut-requires-3 g c = omega (arith, known_in c.self.inside c.args.self.now _ c.self.view_is c.requires, c.self.inside.participants.ok.0)
+    (c.in-Some.i, idle, waiting_view a c.args.p c.in-Some.i status.Deferred c.put.new.self c.put.ensures ∙ ap (λ (w : State _). waiting_as status.Deferred c.args.p c.in-Some.i w) c.self.view_is)
 
 pub invariant_of-self : goal.invariant_of-self
 invariant_of-self g c =
@@ -50,8 +51,8 @@ invariant_of-self g c =
     record {
       filled = h.filled;
       tally = h.tally;
-      room = h.room;
-      waits = h.waits;
+      links = h.links;
+      held = h.held;
       kinds = h.kinds;
       slots = h.slots;
       places = stack_kept idleness a.states.items a.idle c.pop.new.self h.places e.items (omega (arith, e.capacity));

@@ -52,8 +52,8 @@ invariant_of-self g c =
     record {
       filled = h.filled;
       tally = h.tally;
-      room = h.room;
-      waits = h.waits;
+      links = h.links;
+      held = h.held;
       kinds = h.kinds;
       slots = stack_kept vacancy a.states.items a.free c.pop.new.self h.slots e.items (omega (arith, e.capacity));
       places = h.places;
