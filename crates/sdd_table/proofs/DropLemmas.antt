@@ -3,14 +3,13 @@ use Rattle.std.proofs.Common.{◌≡◌, ◌≢◌, ℕ, suc, ◌+◌, ◌-◌, 
 use Rattle.std.proofs.lemmas.Bool.{false≢true}
 use Rattle.std.specs.List.{sum_by}
 use Rattle.std.proofs.Math.Seq.{take-append-add}
-use Rattle.std.proofs.lemmas.List.{take-append-drop, ext_get_or, append_assoc, append-nil, nil_from_length, length-append, length-drop, drop_more}
-use Rattle.std.proofs.lemmas.List.Sums.{sum_by-append}
+use Rattle.std.proofs.lemmas.List.{ext_get_or, append_assoc, append-nil, nil_from_length, length-append, length-drop, drop_more}
 use Rattle.std.proofs.lemmas.Bool.Decides.{eqb_tells}
 use Rattle.sdd_table.specs.Holding.{Hold, OwnedItem, SharedItem, OwnedIn, SharedIn}
 use Rattle.sdd_table.specs.State.{State, ParticipantState, participant_at, nobody, changing, recalled, with_local_state, local_at, with_local, with_cell, with_status, status_at, value_at, cell_at, put_participant, retired, taken, left_due, occupied, weight}
-use Rattle.sdd_table.specs.Steps.{times, hit, given, given_all, released_as, disowned_as, owned_ended_as, shared_ended_as, due_reclaimed, due_reclaimed_as, held_in}
+use Rattle.sdd_table.specs.Steps.{given, given_all, released_as, disowned_as, owned_ended_as, shared_ended_as, due_reclaimed, due_reclaimed_as, held_in}
 use Rattle.sdd_table.specs.Dropping.{undone, undone_times, Dropped}
-use Rattle.sdd_table.specs.Place.{Sound, IsPlace, held_times}
+use Rattle.sdd_table.specs.Place.{Sound, IsPlace}
 use Rattle.sdd_table.specs.declared.status.Status.{Status}
 use Rattle.sdd_table.specs.declared.status.Status.TheVariants as status
 use Rattle.sdd_table.specs.declared.status.Cell.{Cell}

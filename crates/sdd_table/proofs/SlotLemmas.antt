@@ -1,22 +1,20 @@
 -- what a change of one place and one participant leaves of the store
-use Rattle.std.proofs.Common.{◌≡◌, ◌≢◌, ℕ, zero, suc, ◌+◌, ◌<◌, ◌≤◌, ◌-◌, ◌==◌, Bool, true, false, Option, List, [], ◌∷◌, ◌++◌, length, map, get_or, set, refl, sym, ap, ◌∙◌, arith, length-set, vec_capacity, vec_len, is_some, subst, reverse, ◌&&◌, None, Some, IfNone, IfSome, MatchOption, cond, replicate}
-use Rattle.std.specs.List.{sum_by, All, list_all}
-use Rattle.std.proofs.lemmas.List.{map-set, get_or-map, length-map}
+use Rattle.std.proofs.Common.{◌≡◌, ◌≢◌, ℕ, zero, suc, ◌+◌, ◌<◌, ◌≤◌, ◌-◌, ◌==◌, Bool, true, false, Option, List, [], ◌∷◌, ◌++◌, length, map, get_or, set, refl, sym, ap, ◌∙◌, arith, length-set, vec_capacity, vec_len, is_some, subst, None, Some, cond, replicate}
+use Rattle.std.specs.List.{sum_by}
+use Rattle.std.proofs.lemmas.List.{map-set, length-map}
 use Rattle.std.specs.Vec.{with_item}
 use Rattle.sdd_table.specs.declared.table.Table.TheInside.{Inside}
 use Rattle.std.proofs.Math.Seq.{map-set_same}
-use Rattle.std.proofs.lemmas.List.Elements.{All-set, All-get_or}
 use Rattle.std.proofs.lemmas.List.Sums.{sum_by-set, sum_by-cons, sum_by-append, get_or-le-sum_by}
-use Rattle.sdd_table.specs.State.{State, ParticipantState, put_participant, retired, waiting_as, is_job, nobody, status_at, participant_at, left_due, changing, is_present, TakesDue, taken, is_used, usage, vacancy, idleness, emptiness, vacated, cell_at}
-use Rattle.sdd_table.proofs.ListLemmas.{replicate-push, map-replicate, lists_same, lists_names, lists_pop, lists_push}
+use Rattle.sdd_table.specs.State.{State, ParticipantState, put_participant, waiting_as, is_job, nobody, status_at, participant_at, left_due, changing, TakesDue, taken, is_used, usage, vacancy, idleness, emptiness, vacated, cell_at}
+use Rattle.sdd_table.proofs.ListLemmas.{map-replicate, lists_same, lists_names, lists_pop, lists_push}
 use Rattle.std.proofs.lemmas.Bool.{false≢true}
 use Rattle.sdd_table.specs.declared.status.Cell.{Cell}
 use Rattle.sdd_table.specs.declared.status.Cell.TheVariants as cell
-use Rattle.std.specs.Option.{option_to_list}
 use Rattle.std.proofs.lemmas.List.Folds.{sum_by-replicate}
 use Rattle.std.proofs.lemmas.List.{length-replicate, length-append, map-append}
 use Rattle.std.specs.Global.{Vec}
-use Rattle.std.proofs.lemmas.List.{set-get_or, get_or_default, nil_from_length, append-nil, reverse-append}
+use Rattle.std.proofs.lemmas.List.{get_or_default, append-nil}
 use Rattle.std.proofs.lemmas.Bool.Decides.{nat_tests}
 use Rattle.std.proofs.Math.ListN.{get_or-map as at_map}
 use Rattle.sdd_table.specs.State.{weight}
@@ -115,7 +113,7 @@ taken_held a p i is s m h known inside heavy light was to j =
     ap (λ (z : Shown). sum_by (held_times j) z.all) to ∙ omega (arith, h.held j, times_set ms p j (left_due is (participant_in ms p)) known, times_left i j is (participant_in ms p) was, weight_down a.states.items i j s inside heavy light)
 
 -- place i is used in another way, whatever else changes
-pub states_invariant : {T J : Type 0} (a : Inside T J) (v : Vec (Option T)) (jb : Vec (Option J)) (u : ℕ) (m : Shown) (fr idl : Vec ℕ) (i : ℕ) (s : Status) → IsTable a → length jb.items ≡ length a.jobs.items → is_job s ≡ is_job (get_or a.states.items i status.Free) → map is_some v.items ≡ map is_used (set a.states.items i s) → u ≡ sum_by usage (set a.states.items i s) → m.places ≡ a.participants.places → ((j : ℕ) → sum_by (held_times j) m.all ≡ weight (get_or (set a.states.items i s) j status.Free)) → Lists vacancy (set a.states.items i s) fr.items → length a.states.items ≤ vec_capacity fr → Lists idleness (set a.states.items i s) idl.items → length a.states.items ≤ vec_capacity idl → IsTable (record a { used = u; values = v; jobs = jb; states = with_item a.states i s; participants = m; free = fr; idle = idl })
+pub states_invariant : {T J : Type 0} (a : Inside T J) (v : Vec (Option T)) (jb : Vec (Option J)) (u : ℕ) (m : Shown) (fr idl : Vec ℕ) (i : ℕ) (s : Status) → IsTable a → length jb.items ≡ length a.jobs.items → is_job s ≡ is_job (get_or a.states.items i status.Free) → map is_some v.items ≡ map is_used (set a.states.items i s) → u ≡ sum_by usage (set a.states.items i s) → m.places ≡ a.participants.places → ((j : ℕ) → sum_by (held_times j) m.all ≡ weight (get_or (set a.states.items i s) j status.Free)) → Lists vacancy (set a.states.items i s) fr.items → a.slots ≤ vec_capacity fr → Lists idleness (set a.states.items i s) idl.items → length jb.items ≤ vec_capacity idl → IsTable (record a { used = u; values = v; jobs = jb; states = with_item a.states i s; participants = m; free = fr; idle = idl })
 states_invariant a v jb u m fr idl i s h many kind fill tally links held slots roomy places roomier =
     let size = length-set {A = Status} a.states.items i s in
     record {
@@ -124,8 +122,8 @@ states_invariant a v jb u m fr idl i s h many kind fill tally links held slots r
       links = links ∙ h.links ∙ sym size;
       held = held;
       kinds = map-set_same is_job a.states.items i s status.Free kind ∙ h.kinds ∙ ap (λ (n : ℕ). replicate a.slots false ++ replicate n true) (sym many);
-      slots = record { lists = slots; room = omega (arith, size, roomy) };
-      places = record { lists = places; room = omega (arith, size, roomier) };
+      slots = record { lists = slots; room = roomy };
+      places = record { lists = places; room = roomier };
       cells = h.cells;
     }
 
@@ -245,28 +243,70 @@ light_sum f small (x ∷ xs) zero d lt none = omega (arith, light_all f small xs
 light_sum f small (x ∷ xs) (suc i) d lt none = omega (arith, light_sum f small xs i d (omega arith) none, sum_by-cons f x xs, small x)
 
 -- room for one more name
-pub stack_room : {X : Type 0} (f : X → ℕ) → ((x : X) → f x ≤ 1) → (all : List X) (i : ℕ) (d : X) (st : Vec ℕ) → IsFreeList f all st → i < length all → f (get_or all i d) ≡ 0 → vec_len st < vec_capacity st
+pub stack_room : {X : Type 0} (f : X → ℕ) → ((x : X) → f x ≤ 1) → (all : List X) (i : ℕ) (d : X) (st : Vec ℕ) → IsFreeList f all (length all) st → i < length all → f (get_or all i d) ≡ 0 → vec_len st < vec_capacity st
 stack_room f small all i d st h inside none = omega (arith, h.lists.count, h.room, st.ok.0, light_sum f small all i d inside none)
 
-pub vacancy-one : (s : Status) → vacancy s ≤ 1
-vacancy-one status.Free = omega arith
-vacancy-one status.Owned = omega arith
-vacancy-one (status.Shared n) = omega arith
-vacancy-one status.Raw = omega arith
-vacancy-one (status.Collected n) = omega arith
-vacancy-one status.Retired = omega arith
-vacancy-one status.Idle = omega arith
-vacancy-one status.Deferred = omega arith
+-- one element that weighs less
+less_all : {X : Type 0} (f g : X → ℕ) → ((x : X) → f x ≤ g x) → (xs : List X) → sum_by f xs ≤ sum_by g xs
+less_all f g below [] = omega arith
+less_all f g below (x ∷ xs) = omega (arith, less_all f g below xs, sum_by-cons f x xs, sum_by-cons g x xs, below x)
 
-pub idleness-one : (s : Status) → idleness s ≤ 1
-idleness-one status.Free = omega arith
-idleness-one status.Owned = omega arith
-idleness-one (status.Shared n) = omega arith
-idleness-one status.Raw = omega arith
-idleness-one (status.Collected n) = omega arith
-idleness-one status.Retired = omega arith
-idleness-one status.Idle = omega arith
-idleness-one status.Deferred = omega arith
+less_one : {X : Type 0} (f g : X → ℕ) → ((x : X) → f x ≤ g x) → (xs : List X) (i : ℕ) (d : X) → i < length xs → f (get_or xs i d) < g (get_or xs i d) → sum_by f xs < sum_by g xs
+less_one f g below [] i d inside less = absurd (omega arith)
+less_one f g below (x ∷ xs) zero d inside less = omega (arith, less_all f g below xs, sum_by-cons f x xs, sum_by-cons g x xs, less)
+less_one f g below (x ∷ xs) (suc i) d inside less = omega (arith, less_one f g below xs i d (omega (arith, inside)) less, sum_by-cons f x xs, sum_by-cons g x xs, below x)
+
+-- 1 for a slot, 1 for a job place
+abbrev slot_is : Status → ℕ
+slot_is s = cond (is_job s) 0 1
+
+abbrev job_is : Status → ℕ
+job_is s = cond (is_job s) 1 0
+
+vacancy-slot : (s : Status) → vacancy s ≤ slot_is s
+vacancy-slot status.Free = omega arith
+vacancy-slot status.Owned = omega arith
+vacancy-slot (status.Shared n) = omega arith
+vacancy-slot status.Raw = omega arith
+vacancy-slot (status.Collected n) = omega arith
+vacancy-slot status.Retired = omega arith
+vacancy-slot status.Idle = omega arith
+vacancy-slot status.Deferred = omega arith
+
+idleness-job : (s : Status) → idleness s ≤ job_is s
+idleness-job status.Free = omega arith
+idleness-job status.Owned = omega arith
+idleness-job (status.Shared n) = omega arith
+idleness-job status.Raw = omega arith
+idleness-job (status.Collected n) = omega arith
+idleness-job status.Retired = omega arith
+idleness-job status.Idle = omega arith
+idleness-job status.Deferred = omega arith
+
+sum_map : {X Y : Type 0} (f : X → Y) (g : Y → ℕ) (xs : List X) → sum_by (λ x. g (f x)) xs ≡ sum_by g (map f xs)
+sum_map f g [] = refl
+sum_map f g (x ∷ xs) = omega (arith, sum_by-cons (λ y. g (f y)) x xs, sum_by-cons g (f x) (map f xs), sum_map f g xs)
+
+-- so many slots there are, and job places
+kinds_are : {T J : Type 0} (a : Inside T J) → IsTable a → (sum_by slot_is a.states.items ≡ a.slots) × (sum_by job_is a.states.items ≡ length a.jobs.items)
+kinds_are a h =
+    let m = a.slots in
+    let n = length a.jobs.items in
+    let by : (g : Bool → ℕ) → sum_by (λ s. g (is_job s)) a.states.items ≡ sum_by g (replicate m false) + sum_by g (replicate n true) = λ g. sum_map is_job g a.states.items ∙ ap (sum_by g) h.kinds ∙ sum_by-append g (replicate m false) (replicate n true) in
+    let u : Bool → ℕ = λ b. cond b 0 1 in
+    let v : Bool → ℕ = λ b. cond b 1 0 in
+    (omega (arith, by u, sum_by-replicate u m false, sum_by-replicate u n true), omega (arith, by v, sum_by-replicate v m false, sum_by-replicate v n true))
+
+-- room for the name of a slot that isn't free, of a job place that has a job
+pub slot_room : {T J : Type 0} (a : Inside T J) (i : ℕ) → IsTable a → i < length a.states.items → is_job (get_or a.states.items i status.Free) ≡ false → vacancy (get_or a.states.items i status.Free) ≡ 0 → vec_len a.free < vec_capacity a.free
+slot_room a i h inside kind none =
+    let one : slot_is (get_or a.states.items i status.Free) ≡ 1 = ap (λ (b : Bool). cond b 0 1) kind in
+    omega (arith, h.slots.lists.count, h.slots.room, a.free.ok.0, (kinds_are a h).0, less_one vacancy slot_is vacancy-slot a.states.items i status.Free inside (omega (arith, one, none)))
+
+pub idle_room : {T J : Type 0} (a : Inside T J) (i : ℕ) → IsTable a → i < length a.states.items → is_job (get_or a.states.items i status.Free) ≡ true → idleness (get_or a.states.items i status.Free) ≡ 0 → vec_len a.idle < vec_capacity a.idle
+idle_room a i h inside kind none =
+    let one : job_is (get_or a.states.items i status.Free) ≡ 1 = ap (λ (b : Bool). cond b 1 0) kind in
+    omega (arith, h.places.lists.count, h.places.room, a.idle.ok.0, (kinds_are a h).1, less_one idleness job_is idleness-job a.states.items i status.Free inside (omega (arith, one, none)))
 
 pub usage-one : (s : Status) → usage s ≤ 1
 usage-one s = elim (is_used s) as (λ b. cond b 1 0 ≤ 1) [ true ↦ omega arith | false ↦ omega arith ]
@@ -302,8 +342,8 @@ none_named f all names d s h none one i inside = λ same.
     let count = h.count in
     omega (arith, part, is, count, none)
 
-pub stack_kept : {X : Type 0} (f : X → ℕ) (all : List X) (v w : Vec ℕ) → IsFreeList f all v → v.items ≡ w.items ++ [] → vec_capacity v ≤ vec_capacity w → IsFreeList f all w
-stack_kept f all v w h same cap = record { lists = subst (Lists f all) (same ∙ append-nil w.items) h.lists; room = omega (arith, h.room, cap) }
+pub stack_kept : {X : Type 0} (f : X → ℕ) (all : List X) (n : ℕ) (v w : Vec ℕ) → IsFreeList f all n v → v.items ≡ w.items ++ [] → vec_capacity v ≤ vec_capacity w → IsFreeList f all n w
+stack_kept f all n v w h same cap = record { lists = subst (Lists f all) (same ∙ append-nil w.items) h.lists; room = omega (arith, h.room, cap) }
 
 -- the last name on the stack of free slots
 pub named_slot : {T J : Type 0} (a : Inside T J) (names : List ℕ) (i : ℕ) → IsTable a → a.free.items ≡ names ++ i ∷ [] → (i < length a.states.items) × (get_or a.states.items i status.Free ≡ status.Free)
@@ -390,7 +430,7 @@ deferred_invariant a p i m jb idl h known inside was many is popped cap =
     let t = h.tally in
     states_invariant a a.values jb a.used m a.free idl i s h many (sym (ap is_job was)) (filled_same a i s h (sym (ap is_used was))) (omega (arith, t, tallies, none)) (ap (λ (z : Shown). z.places) is) (waiting_held a p i s m h known inside (ap weight was) refl is)
     (lists_same vacancy a.states.items i s status.Free a.free.items inside (sym (ap vacancy was)) h.slots.lists) h.slots.room
-    (lists_pop idleness a.states.items i s status.Free a.idle.items idl.items popped inside (ap idleness was) refl h.places.lists) (omega (arith, h.places.room, cap))
+    (lists_pop idleness a.states.items i s status.Free a.idle.items idl.items popped inside (ap idleness was) refl h.places.lists) (omega (arith, h.places.room, cap, many))
 
 -- an item that was due is gone
 pub vacated_invariant : {T J : Type 0} (a : Inside T J) (x : Option T) (p i : ℕ) (is : List ℕ) (m : Shown) (fr : Vec ℕ) → IsTable a → p < length a.participants.all → i < length a.states.items → get_or a.states.items i status.Free ≡ status.Retired → x ≡ None → (participant_in a.participants.all p).due ≡ i ∷ is → m ≡ changed_in p (left_due is) a.participants → fr.items ≡ a.free.items ++ i ∷ [] → vec_capacity a.free ≤ vec_capacity fr → IsTable (record a { used = a.used - 1; values = with_item a.values i x; states = with_item a.states i status.Free; participants = m; free = fr })
@@ -427,7 +467,7 @@ run_invariant a x jb p i is m idl h many known inside was gone due to pushed cap
     let t = h.tally in
     states_invariant a (with_item a.values i x) jb a.used m a.free idl i s h many (sym (ap is_job was)) (filled_set a i x s h (ap is_some gone)) (omega (arith, t, tallies, none)) (ap (λ (z : Shown). z.places) to) (taken_held a p i is s m h known inside (ap weight was) refl due to)
     (lists_same vacancy a.states.items i s status.Free a.free.items inside (sym full) h.slots.lists) h.slots.room
-    (lists_push idleness a.states.items i s status.Free a.idle.items idl.items pushed inside busy refl h.places.lists) (omega (arith, h.places.room, cap))
+    (lists_push idleness a.states.items i s status.Free a.idle.items idl.items pushed inside busy refl h.places.lists) (omega (arith, h.places.room, cap, many))
 
 -- a cell is used in another way
 pub cell_invariant : {T J : Type 0} (a : Inside T J) (c : ℕ) (k : Cell) (fr : Vec ℕ) → IsTable a → Lists emptiness (set a.cells.items c k) fr.items → length a.cells.items ≤ vec_capacity fr → IsTable (record a { cells = with_item a.cells c k; free_cells = fr })
@@ -460,7 +500,7 @@ none_waits : (m n j : ℕ) (ss : List Status) → ss ≡ replicate m status.Free
 none_waits m n j ss s = ap (λ (xs : List Status). weight (get_or xs j status.Free)) s ∙ light_at m n j
 
 -- a new store
-pub table_fresh : {T J : Type 0} (a : Inside T J) (m n : ℕ) → a.used ≡ 0 → a.slots ≡ m → length a.jobs.items ≡ n → a.values.items ≡ replicate (m + n) None → a.states.items ≡ replicate m status.Free ++ replicate n status.Idle → (k : ℕ) → a.participants ≡ record { places = m + n; all = replicate k nobody } → Lists vacancy a.states.items a.free.items → m + n ≤ vec_capacity a.free → Lists idleness a.states.items a.idle.items → m + n ≤ vec_capacity a.idle → IsFreeList emptiness a.cells.items a.free_cells → IsTable a
+pub table_fresh : {T J : Type 0} (a : Inside T J) (m n : ℕ) → a.used ≡ 0 → a.slots ≡ m → length a.jobs.items ≡ n → a.values.items ≡ replicate (m + n) None → a.states.items ≡ replicate m status.Free ++ replicate n status.Idle → (k : ℕ) → a.participants ≡ record { places = m + n; all = replicate k nobody } → Lists vacancy a.states.items a.free.items → m ≤ vec_capacity a.free → Lists idleness a.states.items a.idle.items → n ≤ vec_capacity a.idle → IsFreeList emptiness a.cells.items (length a.cells.items) a.free_cells → IsTable a
 table_fresh a m n u first many v s k new free roomy idle roomier cells =
     let size : length a.states.items ≡ m + n = ap length s ∙ length-append (replicate m status.Free) (replicate n status.Idle) ∙ omega (arith, length-replicate m status.Free, length-replicate n status.Idle) in
     let count : sum_by usage a.states.items ≡ 0 = ap (sum_by usage) s ∙ sum_by-append usage (replicate m status.Free) (replicate n status.Idle) ∙ omega (arith, sum_by-replicate usage m status.Free, sum_by-replicate usage n status.Idle) in
@@ -470,8 +510,8 @@ table_fresh a m n u first many v s k new free roomy idle roomier cells =
       links = ap (λ (z : Shown). z.places) new ∙ sym size;
       held = λ j. ap (λ (z : Shown). sum_by (held_times j) z.all) new ∙ none_held k j ∙ sym (none_waits m n j a.states.items s);
       kinds = ap (map is_job) s ∙ map-append is_job (replicate m status.Free) (replicate n status.Idle) ∙ ap (λ (bs : List Bool). bs ++ map is_job (replicate n status.Idle)) (map-replicate is_job m status.Free) ∙ ap (λ (bs : List Bool). replicate m false ++ bs) (map-replicate is_job n status.Idle) ∙ ap (λ (k : ℕ). replicate k false ++ replicate n true) (sym first) ∙ ap (λ (k : ℕ). replicate a.slots false ++ replicate k true) (sym many);
-      slots = record { lists = free; room = omega (arith, size, roomy) };
-      places = record { lists = idle; room = omega (arith, size, roomier) };
+      slots = record { lists = free; room = omega (arith, first, roomy) };
+      places = record { lists = idle; room = omega (arith, many, roomier) };
       cells = cells;
     }
 

@@ -4,7 +4,7 @@ use mathlib.Core.Logic.{dite}
 use native.Mathlib.Decide.{ℕ_discrete}
 use Rattle.std.specs.List.{sum_by, list_all}
 use Rattle.std.proofs.lemmas.List.{map-set, get_or-map, length-map, reverse-append, reverse-reverse, length-reverse, take_at, drop_at, length-append, length-replicate}
-use Rattle.std.proofs.lemmas.List.Sums.{sum_by-cons, sum_by_push, sum_by-append, sum_by-set, get_or-le-sum_by}
+use Rattle.std.proofs.lemmas.List.Sums.{sum_by-cons, sum_by_push, sum_by-set, get_or-le-sum_by}
 use Rattle.std.proofs.lemmas.Bool.{ltb-true, ltb-false}
 use Rattle.std.proofs.lemmas.Bool.Decides.{nat_tests}
 use lib.Seq.{set-get_or}
@@ -458,12 +458,14 @@ new_inside a m n l q =
     let shown : map (participant_of size ls) a.all.items ≡ replicate n nobody = ap (map (participant_of size ls)) q ∙ map-replicate (participant_of size ls) n no_participant ∙ ap (replicate n) (nobody_of size ls) in
     let nothing : IsChain size ls 0 = subst (Spells ls 0) (sym (follow_none size ls)) refl in
     let chain : AreChains size ls no_participant = record { current = nothing; prior = nothing; oldest = nothing; due = nothing; newest = ap length (sym (follow_none size ls)) } in
-    let none : (j : ℕ) → sum_by (held_times j) (map (participant_of size ls) a.all.items) ≡ 0 = λ j. ap (sum_by (held_times j)) shown ∙ none_held n j in
-    (record {
+    let none : (j : ℕ) → sum_by (held_times j) (map (participant_of size ls) a.all.items) ≡ 0 = λ j. ap (sum_by (held_times j)) shown ∙ none_held n j in (
+      record {
         chains = λ k. subst (AreChains size ls) (sym (ap (λ (qs : List Participant). get_or qs k no_participant) q ∙ replicate_at n k no_participant)) chain;
         once = λ j. omega (arith, none j);
         inside = λ j le. none j;
-    }, λ j. record { places = sized j; all = shown j })
+      },
+      λ j. record { places = sized j; all = shown j },
+    )
 
 pub known_inside : (a : Inside) (w : Shown) (p : ℕ) → shown_of a ≡ w → p < length w.all → p < length a.all.items
 known_inside a w p v l = omega (arith, ap (λ (s : Shown). length s.all) v, length-map a.all.items (participant_of (length a.links.items) a.links.items))

@@ -1,5 +1,5 @@
 -- a bag as the chain from its head
-use Rattle.std.specs.Prelude.{◌≡◌, ℕ, zero, suc, ◌<◌, ◌≤◌, List, [], ◌∷◌, get_or, set, length, map, reverse}
+use Rattle.std.specs.Prelude.{◌≡◌, ℕ, zero, suc, ◌≤◌, List, [], ◌∷◌, get_or, set, length, map, reverse}
 use Rattle.std.specs.List.{sum_by}
 use Rattle.sdd_table.specs.State.{ParticipantState, no_local, nobody}
 use Rattle.sdd_table.specs.Place.{held_times}

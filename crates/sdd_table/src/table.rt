@@ -398,7 +398,7 @@ impl<T, J: Deferred> Table<T, J> {
     {
         let places = sizes.slots + sizes.jobs;
         let (mut states, free) = free_slots(alloc, sizes.slots, places)?;
-        let idle = idle_places(alloc, &mut states, sizes.jobs, places)?;
+        let idle = idle_places(alloc, &mut states, sizes.jobs)?;
         let (cells, free_cells) = free_cells(alloc, sizes.cells)?;
         let participants = Participants::new(alloc, sizes.participants, places)?;
         let jobs = empty_slots(alloc, sizes.jobs)?;
@@ -488,7 +488,7 @@ fn keep_name(stack: &mut Vec<usize>, i: usize)
     }
 }
 
-/// `n` free slots, and their names, with room for `places` of them.
+/// `n` free slots, in a vector with room for `places`, and their names.
 fn free_slots(
     alloc: Global,
     n: usize,
@@ -496,12 +496,12 @@ fn free_slots(
 ) -> Result<(Vec<Status>, Vec<usize>), AllocError>
     requires { n ≤ places }
     ensures states { IfOk result (λ r. r.0.items ≡ replicate n Status.Free) }
-    ensures room { IfOk result (λ r. (places ≤ vec_capacity r.0) × (places ≤ vec_capacity r.1)) }
+    ensures room { IfOk result (λ r. (places ≤ vec_capacity r.0) × (n ≤ vec_capacity r.1)) }
     ensures free { IfOk result (λ r. Lists vacancy r.0.items r.1.items) }
     ensures idle { IfOk result (λ r. Lists idleness r.0.items []) }
 {
     let mut states = Vec::with_capacity(alloc, places)?;
-    let mut free = Vec::with_capacity(alloc, places)?;
+    let mut free = Vec::with_capacity(alloc, n)?;
     for i in 0..n {
         states.push(Status::Free)?;
         free.push(i)?;
@@ -510,19 +510,14 @@ fn free_slots(
 }
 
 /// Adds `n` job places without a job to the slots, and gives their names.
-fn idle_places(
-    alloc: Global,
-    states: &mut Vec<Status>,
-    n: usize,
-    places: usize,
-) -> Result<Vec<usize>, AllocError>
+fn idle_places(alloc: Global, states: &mut Vec<Status>, n: usize) -> Result<Vec<usize>, AllocError>
     requires idle { Lists idleness states.old.items [] }
     ensures states { IfOk result (λ _. states.new.items ≡ states.old.items ++ replicate n Status.Idle) }
-    ensures room { IfOk result (λ r. places ≤ vec_capacity r) }
+    ensures room { IfOk result (λ r. n ≤ vec_capacity r) }
     ensures free { (names : List ℕ) → Lists vacancy states.old.items names → IfOk result (λ _. Lists vacancy states.new.items names) }
     ensures idle { IfOk result (λ r. Lists idleness states.new.items r.items) }
 {
-    let mut idle = Vec::with_capacity(alloc, places)?;
+    let mut idle = Vec::with_capacity(alloc, n)?;
     for _ in 0..n {
         idle.push(states.len())?;
         states.push(Status::Idle)?;
@@ -533,7 +528,7 @@ fn idle_places(
 /// `n` free cells, and their names.
 fn free_cells(alloc: Global, n: usize) -> Result<(Vec<Cell>, Vec<usize>), AllocError>
     ensures cells { IfOk result (λ r. r.0.items ≡ replicate n Cell.Free) }
-    ensures free { IfOk result (λ r. IsFreeList emptiness r.0.items r.1) }
+    ensures free { IfOk result (λ r. IsFreeList emptiness r.0.items (length r.0.items) r.1) }
 {
     let mut cells = Vec::with_capacity(alloc, n)?;
     let mut free = Vec::with_capacity(alloc, n)?;

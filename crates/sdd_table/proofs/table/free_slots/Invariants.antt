@@ -8,7 +8,7 @@ abbrev pub invariant-loop-i : goal.invariant-loop-i
 invariant-loop-i l = record {
   states : l.states.items ≡ replicate l.i status.Free;
   capacity : l.places ≤ vec_capacity l.states;
-  room : l.places ≤ vec_capacity l.free;
+  room : l.n ≤ vec_capacity l.free;
   free : Lists vacancy l.states.items l.free.items;
   idle : Lists idleness l.states.items [];
 }

@@ -1,5 +1,4 @@
 use Rattle.std.proofs.Common.{◌≡◌, ◌<◌, ◌≤◌, ℕ, List, length, get_or, subst, arith}
-use Rattle.sdd_table.specs.State.{nobody}
 use Rattle.sdd_table.specs.Chains.{Shown, participant_in}
 use Rattle.sdd_table.specs.declared.bags.Participant.{Participant}
 use Rattle.sdd_table.proofs.ThreadLemmas.{none_open}

@@ -1,4 +1,4 @@
-use Rattle.std.proofs.Common.{◌≡◌, ◌==◌, ◌&&◌, ◌∙◌, Bool, true, false, sym, ap, arith, eq-eqb, ne_eqb, nat_eq}
+use Rattle.std.proofs.Common.{◌==◌, ◌∙◌, sym, ap, eq-eqb, ne_eqb}
 use Rattle.std.proofs.lemmas.Bool.{false≢true}
 use Rattle.sdd_table.specs.Chains.{Shown, participant_in}
 use Rattle.sdd_table.specs.Steps.{bags_empty}

@@ -1,4 +1,4 @@
-use Rattle.std.proofs.Common.{◌≡◌, ◌<◌, ◌∷◌, ◌-◌, ◌∙◌, ℕ, List, set, sym, ap, refl, arith}
+use Rattle.std.proofs.Common.{◌-◌, ◌∙◌, set, sym, ap, arith}
 use Rattle.std.proofs.lemmas.List.{get_or_default}
 use Rattle.sdd_table.specs.State.{left_due}
 use Rattle.sdd_table.specs.Chains.{Shown, participant_in}

@@ -1,8 +1,8 @@
-use Rattle.std.proofs.Common.{◌≡◌, ◌<◌, ◌+◌, ◌∙◌, ℕ, suc, set, sym, ap, arith, subst}
+use Rattle.std.proofs.Common.{◌+◌, ◌∙◌, set, ap, arith}
 use Rattle.std.specs.List.{sum_by}
 use Rattle.sdd_table.specs.State.{put_participant}
 use Rattle.sdd_table.specs.Place.{held_times}
-use Rattle.sdd_table.specs.Chains.{Shown, AreThreaded, participant_in, shown_of}
+use Rattle.sdd_table.specs.Chains.{Shown, participant_in}
 use Rattle.sdd_table.proofs.ThreadLemmas.{put_inside, put_room, known_inside}
 use Rattle.sdd_table.proofs.bags.Participants.put.Goals as goal
 

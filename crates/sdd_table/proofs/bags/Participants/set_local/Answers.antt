@@ -1,4 +1,4 @@
-use Rattle.std.proofs.Common.{◌≡◌, ◌∙◌, set, ap}
+use Rattle.std.proofs.Common.{◌∙◌, set, ap}
 use Rattle.sdd_table.specs.State.{with_local_state}
 use Rattle.sdd_table.specs.Chains.{Shown, participant_in}
 use Rattle.sdd_table.proofs.ThreadLemmas.{local_set, known_inside}

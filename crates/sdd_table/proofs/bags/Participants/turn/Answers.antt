@@ -1,4 +1,4 @@
-use Rattle.std.proofs.Common.{◌≡◌, ◌∙◌, set, sym, ap}
+use Rattle.std.proofs.Common.{◌∙◌, set, ap}
 use Rattle.sdd_table.specs.State.{bags_moved_on}
 use Rattle.sdd_table.specs.Chains.{Shown, participant_in}
 use Rattle.sdd_table.proofs.ThreadLemmas.{turn_inside, known_inside}

@@ -1,4 +1,4 @@
-use Rattle.std.proofs.Common.{subst, ◌≡◌, ◌<◌, ℕ}
+use Rattle.std.proofs.Common.{subst, ◌≡◌}
 use Rattle.sdd_table.specs.State.{State, local_at}
 use Rattle.sdd_table.specs.Place.{IsOpen}
 use Rattle.sdd_table.proofs.table.Table.any_open.Goals as goal

@@ -55,7 +55,7 @@ invariant_of-self g c =
       held = h.held;
       kinds = h.kinds;
       slots = h.slots;
-      places = stack_kept idleness a.states.items a.idle c.pop.new.self h.places e.items (omega (arith, e.capacity));
+      places = stack_kept idleness a.states.items (length a.jobs.items) a.idle c.pop.new.self h.places e.items (omega (arith, e.capacity));
       cells = h.cells;
     }
 

@@ -55,7 +55,7 @@ invariant_of-self g c =
       links = h.links;
       held = h.held;
       kinds = h.kinds;
-      slots = stack_kept vacancy a.states.items a.free c.pop.new.self h.slots e.items (omega (arith, e.capacity));
+      slots = stack_kept vacancy a.states.items a.slots a.free c.pop.new.self h.slots e.items (omega (arith, e.capacity));
       places = h.places;
       cells = h.cells;
     }

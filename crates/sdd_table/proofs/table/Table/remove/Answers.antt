@@ -1,17 +1,17 @@
 use Rattle.std.proofs.Common.{◌≡◌, Bool, cond, None, get_or, set, sym, ap, ◌∙◌, arith}
 use Rattle.std.proofs.lemmas.List.{get_or_default}
 use Rattle.std.proofs.lemmas.List.Sums.{get_or-le-sum_by}
-use Rattle.sdd_table.specs.State.{State, usage, vacancy, value_at, slot_freed}
+use Rattle.sdd_table.specs.State.{State, usage, value_at, slot_freed}
 use Rattle.sdd_table.specs.View.{state_of}
 use Rattle.sdd_table.specs.declared.status.Status.TheVariants as status
-use Rattle.sdd_table.proofs.SlotLemmas.{stack_room, vacancy-one, used-vacancy, slot_in, used_in, weight_in, no_value, removed_invariant, within_values}
+use Rattle.sdd_table.proofs.SlotLemmas.{slot_room, used-job, used-vacancy, slot_in, used_in, weight_in, no_value, removed_invariant, within_values}
 use Rattle.sdd_table.proofs.table.Table.remove.Goals as goal
 
 pub keep_name-requires : goal.keep_name-requires
 keep_name-requires g c =
     let a = c.self.inside in
     let w = c.args.self.now in
-    stack_room vacancy vacancy-one a.states.items c.args.i status.Free a.free c.self.invariant.slots (slot_in a w _ c.self.view_is c.requires.slot) (used-vacancy _ (used_in a w c.args.i _ c.self.view_is c.requires.used))
+    slot_room a c.args.i c.self.invariant (slot_in a w _ c.self.view_is c.requires.slot) (used-job _ (used_in a w c.args.i _ c.self.view_is c.requires.used)) (used-vacancy _ (used_in a w c.args.i _ c.self.view_is c.requires.used))
 
 pub unreachable-requires : goal.unreachable-requires
 unreachable-requires g c =

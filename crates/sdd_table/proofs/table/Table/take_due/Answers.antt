@@ -5,7 +5,7 @@ use Rattle.sdd_table.specs.State.{State, participant_at, vacancy, idleness, usag
 use Rattle.sdd_table.specs.View.{IsTable, state_of}
 use Rattle.sdd_table.specs.Chains.{Shown}
 use Rattle.sdd_table.specs.declared.status.Status.TheVariants as status
-use Rattle.sdd_table.proofs.SlotLemmas.{known_in, taken_result, due_waits, within_values, vacated_invariant, run_invariant, stack_room, vacancy-one, idleness-one, waits_item, waits_job, job_room}
+use Rattle.sdd_table.proofs.SlotLemmas.{known_in, taken_result, due_waits, within_values, vacated_invariant, run_invariant, slot_room, idle_room, waits_item, waits_job, job_room}
 use Rattle.sdd_table.proofs.table.Table.take_due.Goals as goal
 
 pub invariant_of-self : goal.invariant_of-self
@@ -56,7 +56,7 @@ keep_name-requires g c =
     let at = get_or_default c.self.inside.states.items c.in-Some.i c.index.result.now status.Free d.0 in
     let used : is_used (get_or c.self.inside.states.items c.in-Some.i status.Free) ≡ true = ap is_used (sym at) ∙ ap is_used (sym c.index.ensures) ∙ sym c.has_item.ensures ∙ c.if-has_item.true in
     let was = waits_item _ d.1 used in
-    stack_room vacancy vacancy-one c.self.inside.states.items c.in-Some.i status.Free c.self.inside.free c.self.invariant.slots d.0 (ap vacancy was)
+    slot_room c.self.inside c.in-Some.i c.self.invariant d.0 (ap is_job was) (ap vacancy was)
 
 pub index_mut-requires-then-has_item : goal.index_mut-requires-then-has_item
 index_mut-requires-then-has_item g c =
@@ -94,7 +94,7 @@ keep_name-requires-in-Some g c =
     let at = get_or_default c.self.inside.states.items c.in-Some.i c.index.result.now status.Free d.0 in
     let used : is_used (get_or c.self.inside.states.items c.in-Some.i status.Free) ≡ false = ap is_used (sym at) ∙ ap is_used (sym c.index.ensures) ∙ sym c.has_item.ensures ∙ c.if-has_item.false in
     let was = waits_job _ d.1 used in
-    stack_room idleness idleness-one c.self.inside.states.items c.in-Some.i status.Free c.self.inside.idle c.self.invariant.places d.0 (ap idleness was)
+    idle_room c.self.inside c.in-Some.i c.self.invariant d.0 (ap is_job was) (ap idleness was)
 
 pub overflow_sub-i : goal.overflow_sub-i
 overflow_sub-i g c =

@@ -1,4 +1,4 @@
-use Rattle.std.proofs.Common.{◌≡◌, ap, ◌∙◌}
+use Rattle.std.proofs.Common.{ap, ◌∙◌}
 use Rattle.sdd_table.specs.State.{State, participant_at, bags_moved_on, changing}
 use Rattle.sdd_table.specs.Chains.{participant_in}
 use Rattle.sdd_table.proofs.SlotLemmas.{changed_view, changed_invariant, known_in}
