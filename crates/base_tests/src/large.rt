@@ -8,7 +8,7 @@ use crate::steps::Part::{Once, Times};
 use crate::steps::Step::{
     Claim, Clone, CloneCell, Close, Collector, FreeSlots, GiveRest, HandOver, IsGuarded, KeepOwned,
     KeepShared, Move, NullOwnedCell, NullRawCell, NullSharedCell, Open, OpenEach, Own, OwnWith,
-    OwnedCell, RawCell, Release, Retire, See, Share, ShareWith, SharedCell, Slots,
+    OwnedCell, Pass, RawCell, Release, Retire, See, Share, ShareWith, SharedCell, Slots,
 };
 use crate::steps::{A, B, END, G, Row, Table};
 use sdd_base::NoJob;
@@ -154,6 +154,45 @@ const OWNERS: Table = Table {
     ],
 };
 
+/// Four passes give a thousand retired items back, and no fewer.
+const WAITING: Table = Table {
+    about: "a thousand items wait",
+    sizes: [1, 1_000, 0, 0],
+    parts: &[
+        Times(1_000, &[(Own(A, 7), Done), (Retire(A, 0), Done)]),
+        Once(&[
+            (Slots, Is(1_000)),
+            (Own(A, 7), Back(7)),
+            (Pass(0, 3), Is(1_000)),
+            (Pass(0, 1), Is(0)),
+        ]),
+        Times(1_000, &[(Own(A, 8), Done), (Retire(A, 0), Done)]),
+        Once(&[(Slots, Is(1_000)), (Pass(0, 4), Is(0))]),
+    ],
+};
+
+/// Two participants retire in turn: each waits for its own, in places that lie between those of the other.
+const IN_TURN: Table = Table {
+    about: "two participants retire in turn",
+    sizes: [2, 1_000, 0, 0],
+    parts: &[
+        Times(
+            500,
+            &[
+                (Own(A, 7), Done),
+                (Retire(A, 0), Done),
+                (Own(A, 8), Done),
+                (Retire(A, 1), Done),
+            ],
+        ),
+        Once(&[
+            (Slots, Is(1_000)),
+            (Pass(1, 4), Is(500)),
+            (Pass(0, 4), Is(0)),
+        ]),
+    ],
+};
+
 const PARTICIPANTS: Table = Table {
     about: "a million participants open guards",
     sizes: [MANY, 1, 0, 0],
@@ -170,6 +209,6 @@ const PARTICIPANTS: Table = Table {
 
 #[test]
 fn guards_and_owners_are_counted(rt: HostRuntime) {
-    let tables = [NESTED, OWNERS, PARTICIPANTS];
+    let tables = [NESTED, OWNERS, WAITING, IN_TURN, PARTICIPANTS];
     plays::<_, NoJob>(&rt, rt.alloc(), &tables);
 }
