@@ -34,3 +34,24 @@ fn refusals_and_words_are_written_with_their_parts(rt: HostRuntime) {
     };
     assert_eq!(rt; text.as_str(), WRITTEN);
 }
+
+/// What refusals say.
+fn said(alloc: Global) -> Result<String, AllocError> {
+    let (guarded, beside) = (NotLent::GuardsOpen, NotLent::NotSole);
+    format!(in alloc; "{NoSlot}|{Nested}|{GuardsOpen}|{guarded}|{beside}")
+}
+
+/// The same as it is to be said.
+const SAID: &str = "no slot, cell or job place is free; the place is as it was\
+    |the participant has as many guards open as are counted; it has them still\
+    |a guard is open; the place is as it was\
+    |a guard is open; the item is as it was\
+    |the item has other owners; it is as it was";
+
+#[test]
+fn refusals_say_what_stands_after_them(rt: HostRuntime) {
+    let Ok(text) = said(rt.alloc()) else {
+        panic!(rt; "memory is ample");
+    };
+    assert_eq!(rt; text.as_str(), SAID);
+}

@@ -9,13 +9,16 @@ use sdd_domain::domain::Domain;
 use sdd_domain::holds::Holds;
 use sdd_domain::local::Local;
 use sdd_domain::shared::Shared;
+use thiserror::Error;
 
 /// Why there are no links, or no bag.
-#[derive(Clone, Copy, PartialEq, Eq, Debug)]
+#[derive(Clone, Copy, PartialEq, Eq, Debug, Error)]
 pub enum NotMade {
     /// There is no room for the names of their cells.
+    #[error("memory was refused; the place has its cells")]
     Memory,
     /// Too few cells are free.
+    #[error("too few cells are free; the place has its cells")]
     NoCell,
 }
 

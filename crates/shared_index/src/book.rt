@@ -25,14 +25,17 @@ use std::alloc::{AllocError, Global};
 use std::marker::Model;
 use std::sync::ledger;
 use std::sync::ledger::Blank;
+use thiserror::Error;
 use version_views::{Reply, Write, WriteRefused};
 
 /// Why no index was made.
-#[derive(Clone, Copy, Debug, PartialEq, Eq)]
+#[derive(Clone, Copy, Debug, PartialEq, Eq, Error)]
 pub enum NewRefused {
     /// There is no room for the shares.
+    #[error("memory was refused; there is no index")]
     Memory,
     /// No slot is free for the empty version, or no cell to name it.
+    #[error("no slot is free for the empty version, or no cell to name it; there is no index")]
     NoSlot,
 }
 

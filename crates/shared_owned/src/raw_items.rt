@@ -13,13 +13,16 @@ use sdd_domain::guard::Guard;
 use sdd_domain::holds::Holds;
 use sdd_domain::local::Local;
 use std::alloc::Global;
+use thiserror::Error;
 
 /// Why no items can be out as raw ones.
-#[derive(Clone, Copy, PartialEq, Eq, Debug)]
+#[derive(Clone, Copy, PartialEq, Eq, Debug, Error)]
 pub enum RawRefused {
     /// There is no room for the names of cells.
+    #[error("memory was refused; the place has its cells")]
     Memory,
     /// Fewer cells are free than the place has slots.
+    #[error("fewer cells are free than the place has slots; it has them still")]
     NoCell,
 }
 

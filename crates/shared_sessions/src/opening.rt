@@ -12,15 +12,19 @@ use sdd_domain::holds::Holds;
 use sdd_domain::local::Local;
 use shared_versions::Node;
 use std::alloc::Global;
+use thiserror::Error;
 
 /// Why no session was opened. The participant has the same guards open as before.
-#[derive(Clone, Copy, Debug, PartialEq, Eq)]
+#[derive(Clone, Copy, Debug, PartialEq, Eq, Error)]
 pub enum OpenRefused {
     /// The participant has `2^32 - 1` guards open, as many as are counted. Nothing was loaded.
+    #[error("the participant has as many guards open as are counted; no session is open")]
     Nested,
     /// The version that was loaded has this number, which is below the one that was asked for.
+    #[error("the list has number {0}, below the one that was asked for; no session is open")]
     Earlier(u64),
     /// The root was found to name no version of segments of at most `S` pairs.
+    #[error("the root names no version of such segments; no session is open")]
     NoVersion,
 }
 

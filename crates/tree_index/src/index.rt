@@ -26,6 +26,7 @@ use leaf_array::{InsertResult, Steps};
 use std::alloc::{AllocError, Global};
 use std::marker::Model;
 use std::ops::Bound;
+use thiserror::Error;
 use tree_nodes::{Arenas, Node};
 
 /// An ordered index: a B+ tree with at most fifteen pairs in a leaf and sixteen children in a node.
@@ -55,12 +56,27 @@ impl<K: Ord, V> Model for TreeIndex<K, V> {
 }
 
 /// Why a pair wasn't inserted. It comes back.
-#[derive(Drop)]
+#[derive(Debug, Drop, Error)]
 pub enum InsertRefused<K, V> {
     /// A pair has the key already.
+    #[error("a pair has the key already; the tree is as it was")]
     Duplicate(K, V),
     /// No pair has the key, and memory was refused.
+    #[error("memory was refused; the tree is as it was")]
     Memory(K, V),
+}
+
+impl<K, V> InsertRefused<K, V> {
+    /// The pair, as it was handed in.
+    pub fn into_pair(self) -> (K, V)
+        ensures { result ≡ refused_pair self }
+    {
+        match self {
+            InsertRefused::Duplicate(key, value) | InsertRefused::Memory(key, value) => (
+                key, value,
+            ),
+        }
+    }
 }
 
 impl<K: Ord, V> TreeIndex<K, V> {

@@ -1,6 +1,7 @@
 //! Changes of a list of pairs, and what they are told.
 
 use std::ops::Bound;
+use thiserror::Error;
 
 /// A change of a list of pairs.
 #[derive(Clone, Debug, PartialEq, Eq, Drop)]
@@ -37,10 +38,12 @@ pub enum Reply {
 }
 
 /// Why a store of versions refused writes. It is as it was before.
-#[derive(Clone, Copy, Debug, PartialEq, Eq)]
+#[derive(Clone, Copy, Debug, PartialEq, Eq, Error)]
 pub enum WriteRefused {
     /// A growth or a clone was refused.
+    #[error("memory was refused; the list is as it was")]
     Memory,
     /// Too few slots are free for the version that the writes leave.
+    #[error("too few slots are free; the list is as it was")]
     NoSlot,
 }
