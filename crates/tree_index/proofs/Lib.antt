@@ -7,4 +7,5 @@ pub use Rattle.tree_nodes.proofs.ArenaLemmas
 pub use Rattle.tree_nodes.proofs.RisingLemmas
 pub use Rattle.tree_nodes.proofs.InsertionPointLemmas
 pub use Rattle.tree_nodes.proofs.CopyLemmas
+pub use Rattle.tree_nodes.proofs.RunLemmas
 pub mod ProgressLemmas

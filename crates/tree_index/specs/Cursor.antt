@@ -1,5 +1,5 @@
 -- A cursor over a list: bounds, and two ends, of which one goes forward and the other backward.
-use Rattle.std.specs.Prelude.{◌≡◌, ℕ, ◌+◌, ◌-◌, Bool, true, false, cond, nat_lt, List, length, slice_get, Option, Some, None, refl}
+use Rattle.std.specs.Prelude.{◌≡◌, ℕ, ◌+◌, ◌-◌, Bool, true, false, cond, nat_lt, List, [], drop, length, slice_get, Option, Some, None, refl}
 use Rattle.std.specs.Option.{is_some, option_map}
 use Rattle.std.specs.Coded.{Coded, code_by, coded×, coded_bool, coded_ℕ, coded_list, coded_option}
 use Rattle.std.specs.Borrow.{Bor}
@@ -89,6 +89,26 @@ module _ {K V : Type 0} (cmp : K → K → Ordering) where
   -- its ends change places
   abbrev pub turned : Cursor K V → Cursor K V
   turned c = cond (can_turn c) (record c { forward = c.backward; backward = c.forward }) c
+
+module _ {K V : Type 0} where
+  -- the pairs from an end on
+  abbrev pub pairs_from : List (K × V) → End ℕ → List (K × V)
+  pairs_from pairs Unopened = []
+  pairs_from pairs (At place) = drop place pairs
+  pairs_from pairs Done = []
+
+  -- the pair of a cursor's forward end and those behind it
+  abbrev pub unread : Cursor K V → List (K × V)
+  unread c = pairs_from c.pairs c.forward
+
+  -- where an end goes that passes so many pairs, and the cursor whose forward end does
+  abbrev pub passed_by : ℕ → List (K × V) → End ℕ → End ℕ
+  passed_by count pairs Unopened = Unopened
+  passed_by count pairs (At p) = cond (nat_lt (p + count) (length pairs)) (At (p + count)) Done
+  passed_by count pairs Done = Done
+
+  abbrev pub passed : ℕ → Cursor K V → Cursor K V
+  passed count c = record c { forward = passed_by count c.pairs c.forward }
 
 -- the pair behind two references
 abbrev pub deref_pair : {K V : Type 0} → Option (Bor K × Bor V) → Option (K × V)

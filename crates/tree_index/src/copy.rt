@@ -1,9 +1,12 @@
-//! Clones of trees.
+//! Clones of trees, and of runs of their pairs.
 
-ghost use Rattle.std.specs.Prelude.{◌≡◌, ◌≤◌, ◌+◌, IfOk, length};
+ghost use Rattle.std.specs.Prelude.{◌≡◌, ◌≤◌, ◌+◌, ◌++◌, [], IfOk, OnErr, OnOk, length, take};
+ghost use Rattle.leaf_array.specs.Pairs.{IsAscending};
 ghost use Rattle.leaf_array.specs.Values.{ClonesAreSame};
+ghost use Rattle.tree_index.specs.Cursor.{passed, unread};
 
 use crate::index::TreeIndex;
+use crate::iter::Iter;
 use std::alloc::{AllocError, Global};
 
 impl<K: Ord, V> TreeIndex<K, V> {
@@ -22,5 +25,26 @@ impl<K: Ord, V> TreeIndex<K, V> {
         Ok(TreeIndex {
             arenas: self.arenas.copy(alloc)?,
         })
+    }
+    /// Puts clones of so many pairs of another tree behind all others, whose keys are lesser: that of a cursor's forward end
+    /// and those behind it, which the cursor passes. Each pair takes one place at most. Where memory is refused, no pair of
+    /// this tree is left, and the cursor stays.
+    pub fn push_run(&mut self, source: &mut Iter<'_, K, V>, count: usize) -> Result<(), AllocError>
+    where
+        K: Clone + Drop,
+        V: Clone + Drop,
+        requires keys { ClonesAreSame K.is_clone }
+        requires values { ClonesAreSame V.is_clone }
+        requires within { count ≤ length (unread source.old) }
+        requires rising { IsAscending K.cmp (self.old.pairs ++ take count (unread source.old)) }
+        ensures pushed { OnOk result (self.new.pairs ≡ self.old.pairs ++ take count (unread source.old)) }
+        ensures passed { OnOk result (source.new ≡ passed count source.old) }
+        ensures ascending { OnOk result (self.old.ascending_headroom ≤ self.new.ascending_headroom + count) }
+        ensures refused { OnErr result (self.new.pairs ≡ []) }
+        ensures flat { OnErr result (self.new.depth ≡ 0) }
+        ensures ascending_headroom { OnErr result (self.new.ascending_headroom ≡ 241) }
+        ensures still { OnErr result (source.new ≡ source.old) }
+    {
+        source.ends.push_run(&mut self.arenas, count)
     }
 }

@@ -1,14 +1,20 @@
 //! A cursor: two ends that go along the pairs of a tree, one forward and one backward.
 
-ghost use Rattle.std.specs.Prelude.{◌≡◌, IfSome, Some, None, nat_lt, slice_get};
+ghost use Rattle.std.specs.Prelude.{◌≡◌, ◌≤◌, ◌+◌, ◌++◌, [], IfSome, OnErr, OnOk, Some, None, length, nat_lt, slice_get, take};
+ghost use Rattle.std.specs.declared.cmp.Ordering.TheVariants.{Less};
 ghost use Rattle.std.specs.declared.ops.Bound.{Bound};
 ghost use Rattle.leaf_array.specs.Lookups.{deref_bound};
+ghost use Rattle.leaf_array.specs.Pairs.{IsAscending};
+ghost use Rattle.leaf_array.specs.Values.{ClonesAreSame};
+ghost use Rattle.tree_nodes.specs.Depth.{ascending_headroom};
+ghost use Rattle.tree_nodes.specs.Shape.{AllKeys};
 ghost use Rattle.tree_nodes.specs.Content.{pairs_of, IsSound};
-ghost use Rattle.tree_index.specs.Cursor.{lies_before, pair_at, kept_below, kept_above, moved_forth, moved_back, next_of, next_back_of, shown_back, can_turn, turned, deref_pair};
+ghost use Rattle.tree_index.specs.Cursor.{lies_before, pair_at, kept_below, kept_above, moved_forth, moved_back, pairs_from, passed, next_of, next_back_of, shown_back, can_turn, turned, deref_pair};
 ghost use Rattle.tree_index.specs.declared.cursor.End.TheVariants.{Unopened, At};
 ghost use Rattle.tree_index.specs.Ends.{IsEnd, IsReady, end_position, cursor_of, forth_of, back_of, given_pair};
 ghost use Rattle.tree_nodes.specs.Walk.{position, IsPosition};
 
+use std::alloc::AllocError;
 use std::ops::Bound;
 use tree_nodes::{Arenas, Position};
 
@@ -88,6 +94,56 @@ impl<'t, K: Ord, V> Ends<'t, K, V> {
         } else {
             None
         }
+    }
+
+    /// How many pairs, from that of the forward end on and in its leaf, have keys below this one; all of them, where none is
+    /// named.
+    #[inline(always)]
+    pub(crate) fn run(&self, upto: Option<&K>) -> usize
+        requires { IsReady K.cmp self.now }
+        ensures within { result ≤ length (pairs_from (pairs_of self.now.arenas.now) (end_position self.now.arenas.now self.now.forward)) }
+        ensures below { IfSome upto.entry (λ key. AllKeys (λ k. K.cmp k key.now ≡ Less) (take result (pairs_from (pairs_of self.now.arenas.now) (end_position self.now.arenas.now self.now.forward)))) }
+    {
+        match self.forward {
+            End::At(spot) => self.arenas.run_at(spot, upto),
+            _ => 0,
+        }
+    }
+
+    /// Puts clones of so many pairs, from that of the forward end on, behind all those of a tree, and goes past them.
+    #[inline(always)]
+    pub(crate) fn push_run(
+        &mut self,
+        into: &mut Arenas<K, V>,
+        count: usize,
+    ) -> Result<(), AllocError>
+    where
+        K: Clone + Drop,
+        V: Clone + Drop,
+        requires keys { ClonesAreSame K.is_clone }
+        requires values { ClonesAreSame V.is_clone }
+        requires ready { IsReady K.cmp self.old }
+        requires sound { IsSound K.cmp into.old }
+        requires within { count ≤ length (pairs_from (pairs_of self.old.arenas.now) (end_position self.old.arenas.now self.old.forward)) }
+        requires rising { IsAscending K.cmp (pairs_of into.old ++ take count (pairs_from (pairs_of self.old.arenas.now) (end_position self.old.arenas.now self.old.forward))) }
+        ensures ready { IsReady K.cmp self.new }
+        ensures sound { IsSound K.cmp into.new }
+        ensures pushed { OnOk result (pairs_of into.new ≡ pairs_of into.old ++ take count (pairs_from (pairs_of self.old.arenas.now) (end_position self.old.arenas.now self.old.forward))) }
+        ensures passed { OnOk result ((lower upper : Bound K) → cursor_of self.new lower upper ≡ passed count (cursor_of self.old lower upper)) }
+        ensures ascending { OnOk result (ascending_headroom K.cmp into.old ≤ ascending_headroom K.cmp into.new + count) }
+        ensures refused { OnErr result (pairs_of into.new ≡ []) }
+        ensures flat { OnErr result (into.new.height ≡ 0) }
+        ensures still { OnErr result (self.new ≡ self.old) }
+    {
+        let End::At(spot) = self.forward else {
+            return Ok(());
+        };
+        let next = into.push_run(self.arenas, Some(spot), count)?;
+        self.forward = match next {
+            Some(spot) => End::At(spot),
+            None => End::Done,
+        };
+        Ok(())
     }
 
     /// The pair of the forward end, if it lies within the upper bound.

@@ -1,8 +1,10 @@
 //! A cursor over all pairs of a tree.
 
-ghost use Rattle.std.specs.Prelude.{◌≡◌};
+ghost use Rattle.std.specs.Prelude.{◌≡◌, ◌≤◌, IfSome, length, take};
+ghost use Rattle.std.specs.declared.cmp.Ordering.TheVariants.{Less};
 ghost use Rattle.std.specs.declared.ops.Bound.TheVariants.{Unbounded};
-ghost use Rattle.tree_index.specs.Cursor.{shown_forth, shown_back, can_turn, turned, deref_pair};
+ghost use Rattle.tree_index.specs.Cursor.{shown_forth, shown_back, can_turn, turned, deref_pair, unread};
+ghost use Rattle.tree_nodes.specs.Shape.{AllKeys};
 
 use crate::cursor::Ends;
 use crate::range::Range;
@@ -43,6 +45,16 @@ impl<'t, K: Ord, V> Iter<'t, K, V> {
         ensures { deref_pair result ≡ shown_forth K.cmp self.now }
     {
         self.ends.get(Bound::Unbounded)
+    }
+
+    /// How many pairs, from that of the forward end on and in its leaf, have keys below this one; all of them, where none is
+    /// named.
+    #[inline(always)]
+    pub fn run(&self, upto: Option<&K>) -> usize
+        ensures within { result ≤ length (unread self.now) }
+        ensures below { IfSome upto.entry (λ key. AllKeys (λ k. K.cmp k key.now ≡ Less) (take result (unread self.now))) }
+    {
+        self.ends.run(upto)
     }
 
     /// The pair of the backward end, if it stands at one.

@@ -1,5 +1,7 @@
 -- A list that grows behind its greatest key.
-use Rattle.std.proofs.Common.{◌≡◌, ℕ, zero, suc, ◌+◌, true, false, List, [], ◌∷◌, ◌++◌, take, Option, Some, None, refl, sym, ap, ◌∙◌, subst, arith}
+use Rattle.std.proofs.Common.{◌≡◌, ℕ, zero, suc, ◌+◌, ◌-◌, ◌≤◌, ◌<◌, true, false, List, [], ◌∷◌, ◌++◌, append_assoc, append-nil, drop, length, take, Option, Some, None, refl, sym, ap, ◌∙◌, subst, arith}
+use Rattle.std.proofs.Math.Seq.{take-add}
+use Rattle.std.proofs.lemmas.List.{drop-drop}
 use Rattle.std.specs.Prelude.{slice_get}
 use Rattle.std.specs.declared.cmp.Ordering.{Ordering}
 use Rattle.std.specs.declared.cmp.Ordering.TheVariants.{Less}
@@ -13,10 +15,10 @@ use Rattle.tree_nodes.specs.declared.arenas.Arenas.{Arenas}
 use Rattle.tree_nodes.specs.declared.walk.Position.{Position}
 use Rattle.tree_nodes.specs.Shape.{AllKeys}
 use Rattle.tree_nodes.specs.Content.{pairs_of, IsSound}
-use Rattle.tree_nodes.specs.Copy.{place}
-use Rattle.tree_nodes.specs.Depth.{IsAbove}
+use Rattle.tree_nodes.specs.Copy.{place, IsExtended, IsPositionOrEnd}
+use Rattle.tree_nodes.specs.Depth.{IsAbove, ascending_headroom}
 use Rattle.tree_nodes.specs.Walk.{position, IsPosition}
-use Rattle.tree_nodes.proofs.SpotLemmas.{spot_pair, rising_of}
+use Rattle.tree_nodes.proofs.SpotLemmas.{spot_pair}
 use Rattle.tree_nodes.proofs.ShapeLemmas.{turned, all_weaken}
 use Rattle.tree_nodes.proofs.LeafLemmas.{filter_all, filter_none}
 use Rattle.tree_nodes.proofs.RisingLemmas.{key_in}
@@ -46,14 +48,116 @@ module _ {K V : Type 0} {cmp : K → K → Ordering} (o : IsTotalOrder cmp) wher
 pub copied_pair : {K V : Type 0} (ps : List (K × V)) {k l : K} {v w : V} {qs : List (K × V)} → l ≡ k → w ≡ v → qs ≡ ps ++ (l, w) ∷ [] → qs ≡ ps ++ (k, v) ∷ []
 copied_pair ps key val e = rw (sym key, sym val) e
 
-module _ {K V : Type 0} {cmp : K → K → Ordering} (o : IsTotalOrder cmp) (a b : Arenas K V) (s : IsSound cmp a) (spot : Position K V) (is : IsPosition a spot) (p : K × V) (at : slice_get spot.leaf.now.array.pairs spot.place ≡ Some p) (front : pairs_of b ≡ take (position a spot) (pairs_of a)) where
-  there : slice_get (pairs_of a) (position a spot) ≡ Some p
-  there = (spot_pair cmp a s spot is).0 ∙ at
+-- ---- a front of a list behind another list
 
-  -- the next pair of the source is above all of the copy
-  pub next_above : IsAbove cmp p.0 (pairs_of b)
-  next_above = subst (IsAbove cmp p.0) (sym front) (front_less o (position a spot) (pairs_of a) p (rising_of cmp o a s) there)
+module _ {X : Type 0} where
+  take_behind : (xs ys : List X) (k j : ℕ) → k ≡ length xs + j → take k (xs ++ ys) ≡ xs ++ take j ys
+  take_behind [] ys k j e = let same : k ≡ j = omega (arith, e) in ap (λ (n : ℕ). take n ys) same
+  take_behind (x ∷ xs) ys zero j e = absurd (omega (arith, e))
+  take_behind (x ∷ xs) ys (suc k) j e = ap (λ zs. x ∷ zs) (take_behind xs ys k j (omega (arith, e)))
 
-  -- once it is behind them, the copy reaches one place further
-  pub next_front : (c : Arenas K V) (r : Option (Position K V)) → pairs_of c ≡ pairs_of b ++ p ∷ [] → place a r ≡ position a spot + 1 → pairs_of c ≡ take (place a r) (pairs_of a)
-  next_front c r more next = more ∙ ap (λ ps. ps ++ p ∷ []) front ∙ sym (take_next o (position a spot) (pairs_of a) p there) ∙ sym (ap (λ (m : ℕ). take m (pairs_of a)) next)
+  take_taken : (j n : ℕ) (ys : List X) → j ≤ n → take j (take n ys) ≡ take j ys
+  take_taken zero n ys h = refl
+  take_taken (suc j) zero ys h = absurd (omega (arith, h))
+  take_taken (suc j) (suc n) [] h = refl
+  take_taken (suc j) (suc n) (y ∷ ys) h = ap (λ zs. y ∷ zs) (take_taken j n ys (omega (arith, h)))
+
+  slice_taken : (j n : ℕ) (ys : List X) → j < n → slice_get (take n ys) j ≡ slice_get ys j
+  slice_taken j zero ys h = absurd (omega (arith, h))
+  slice_taken j (suc n) [] h = refl
+  slice_taken zero (suc n) (y ∷ ys) h = refl
+  slice_taken (suc j) (suc n) (y ∷ ys) h = slice_taken j n ys (omega (arith, h))
+
+  slice_behind : (xs ys : List X) (k j : ℕ) → k ≡ length xs + j → slice_get (xs ++ ys) k ≡ slice_get ys j
+  slice_behind [] ys k j e = let same : k ≡ j = omega (arith, e) in ap (slice_get ys) same
+  slice_behind (x ∷ xs) ys zero j e = absurd (omega (arith, e))
+  slice_behind (x ∷ xs) ys (suc k) j e = slice_behind xs ys k j (omega (arith, e))
+
+  pub slice_dropped : (s k j : ℕ) (xs : List X) → k ≡ s + j → slice_get (drop s xs) j ≡ slice_get xs k
+  slice_dropped zero k j xs e = let same : j ≡ k = omega (arith, e) in ap (slice_get xs) same
+  slice_dropped (suc s) k j [] e = refl
+  slice_dropped (suc s) zero j (x ∷ xs) e = absurd (omega (arith, e))
+  slice_dropped (suc s) (suc k) j (x ∷ xs) e = slice_dropped s k j xs (omega (arith, e))
+
+  -- two stretches in a row are one
+  stretches : (xs : List X) (s p q : ℕ) → s ≤ p → p ≤ q → take (p - s) (drop s xs) ++ take (q - p) (drop p xs) ≡ take (q - s) (drop s xs)
+  stretches xs s p q l m =
+      let end : s + (p - s) ≡ p = omega (arith, l) in
+      let both : p - s + (q - p) ≡ q - s = omega (arith, l, m) in
+      sym (ap (λ (n : ℕ). take n (drop s xs)) (sym both) ∙ (take-add (p - s) (q - p) (drop s xs) ∙ ap (λ ys. take (p - s) (drop s xs) ++ take (q - p) ys) (drop-drop (p - s) s xs ∙ ap (λ (n : ℕ). drop n xs) end)))
+
+-- ---- a run that goes on
+
+module _ {K V : Type 0} {cmp : K → K → Ordering} (o : IsTotalOrder cmp) (a : Arenas K V) (s : IsSound cmp a) (base : List (K × V)) (start count room : ℕ) (b : Arenas K V) (r : Option (Position K V)) (left : ℕ) (e : IsExtended cmp a base start count room b r left) (up : IsAscending cmp (base ++ take count (drop start (pairs_of a)))) where
+  abbrev whole : List (K × V)
+  whole = drop start (pairs_of a)
+
+  abbrev done : ℕ
+  done = place a r - start
+
+  -- what is left comes behind what is there
+  pub rest_rising : IsAscending cmp (pairs_of b ++ take left (drop (place a r) (pairs_of a)))
+  rest_rising =
+      let upto = e.upto in
+      let from = e.from in
+      let more : start + count - place a r ≡ left = omega (arith, upto) in
+      let all : start + count - start ≡ count = omega arith in
+      let line : take done whole ++ take left (drop (place a r) (pairs_of a)) ≡ take count whole = ap (λ (n : ℕ). take done whole ++ take n (drop (place a r) (pairs_of a))) (sym more) ∙ (stretches (pairs_of a) start (place a r) (start + count) from (omega (arith, upto)) ∙ ap (λ (n : ℕ). take n whole) all) in
+      subst (IsAscending cmp) (sym (ap (λ ps. ps ++ take left (drop (place a r) (pairs_of a))) e.pairs ∙ (append_assoc base (take done whole) (take left (drop (place a r) (pairs_of a))) ∙ ap (λ ps. base ++ ps) line))) up
+
+  -- a run behind a run
+  pub extended_then : (c : Arenas K V) (q : Option (Position K V)) (rest : ℕ) → IsExtended cmp a (pairs_of b) (place a r) left (ascending_headroom cmp b) c q rest → IsExtended cmp a base start count room c q rest
+  extended_then c q rest f = record {
+    sound = f.sound;
+    spot = f.spot;
+    from = (let x = e.from in let y = f.from in omega (arith, x, y));
+    upto = (let x = e.upto in let y = f.upto in omega (arith, x, y));
+    pairs = f.pairs ∙ (ap (λ ps. ps ++ take (place a q - place a r) (drop (place a r) (pairs_of a))) e.pairs ∙ (append_assoc base (take done whole) (take (place a q - place a r) (drop (place a r) (pairs_of a))) ∙ ap (λ ps. base ++ ps) (stretches (pairs_of a) start (place a r) (place a q) e.from f.from)));
+    places = (let x = e.places in let y = f.places in let u = e.from in let v = f.from in omega (arith, x, y, u, v));
+  }
+
+  module _ (spot : Position K V) (at : r ≡ Some spot) (p : K × V) (there : slice_get spot.leaf.now.array.pairs spot.place ≡ Some p) (some : 0 < left) where
+    pub is_spot : IsPosition a spot
+    is_spot = subst (IsPositionOrEnd a) at e.spot
+
+    stands : place a r ≡ position a spot
+    stands = ap (place a) at
+
+    here : slice_get whole done ≡ Some p
+    here = slice_dropped start (place a r) done (pairs_of a) (let x = e.from in omega (arith, x)) ∙ (ap (slice_get (pairs_of a)) stands ∙ ((spot_pair cmp a s spot is_spot).0 ∙ there))
+
+    -- the next pair of the source is above all of the tree
+    pub next_above : IsAbove cmp p.0 (pairs_of b)
+    next_above =
+        let less : done < count = (let x = e.from in let y = e.upto in omega (arith, x, y, some)) in
+        let front : take (length base + done) (base ++ take count whole) ≡ pairs_of b = take_behind base (take count whole) (length base + done) done refl ∙ (ap (λ ps. base ++ ps) (take_taken done count whole (omega (arith, less))) ∙ sym e.pairs) in
+        subst (IsAbove cmp p.0) front (front_less o (length base + done) (base ++ take count whole) p up (slice_behind base (take count whole) (length base + done) done refl ∙ (slice_taken done count whole less ∙ here)))
+
+    -- once it is behind them, the tree reaches one place further
+    pub next_extended : (c : Arenas K V) (q : Option (Position K V)) (rest : ℕ) → IsSound cmp c → IsPositionOrEnd a q → pairs_of c ≡ pairs_of b ++ p ∷ [] → place a q ≡ position a spot + 1 → rest + 1 ≡ left → ascending_headroom cmp b ≤ ascending_headroom cmp c + 1 → IsExtended cmp a base start count room c q rest
+    next_extended c q rest sound is more next fewer places' =
+        let x = e.from in
+        let y = e.upto in
+        let z = e.places in
+        let step : place a q - start ≡ done + 1 = omega (arith, next, stands, x) in
+        record {
+          sound = sound;
+          spot = is;
+          from = omega (arith, next, stands, x);
+          upto = omega (arith, next, stands, y, fewer);
+          pairs = more ∙ (ap (λ ps. ps ++ p ∷ []) e.pairs ∙ (append_assoc base (take done whole) (p ∷ []) ∙ (ap (λ ps. base ++ ps) (sym (take_next o done whole p here)) ∙ sym (ap (λ (m : ℕ). base ++ take m whole) step))));
+          places = omega (arith, z, places', step);
+        }
+
+-- nothing was done yet
+pub unextended : {K V : Type 0} (cmp : K → K → Ordering) (a : Arenas K V) (b : Arenas K V) (r : Option (Position K V)) (count : ℕ) → IsSound cmp b → IsPositionOrEnd a r → IsExtended cmp a (pairs_of b) (place a r) count (ascending_headroom cmp b) b r count
+unextended cmp a b r count sound spot =
+    let none : place a r - place a r ≡ 0 = omega arith in
+    record {
+      sound = sound;
+      spot = spot;
+      from = omega arith;
+      upto = omega arith;
+      pairs = sym (ap (λ (n : ℕ). pairs_of b ++ take n (drop (place a r) (pairs_of a))) none ∙ append-nil (pairs_of b));
+      places = omega (arith, none);
+    }

@@ -24,6 +24,7 @@ pub mod WalkLemmas
 pub mod SpotLemmas
 pub mod EqualLemmas
 pub mod CopyLemmas
+pub mod RunLemmas
 pub mod ThinLemmas
 pub mod RemovalLemmas
 pub mod WithoutLemmas

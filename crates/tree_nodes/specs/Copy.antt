@@ -1,5 +1,5 @@
--- How far the pairs of a tree have been cloned.
-use Rattle.std.specs.Prelude.{◌≡◌, ◌≤◌, ◌+◌, ℕ, length, take, Option, Some, None}
+-- How far the pairs of a tree have been cloned into another one.
+use Rattle.std.specs.Prelude.{◌≡◌, ◌≤◌, ◌+◌, ◌-◌, ◌++◌, ℕ, List, drop, length, take, Option, Some, None}
 use Rattle.std.specs.declared.cmp.Ordering.{Ordering}
 use Rattle.tree_nodes.specs.declared.arenas.Arenas.{Arenas}
 use Rattle.tree_nodes.specs.declared.walk.Position.{Position}
@@ -17,9 +17,12 @@ module _ {K V : Type 0} where
   IsPositionOrEnd a None = Unit {0}
   IsPositionOrEnd a (Some s) = IsPosition a s
 
-  -- the copy has the pairs up to a place, and for each of them it has taken one of its own places at most
-  pub record IsCopied (cmp : K → K → Ordering) (source copy : Arenas K V) (next : Option (Position K V)) : Type 0 where
-    pub sound : IsSound cmp copy
+  -- a tree has the pairs of a list, and behind them those of a source from one place up to another, with so many left of a
+  -- count; for each of them it has taken one of its own places at most
+  pub record IsExtended (cmp : K → K → Ordering) (source : Arenas K V) (base : List (K × V)) (start count room : ℕ) (tree : Arenas K V) (next : Option (Position K V)) (left : ℕ) : Type 0 where
+    pub sound : IsSound cmp tree
     pub spot : IsPositionOrEnd source next
-    pub front : pairs_of copy ≡ take (place source next) (pairs_of source)
-    pub places : 241 ≤ ascending_headroom cmp copy + length (pairs_of copy)
+    pub from : start ≤ place source next
+    pub upto : place source next + left ≡ start + count
+    pub pairs : pairs_of tree ≡ base ++ take (place source next - start) (drop start (pairs_of source))
+    pub places : room ≤ ascending_headroom cmp tree + (place source next - start)

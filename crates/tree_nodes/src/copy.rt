@@ -1,9 +1,10 @@
-//! Clones of trees.
+//! Clones of trees, and of runs of their pairs.
 
-ghost use Rattle.std.specs.Prelude.{◌≡◌, ◌≤◌, ◌+◌, IfOk, length};
+ghost use Rattle.std.specs.Prelude.{◌≡◌, ◌≤◌, ◌+◌, ◌++◌, [], IfOk, OnErr, length, take, drop};
+ghost use Rattle.leaf_array.specs.Pairs.{IsAscending};
 ghost use Rattle.leaf_array.specs.Values.{ClonesAreSame};
 ghost use Rattle.tree_nodes.specs.Content.{pairs_of, IsSound};
-ghost use Rattle.tree_nodes.specs.Copy.{place, IsCopied};
+ghost use Rattle.tree_nodes.specs.Copy.{place, IsExtended, IsPositionOrEnd};
 ghost use Rattle.tree_nodes.specs.Depth.{ascending_headroom};
 
 use crate::arenas::Arenas;
@@ -26,23 +27,18 @@ impl<K: Ord, V> Arenas<K, V> {
         ensures ascending_headroom { IfOk result (λ a. 241 ≤ ascending_headroom K.cmp a + length (pairs_of a)) }
     {
         let mut copy = Arenas::with_capacity(alloc, self.len)?;
-        let mut next = self.first_from(self.first_leaf());
-        while let Some(spot) = next {
-            let (key, val) = spot.pair();
-            match copy.push(key.clone()?, val.clone()?) {
-                InsertResult::Success => next = copy.fill(self, self.behind(spot))?,
-                _ => return Err(AllocError),
-            }
-        }
+        let first = self.first_from(self.first_leaf());
+        let _ = copy.extend(self, first, self.len)?;
         Ok(copy)
     }
 
-    /// Puts clones of the pairs of another tree from a place on behind those of the last leaf, as long as that has
-    /// room, and gives the place of the first one that is left over.
-    fn fill<'t>(
+    /// Puts clones of so many pairs of another tree, from a place on, behind all others, whose keys are lesser. It gives the
+    /// place of the first one that is left over. Where memory is refused, no pair is left.
+    pub fn push_run<'t>(
         &mut self,
         source: &'t Arenas<K, V>,
         from: Option<Position<'t, K, V>>,
+        count: usize,
     ) -> Result<Option<Position<'t, K, V>>, AllocError>
     where
         K: Clone + Drop,
@@ -50,23 +46,93 @@ impl<K: Ord, V> Arenas<K, V> {
         requires keys { ClonesAreSame K.is_clone }
         requires values { ClonesAreSame V.is_clone }
         requires source { IsSound K.cmp source.now }
-        requires copied { IsCopied K.cmp source.now self.old from }
-        ensures copied { IfOk result (λ next. IsCopied K.cmp source.now self.new next) }
-        ensures further { IfOk result (λ next. place source.now from.entry ≤ place source.now next) }
+        requires sound { IsSound K.cmp self.old }
+        requires spot { IsPositionOrEnd source.now from }
+        requires within { place source.now from + count ≤ length (pairs_of source.now) }
+        requires rising { IsAscending K.cmp (pairs_of self.old ++ take count (drop (place source.now from) (pairs_of source.now))) }
+        ensures sound { IsSound K.cmp self.new }
+        ensures pairs { IfOk result (λ next. pairs_of self.new ≡ pairs_of self.old ++ take count (drop (place source.now from.entry) (pairs_of source.now))) }
+        ensures spot { IfOk result (λ next. IsPositionOrEnd source.now next) }
+        ensures there { IfOk result (λ next. place source.now next ≡ place source.now from.entry + count) }
+        ensures ascending { IfOk result (λ next. ascending_headroom K.cmp self.old ≤ ascending_headroom K.cmp self.new + count) }
+        ensures refused { OnErr result (pairs_of self.new ≡ []) }
+        ensures flat { OnErr result (self.new.height ≡ 0) }
+    {
+        match self.extend(source, from, count) {
+            Ok(next) => Ok(next),
+            Err(refused) => {
+                self.clear();
+                Err(refused)
+            },
+        }
+    }
+
+    /// The same, but that nothing is said of what is left where memory is refused.
+    fn extend<'t>(
+        &mut self,
+        source: &'t Arenas<K, V>,
+        from: Option<Position<'t, K, V>>,
+        count: usize,
+    ) -> Result<Option<Position<'t, K, V>>, AllocError>
+    where
+        K: Clone + Drop,
+        V: Clone + Drop,
+        requires keys { ClonesAreSame K.is_clone }
+        requires values { ClonesAreSame V.is_clone }
+        requires source { IsSound K.cmp source.now }
+        requires sound { IsSound K.cmp self.old }
+        requires spot { IsPositionOrEnd source.now from }
+        requires within { place source.now from + count ≤ length (pairs_of source.now) }
+        requires rising { IsAscending K.cmp (pairs_of self.old ++ take count (drop (place source.now from) (pairs_of source.now))) }
+        ensures { IfOk result (λ next. IsExtended K.cmp source.now (pairs_of self.old) (place source.now from.entry) count (ascending_headroom K.cmp self.old) self.new next 0) }
+    {
+        let mut next = from;
+        let mut left = count;
+        while left > 0 {
+            let Some(spot) = next else { unreachable!() };
+            let (key, val) = spot.pair();
+            match self.push(key.clone()?, val.clone()?) {
+                InsertResult::Success => {},
+                _ => return Err(AllocError),
+            }
+            (next, left) = self.fill(source, source.behind(spot), left - 1)?;
+        }
+        Ok(next)
+    }
+
+    /// Puts clones of so many pairs of another tree, from a place on, behind those of the last leaf, as long as that has
+    /// room. It gives the place of the first one that is left over, and how many are left.
+    fn fill<'t>(
+        &mut self,
+        source: &'t Arenas<K, V>,
+        from: Option<Position<'t, K, V>>,
+        count: usize,
+    ) -> Result<(Option<Position<'t, K, V>>, usize), AllocError>
+    where
+        K: Clone + Drop,
+        V: Clone + Drop,
+        requires keys { ClonesAreSame K.is_clone }
+        requires values { ClonesAreSame V.is_clone }
+        requires source { IsSound K.cmp source.now }
+        requires sound { IsSound K.cmp self.old }
+        requires spot { IsPositionOrEnd source.now from }
+        requires within { place source.now from + count ≤ length (pairs_of source.now) }
+        requires rising { IsAscending K.cmp (pairs_of self.old ++ take count (drop (place source.now from) (pairs_of source.now))) }
+        ensures { IfOk result (λ r. IsExtended K.cmp source.now (pairs_of self.old) (place source.now from.entry) count (ascending_headroom K.cmp self.old) self.new r.0 r.1) }
     {
         let Some(at) = self.open_leaf() else {
-            return Ok(from);
+            return Ok((from, count));
         };
         let mut next = from;
+        let mut left = count;
         let mut open = self.len < usize::MAX;
-        while open {
-            let Some(spot) = next else {
-                return Ok(None);
-            };
+        while open && left > 0 {
+            let Some(spot) = next else { unreachable!() };
             let (key, val) = spot.pair();
             open = self.push_at(at, key.clone()?, val.clone()?);
             next = source.behind(spot);
+            left -= 1;
         }
-        Ok(next)
+        Ok((next, left))
     }
 }

@@ -1,9 +1,11 @@
 //! From pair to pair, along the leaves.
 
-ghost use Rattle.std.specs.Prelude.{◌≡◌, ◌<◌, ◌+◌, ◌-◌, IfSome, IfNone, Some, None, ℕ, List, [], ◌∷◌, ◌++◌, cond, length, slice_get};
+ghost use Rattle.std.specs.Prelude.{◌≡◌, ◌≤◌, ◌<◌, ◌+◌, ◌-◌, IfSome, IfNone, Some, None, ℕ, List, [], ◌∷◌, ◌++◌, cond, drop, length, slice_get, take};
+ghost use Rattle.std.specs.declared.cmp.Ordering.TheVariants.{Less};
 ghost use Rattle.leaf_array.specs.Lookups.{deref_bound};
 ghost use Rattle.std.specs.declared.ops.Bound.TheVariants.{Included, Excluded, Unbounded};
 ghost use Rattle.tree_nodes.specs.Content.{pairs_of, leaves_of, IsSound};
+ghost use Rattle.tree_nodes.specs.Shape.{AllKeys};
 ghost use Rattle.tree_nodes.specs.Bounds.{before_start, up_to_end};
 ghost use Rattle.tree_nodes.specs.Walk.{position, starts_at, ends_at, IsOwnLeaf, IsInsertionPoint, IsPosition};
 
@@ -187,6 +189,22 @@ impl<K: Ord, V> Arenas<K, V> {
             )),
             None => None,
         }
+    }
+
+    /// How many pairs of its leaf, from a place on, have keys below this one; all of them, where none is named.
+    #[inline(always)]
+    pub fn run_at(&self, spot: Position<'_, K, V>, upto: Option<&K>) -> usize
+        requires sound { IsSound K.cmp self.now }
+        requires spot { IsPosition self.now spot }
+        ensures within { position self.now spot.entry + result ≤ length (pairs_of self.now) }
+        ensures below { IfSome upto.entry (λ key. AllKeys (λ k. K.cmp k key.now ≡ Less) (take result (drop (position self.now spot.entry) (pairs_of self.now)))) }
+    {
+        let Some(key) = upto else {
+            return spot.leaf.len() - spot.place;
+        };
+        spot.leaf
+            .insertion_point(key, false)
+            .saturating_sub(spot.place)
     }
 
     /// The pair before one.

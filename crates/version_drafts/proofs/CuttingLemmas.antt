@@ -194,6 +194,32 @@ empty_of (x ∷ xs) h = absurd (omega (arith, h))
 
 -- ---- pairs are given
 
+-- a run goes into the open tree
+module _ {K V N : Type 0} {cmp : K → K → Ordering} {named : N → List (K × V)} {s : ℕ} {blocks : List (List (K × V))} {c : SegmentBuilder K V N} (h : IsCutting named cmp s blocks c) (run : List (K × V)) (up : IsAscending cmp (given_pairs named c ++ run)) (c' : SegmentBuilder K V N) (row : c'.row ≡ c.row) (held : c'.held ≡ c.held) (tail : c'.tail.pairs ≡ c.tail.pairs ++ run) where
+  pub run_given_behind : given_pairs named c' ≡ given_pairs named c ++ run
+  run_given_behind = ap (λ (r : Row K V N). pairs_in (blocks_of_parts named r.parts.items) ++ c'.tail.pairs) row ∙ (ap (λ ps. pairs_in (blocks_of_parts named c.row.parts.items) ++ ps) tail ∙ sym (append_assoc (pairs_in (blocks_of_parts named c.row.parts.items)) c.tail.pairs run))
+
+  pub tail_run : length c'.tail.pairs ≡ length c.tail.pairs + length run
+  tail_run = ap length tail ∙ length-append c.tail.pairs run
+
+  pub cutting_run : length c.tail.pairs + length run ≤ s → c'.length ≡ c.length + length run → IsCutting named cmp s blocks c'
+  cutting_run room count =
+      let more = tail_run in
+      let all = ap length run_given_behind ∙ length-append (given_pairs named c) run in
+      record {
+        least = h.least;
+        most = h.most;
+        row = subst (IsSegmentRow named s) (sym row) h.row;
+        room = omega (arith, more, room);
+        rising = subst (IsAscending cmp) (sym run_given_behind) up;
+        count = omega (arith, count, all, h.count);
+        held = subst (λ (r : Row K V N). IsHeld named blocks r.parts.items c'.held) (sym row) (subst (IsHeld named blocks c.row.parts.items) (sym held) h.held);
+        fresh = λ none. subst (λ (r : Row K V N). (r.last ≡ 0) ⊎ (r.last ≡ s)) (sym row) (h.fresh (sym held ∙ none));
+      }
+
+  pub spent_run : room_spent s c' ≡ room_spent s c + length run
+  spent_run = let same = ap (λ (r : Row K V N). s * made_in r.parts.items) row in let more = tail_run in omega (arith, same, more)
+
 module _ {K V N : Type 0} {cmp : K → K → Ordering} (o : IsTotalOrder cmp) {named : N → List (K × V)} {s : ℕ} {blocks : List (List (K × V))} {c : SegmentBuilder K V N} (h : IsCutting named cmp s blocks c) (key : K) (val : V) (up : IsAscending cmp (given_pairs named c ++ (key, val) ∷ [])) where
   -- the key is above those of the open tree
   pub above_tail : IsAbove cmp key c.tail.pairs
@@ -205,28 +231,13 @@ module _ {K V N : Type 0} {cmp : K → K → Ordering} (o : IsTotalOrder cmp) {n
   -- it takes the pair
   module _ (c' : SegmentBuilder K V N) (row : c'.row ≡ c.row) (held : c'.held ≡ c.held) (tail : c'.tail.pairs ≡ c.tail.pairs ++ (key, val) ∷ []) where
     pub given_more : given_pairs named c' ≡ given_pairs named c ++ (key, val) ∷ []
-    given_more = ap (λ (r : Row K V N). pairs_in (blocks_of_parts named r.parts.items) ++ c'.tail.pairs) row ∙ (ap (λ ps. pairs_in (blocks_of_parts named c.row.parts.items) ++ ps) tail ∙ sym (append_assoc (pairs_in (blocks_of_parts named c.row.parts.items)) c.tail.pairs ((key, val) ∷ [])))
-
-    pub tail_more : length c'.tail.pairs ≡ length c.tail.pairs + 1
-    tail_more = ap length tail ∙ length-append c.tail.pairs ((key, val) ∷ [])
+    given_more = run_given_behind h ((key, val) ∷ []) up c' row held tail
 
     pub cutting_more : length c.tail.pairs < s → c'.length ≡ c.length + 1 → IsCutting named cmp s blocks c'
-    cutting_more room count =
-        let more = tail_more in
-        let all = ap length given_more ∙ longer in
-        record {
-          least = h.least;
-          most = h.most;
-          row = subst (IsSegmentRow named s) (sym row) h.row;
-          room = omega (arith, more, room);
-          rising = subst (IsAscending cmp) (sym given_more) up;
-          count = omega (arith, count, all, h.count);
-          held = subst (λ (r : Row K V N). IsHeld named blocks r.parts.items c'.held) (sym row) (subst (IsHeld named blocks c.row.parts.items) (sym held) h.held);
-          fresh = λ none. subst (λ (r : Row K V N). (r.last ≡ 0) ⊎ (r.last ≡ s)) (sym row) (h.fresh (sym held ∙ none));
-        }
+    cutting_more room count = cutting_run h ((key, val) ∷ []) up c' row held tail (omega (arith, room)) count
 
     pub spent_more : room_spent s c' ≡ room_spent s c + 1
-    spent_more = let same = ap (λ (r : Row K V N). s * made_in r.parts.items) row in let more = tail_more in omega (arith, same, more)
+    spent_more = spent_run h ((key, val) ∷ []) up c' row held tail
 
   -- it is full
   closing_full : length c.tail.pairs ≡ s → IsClosing named s c

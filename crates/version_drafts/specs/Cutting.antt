@@ -1,5 +1,6 @@
 -- A list that is being cut.
-use Rattle.std.specs.Prelude.{◌≡◌, ◌≢◌, ◌⊎◌, Bool, true, false, ℕ, ◌+◌, ◌-◌, ◌*◌, ◌≤◌, ◌<◌, List, [], ◌∷◌, ◌++◌, drop, length, map, slice_get, take, Option, Some, None}
+use Rattle.std.specs.Prelude.{◌≡◌, ◌≢◌, ◌⊎◌, Bool, true, false, ℕ, ◌+◌, ◌-◌, ◌*◌, ◌≤◌, ◌<◌, List, [], ◌∷◌, ◌++◌, drop, length, map, slice_get, take, IfSome, Option, Some, None}
+use Rattle.std.specs.Borrow.{Bor}
 use Rattle.std.specs.declared.cmp.Ordering.{Ordering}
 use Rattle.std.specs.declared.cmp.Ordering.TheVariants.{Less, Greater}
 use Rattle.std.specs.List.{All}
@@ -140,6 +141,10 @@ module _ {K V N : Type 0} (named : N → List (K × V)) (cmp : K → K → Order
 
   abbrev pub KeepsListWithin : ℕ → List (K × V) → List (K × Option V) → SegmentBuilder K V N → List (K × V) → List (K × Option V) → SegmentBuilder K V N → Type 0
   KeepsListWithin place pairs edits c pairs' edits' c' = given_pairs named c' ++ apply_delta cmp edits' (rest_behind cmp gone blocks place pairs') ≡ given_pairs named c ++ apply_delta cmp edits (rest_behind cmp gone blocks place pairs)
+
+-- no key is named, or the pairs have keys below it
+abbrev pub LiesBelow : {K V : Type 0} → (K → K → Ordering) → Option (Bor K) → List (K × V) → Type 0
+LiesBelow cmp upto pairs = IfSome upto (λ key. AllKeys (λ k. cmp k key.now ≡ Less) pairs)
 
 module _ {K V X : Type 0} (cmp : K → K → Ordering) where
   -- the first change is at or below the last key of a segment; or all keys are below it

@@ -286,9 +286,85 @@ fn merge_segment<
     let mut pairs = Sieve::new(old.segment(place), gone);
     let mut more = true;
     while more {
-        more = merge_next::<K, V, N, O, S>(out, changes, &mut pairs, gone, old, place)?;
+        more = merge_more::<K, V, N, O, S>(out, changes, &mut pairs, gone, old, place)?;
     }
     Ok(())
+}
+
+/// Takes the pairs that come before the next change, a leaf at a time, or where there is none what is first, and says whether
+/// there was a pair.
+fn merge_more<
+    K: Clone + Ord + Drop,
+    V: Clone + Drop,
+    N: Drop,
+    O: BaseVersion<K, V, N>,
+    const S: usize,
+>(
+    out: &mut SegmentBuilder<K, V, N>,
+    changes: &mut ChangeScan<'_, K, Edit<'_, V>>,
+    pairs: &mut Sieve<'_, K, V>,
+    gone: &[Gone<K>],
+    old: &O,
+    place: usize,
+) -> Result<bool, AllocError>
+    requires keys { ClonesAreSame K.is_clone }
+    requires values { ClonesAreSame V.is_clone }
+    requires sorted { IsAscending K.cmp (rest_behind K.cmp gone.now (O.blocks old.now) place pairs.old) }
+    requires whole { IsCutting (O.named old.now) K.cmp S (O.blocks old.now) out.old }
+    requires rising { IsAscending K.cmp (given_pairs (O.named old.now) out.old ++ apply_delta K.cmp changes.old (rest_behind K.cmp gone.now (O.blocks old.now) place pairs.old)) }
+    ensures whole { OnOk result (IsCutting (O.named old.now) K.cmp S (O.blocks old.now) out.new) }
+    ensures list { OnOk result (KeepsListWithin (O.named old.now) K.cmp gone.now (O.blocks old.now) place pairs.old changes.old out.old pairs.new changes.new out.new) }
+    ensures sorted { OnOk result (IsAscending K.cmp (rest_behind K.cmp gone.now (O.blocks old.now) place pairs.new)) }
+    ensures filled { OnOk result (GivesNoMoreThanRead S (length pairs.old + length changes.old) (length pairs.new + length changes.new) out.old out.new) }
+    ensures reached { OnOk result (IsReachedBy K.cmp changes.old pairs.old → IsReachedBy K.cmp changes.new pairs.new ⊎ (length changes.new < length changes.old)) }
+    ensures fewer { IfOk result (λ more. more ≡ true → length changes.new + length pairs.new < length changes.old + length pairs.old) }
+    ensures less { OnOk result (length changes.new ≤ length changes.old) }
+    ensures done { IfOk result (λ more. more ≡ false → pairs.new ≡ []) }
+{
+    if copy_run::<K, V, N, O, S>(out, changes, pairs, gone, old, place)? {
+        return Ok(true);
+    }
+    merge_next::<K, V, N, O, S>(out, changes, pairs, gone, old, place)
+}
+
+/// Gives clones of the first pairs that come before the next change, those of one leaf, as far as the open tree has room, and
+/// says whether there were any.
+fn copy_run<
+    K: Clone + Ord + Drop,
+    V: Clone + Drop,
+    N: Drop,
+    O: BaseVersion<K, V, N>,
+    const S: usize,
+>(
+    out: &mut SegmentBuilder<K, V, N>,
+    changes: &ChangeScan<'_, K, Edit<'_, V>>,
+    pairs: &mut Sieve<'_, K, V>,
+    gone: &[Gone<K>],
+    old: &O,
+    place: usize,
+) -> Result<bool, AllocError>
+    requires keys { ClonesAreSame K.is_clone }
+    requires values { ClonesAreSame V.is_clone }
+    requires sorted { IsAscending K.cmp (rest_behind K.cmp gone.now (O.blocks old.now) place pairs.old) }
+    requires whole { IsCutting (O.named old.now) K.cmp S (O.blocks old.now) out.old }
+    requires rising { IsAscending K.cmp (given_pairs (O.named old.now) out.old ++ apply_delta K.cmp changes.now (rest_behind K.cmp gone.now (O.blocks old.now) place pairs.old)) }
+    ensures whole { OnOk result (IsCutting (O.named old.now) K.cmp S (O.blocks old.now) out.new) }
+    ensures list { OnOk result (KeepsListWithin (O.named old.now) K.cmp gone.now (O.blocks old.now) place pairs.old changes.now out.old pairs.new changes.now out.new) }
+    ensures sorted { OnOk result (IsAscending K.cmp (rest_behind K.cmp gone.now (O.blocks old.now) place pairs.new)) }
+    ensures filled { OnOk result (GivesNoMoreThanRead S (length pairs.old + length changes.now) (length pairs.new + length changes.now) out.old out.new) }
+    ensures reached { OnOk result (IsReachedBy K.cmp changes.now pairs.old → IsReachedBy K.cmp changes.now pairs.new) }
+    ensures less { OnOk result (length pairs.new ≤ length pairs.old) }
+    ensures fewer { IfOk result (λ some. some ≡ true → length pairs.new < length pairs.old) }
+{
+    let _ = gone;
+    let _ = old;
+    let room = S - out.tail.len();
+    let count = pairs.push_run(&mut out.tail, changes.key(), room)?;
+    let Some(length) = out.length.checked_add(count) else {
+        return Err(AllocError);
+    };
+    out.length = length;
+    Ok(count > 0)
 }
 
 /// Takes what is first of changes and the pairs of the segment at a place, or both where they have one key, and says whether

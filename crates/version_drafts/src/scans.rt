@@ -1,12 +1,18 @@
 //! The pairs of a tree that are yet to be read: all of them, or those that no range takes away.
 
-ghost use Rattle.std.specs.Prelude.{◌≡◌, drop, slice_get};
+ghost use Rattle.std.specs.Prelude.{◌≡◌, ◌≤◌, ◌+◌, ◌++◌, ℕ, IfOk, OnOk, drop, length, option_copied, slice_get, take};
+ghost use Rattle.std.specs.Option.{option_map};
+ghost use Rattle.leaf_array.specs.Pairs.{IsAscending};
+ghost use Rattle.leaf_array.specs.Values.{ClonesAreSame};
 ghost use Rattle.tree_index.specs.Cursor.{deref_pair};
+ghost use Rattle.version_drafts.specs.Cutting.{LiesBelow};
 ghost use Rattle.version_drafts.specs.Gone.{FirstIsLeft, without_gone};
 
 use crate::gone::{Gone, is_gone};
+use std::alloc::AllocError;
 use std::marker::Model;
 use tree_index::{Iter, TreeIndex};
+use version_views::Segment;
 
 /// The pairs of a tree by rising keys, without those that were passed.
 #[derive(Drop)]
@@ -56,6 +62,50 @@ impl<'t, K: Ord, V> ChangeScan<'t, K, V> {
             count = count.saturating_add(1);
         }
         count
+    }
+
+    /// The key of the first pair that is left.
+    #[inline(always)]
+    pub(crate) fn key(&self) -> Option<&'t K>
+        ensures { option_copied result ≡ option_map (λ p. p.0) (slice_get self.now 0) }
+    {
+        match self.front() {
+            Some((key, _)) => Some(key),
+            None => None,
+        }
+    }
+
+    /// How many of the first pairs that are left, in one leaf, have keys below this one; all of them, where none is named.
+    #[inline(always)]
+    pub(crate) fn run(&self, upto: Option<&K>) -> usize
+        ensures within { result ≤ length self.now }
+        ensures below { LiesBelow K.cmp upto.entry (take result self.now) }
+    {
+        self.cursor.run(upto)
+    }
+
+    /// Puts clones of so many of the first pairs that are left behind those of a segment, and passes them.
+    #[inline(always)]
+    pub(crate) fn push_run(
+        &mut self,
+        into: &mut Segment<K, V>,
+        count: usize,
+    ) -> Result<(), AllocError>
+    where
+        K: Clone + Drop,
+        V: Clone + Drop,
+        requires keys { ClonesAreSame K.is_clone }
+        requires values { ClonesAreSame V.is_clone }
+        requires within { count ≤ length self.old }
+        requires rising { IsAscending K.cmp (into.old.pairs ++ take count self.old) }
+        requires room { length into.old.pairs + count ≤ 225 }
+        ensures pushed { OnOk result (into.new.pairs ≡ into.old.pairs ++ take count self.old) }
+        ensures passed { OnOk result (self.new ≡ drop count self.old) }
+    {
+        match into.push_run(&mut self.cursor, count) {
+            Ok(()) => Ok(()),
+            Err(refused) => Err(refused),
+        }
     }
 
     /// The first pair that is left.
@@ -119,6 +169,37 @@ impl<'t, K: Ord, V> Sieve<'t, K, V> {
     {
         self.pairs.step();
         pass_gone(&mut self.pairs, self.gone);
+    }
+
+    /// Puts clones of the first pairs that are left and have keys below this one, if one is named, behind those of a segment,
+    /// passes them, and tells how many: those of one leaf, up to a number, and none where ranges are gone, which have to be
+    /// looked for pair by pair.
+    #[inline(always)]
+    pub(crate) fn push_run(
+        &mut self,
+        into: &mut Segment<K, V>,
+        upto: Option<&K>,
+        most: usize,
+    ) -> Result<usize, AllocError>
+    where
+        K: Clone + Drop,
+        V: Clone + Drop,
+        requires keys { ClonesAreSame K.is_clone }
+        requires values { ClonesAreSame V.is_clone }
+        requires rising { (n : ℕ) → LiesBelow K.cmp upto (take n self.old) → IsAscending K.cmp (into.old.pairs ++ take n self.old) }
+        requires room { length into.old.pairs + most ≤ 225 }
+        ensures most { IfOk result (λ n. n ≤ most) }
+        ensures within { IfOk result (λ n. n ≤ length self.old) }
+        ensures below { IfOk result (λ n. LiesBelow K.cmp upto.entry (take n self.old)) }
+        ensures pushed { IfOk result (λ n. into.new.pairs ≡ into.old.pairs ++ take n self.old) }
+        ensures passed { IfOk result (λ n. self.new ≡ drop n self.old) }
+    {
+        if !self.gone.is_empty() {
+            return Ok(0);
+        }
+        let count = self.pairs.run(upto).min(most);
+        self.pairs.push_run(into, count)?;
+        Ok(count)
     }
 }
 

@@ -1,12 +1,14 @@
 //! The tree of a segment.
 
-ghost use Rattle.std.specs.Prelude.{◌≡◌, ◌≤◌, ◌<◌, ◌++◌, ◌∷◌, ◌==◌, [], length, IfErr, IfOk, OnErr, OnOk};
+ghost use Rattle.std.specs.Prelude.{◌≡◌, ◌≤◌, ◌<◌, ◌+◌, ◌++◌, ◌∷◌, ◌==◌, [], length, take, IfErr, IfOk, OnErr, OnOk};
+ghost use Rattle.leaf_array.specs.Pairs.{IsAscending};
 ghost use Rattle.leaf_array.specs.Values.{ClonesAreSame};
+ghost use Rattle.tree_index.specs.Cursor.{passed, unread};
 ghost use Rattle.tree_index.specs.Depth.{IsAbove};
 
 use std::alloc::{AllocError, Global};
 use std::marker::Model;
-use tree_index::TreeIndex;
+use tree_index::{Iter, TreeIndex};
 
 /// A tree of at most 225 pairs that came by rising keys: at most one node stands above its leaves, so a look-up
 /// makes at most thirty comparisons.
@@ -81,6 +83,29 @@ impl<K: Ord, V> Segment<K, V> {
         ensures refused { OnErr result (self.new ≡ self.old) }
     {
         self.tree.push_last(key, value)
+    }
+
+    /// Puts clones of so many pairs of a tree behind all others, whose keys are lesser: that of a cursor's forward end and
+    /// those behind it, which the cursor passes. Where memory is refused, the segment has no pair left, and the cursor stays.
+    /// Condition: there is room for them below 226 pairs.
+    pub fn push_run(&mut self, source: &mut Iter<'_, K, V>, count: usize) -> Result<(), AllocError>
+    where
+        K: Clone + Drop,
+        V: Clone + Drop,
+        requires keys { ClonesAreSame K.is_clone }
+        requires values { ClonesAreSame V.is_clone }
+        requires within { count ≤ length (unread source.old) }
+        requires rising { IsAscending K.cmp (self.old.pairs ++ take count (unread source.old)) }
+        requires room { length self.old.pairs + count ≤ 225 }
+        ensures pushed { OnOk result (self.new.pairs ≡ self.old.pairs ++ take count (unread source.old)) }
+        ensures passed { OnOk result (source.new ≡ passed count source.old) }
+        ensures refused { OnErr result (self.new.pairs ≡ []) }
+        ensures still { OnErr result (source.new ≡ source.old) }
+    {
+        match self.tree.push_run(source, count) {
+            Ok(()) => Ok(()),
+            Err(refused) => Err(refused),
+        }
     }
 
     /// How many pairs there are.

@@ -60,12 +60,12 @@ pub loop-more-smaller : goal.loop-more-smaller
 loop-more-smaller g c =
     let e = c.in_ok-more.ensures in
     let before = length c.loop-more.changes + length c.loop-more.pairs in
-    let after = length c.merge_next.new.changes + length c.merge_next.new.pairs in
+    let after = length c.merge_more.new.changes + length c.merge_more.new.pairs in
     let more : ◌≡◌ {A = ℕ} (cond c.loop-more.more 1 0) 1 = ap (λ b. cond {A = ℕ} b 1 0) c.loop-more-test.true in
     let smaller : cond {A = ℕ} c.in_ok-more.more 1 0 + after < cond {A = ℕ} c.loop-more.more 1 0 + before =
     on_test c.in_ok-more.more
     (λ t. let less : after < before = e.fewer t in let one : ◌≡◌ {A = ℕ} (cond c.in_ok-more.more 1 0) 1 = ap (λ b. cond {A = ℕ} b 1 0) t in omega (arith, less, one, more))
-    (λ f. let none : length c.merge_next.new.pairs ≡ 0 = ap length (e.done f) in let less : length c.merge_next.new.changes ≤ length c.loop-more.changes = e.less in let zero' : ◌≡◌ {A = ℕ} (cond c.in_ok-more.more 1 0) 0 = ap (λ b. cond {A = ℕ} b 1 0) f in omega (arith, none, less, zero', more)) in
+    (λ f. let none : length c.merge_more.new.pairs ≡ 0 = ap length (e.done f) in let less : length c.merge_more.new.changes ≤ length c.loop-more.changes = e.less in let zero' : ◌≡◌ {A = ℕ} (cond c.in_ok-more.more 1 0) 0 = ap (λ b. cond {A = ℕ} b 1 0) f in omega (arith, none, less, zero', more)) in
     smaller
 
 pub returns-clause-filled : goal.returns-clause-filled

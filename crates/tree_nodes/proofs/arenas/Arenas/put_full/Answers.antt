@@ -1,4 +1,4 @@
-use Rattle.std.proofs.Common.{false, true, sym, ap, ◌∙◌, subst, arith}
+use Rattle.std.proofs.Common.{sym, ap, ◌∙◌, subst, arith}
 use Rattle.std.proofs.lemmas.Bool.{false≢true}
 use Rattle.leaf_array.specs.Edits.{upserted}
 use Rattle.leaf_array.specs.Pairs.{has_key}
