@@ -169,6 +169,8 @@ module _ (S : Type 0) (IsIn : Content → S → Type 0) (plan : Plan) where
         waits = retires_now;
         once = releases.once_now S IsIn plan s r id d l o os at kind ready has first slot to;
         noted = releases.collects S IsIn plan s r id d l o os at kind ready has first slot to;
+        old_waits = λ w h. releases.new_waits to (2 + it.owners) l d.waits w h;
+        old_notes = λ w h. releases.new_notes to (2 + it.owners) l d.collected w h;
         owns = λ w h. r.items.owners id d w at (subst (λ (z : List Owner). Has z w) (sym first) (inr h));
       }
 

@@ -22,7 +22,7 @@ use Rattle.sdd_homes.specs.declared.Garbage.{Garbage}
 use Rattle.sdd_homes.specs.Reasons.{Loads}
 use Rattle.sdd_homes.specs.Hands.{items_of}
 use Rattle.domain_table.specs.Views.{IsBare, spent}
-use Rattle.domain_table.specs.Items.{Grip, Rests, IsWaiting, IsLeftover, Distinct, Leftovers, Carries, Items}
+use Rattle.domain_table.specs.Items.{Grip, Rests, IsWaiting, IsLeftover, Distinct, Leftovers, IsLinked, Carries, Items}
 use Rattle.domain_table.proofs.Stirred.{stirred_left, grip_set, loads_others, seated}
 use Rattle.domain_table.proofs.Stirred as items
 use Rattle.domain_table.proofs.Privates.{Keeps, private_on}
@@ -187,6 +187,9 @@ module _ (S : Type 0) (IsIn : Content → S → Type 0) (plan : Plan) where
       owners = alike.owners;
       waiting = items.waits_set bagged core.items id spent (λ w k _. absurd (omega arith)) (λ j e w other here k has. items.waits_left p e.number r.state.items r.book.slot_of w (other_number j e other here k) (r.items.waiting j e w here k has));
       leftovers = leaves;
+      links = items.links_set bagged words' left' id spent (λ j le. let l = low in get_or-set_other s.words i j (suc d.spare) 0 (λ e. omega arith)) (λ w k _. absurd (omega arith)) (λ w has. absurd has)
+          (λ q w. put_all (λ _ ls. Has ls w → IsLinked plan.sizes s.words w) r.book.left p ws q
+          (λ h. ⊎_elim (λ (t : Has d.left w). r.items.links.lefts p w (subst (λ (ls : List Garbage). Has ls w) (sym carries.left) t)) (λ (t : Has d.waits w). r.items.links.waits id d w at kind t) (has_either d.left d.waits w h)) (λ _ h. r.items.links.lefts q w h));
       private = private_on r.items.private (λ w h. items.notes_on p r.state.items r.book.slot_of w h) (set_all (λ j e. Keeps s.views j e) s.views id spent (inl refl) (λ j e _ here. inr (e, here, refl)));
       seats = set_all (λ _ e. e.kind ≡ 1 → Carries plan.sizes book' e) s.views id spent (λ k. absurd (omega arith))
           (λ j e other here k. let g = bagged.seats j e here k in record { sizes_are = g.sizes_are; leases = g.leases; spare = g.spare; fills = g.fills; distinct = g.distinct; left = put_else r.book.left p ws e.number (other_number j e other here k) ∙ g.left });

@@ -18,14 +18,14 @@ use Rattle.sdd_homes.specs.Reasons.{Loads, Why}
 use Rattle.sdd_homes.specs.Lying.{Lying}
 use Rattle.sdd_homes.proofs.PartLemmas as parts
 use Rattle.sdd_homes.proofs.HandLemmas.{owned_set}
-use Rattle.domain_table.specs.Layout.{cell_word, slot_word, claim_word, all_homes, all_extras}
+use Rattle.domain_table.specs.Layout.{cell_word, slot_word, link_word, claim_word, all_homes, all_extras}
 use Rattle.domain_table.specs.Items.{owners_in_hand, Grip, Owns, Carries, Items}
 use Rattle.domain_table.specs.Rule.{Shows}
 use Rattle.domain_table.specs.declared.board.Acting.{Acting}
 use Rattle.domain_table.specs.declared.board.Plan.{Plan}
 use Rattle.domain_table.proofs.Privates.{private_set}
 use Rattle.domain_table.proofs.Moves.{items_change, slot_written}
-use Rattle.domain_table.proofs.Stirred.{rests_on, grip_set, waits_stay}
+use Rattle.domain_table.proofs.Stirred.{rests_on, grip_set, waits_stay, links_at}
 
 module _ (S : Type 0) (IsIn : Content → S → Type 0) (plan : Plan) (s : State S Acting) (r : Shows IsIn plan s) (id k v : ℕ) (d : Acting) (at : get_elem? s.views id ≡ some d) (kind : d.kind ≡ 1)
     (inside : k < plan.sizes.slots) (st : Stage) (filling' : Option Filling) (share' : ℕ → ℕ → ℕ) (what' : ℕ → Content) (homes' : List (maybe.Option S)) where
@@ -102,6 +102,7 @@ module _ (S : Type 0) (IsIn : Content → S → Type 0) (plan : Plan) (s : State
       waiting = waits_stay r.items id d' (λ w _ h. r.items.waiting id d w at kind h);
       leftovers = r.items.leftovers;
       private = private_set r.items.private (λ _ h. h) id d d' at refl;
+      links = links_at r.items words' r.book.left id d' (λ m. get_or-set_other s.words word (link_word plan.sizes m) v 0 (λ z. omega arith)) (λ w _ h. r.items.links.waits id d w at kind h) (λ w h. r.items.links.notes id d w at h) r.items.links.lefts;
       seats = seats_now;
     }
 

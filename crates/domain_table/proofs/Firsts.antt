@@ -67,10 +67,10 @@ module _ (plan : Plan) where
   eights = first_eights plan.sizes.cells n
 
   abbrev behind : List ℕ
-  behind = numbers plan.sizes.cells ++ replicate plan.sizes.slots zero
+  behind = numbers plan.sizes.cells ++ replicate (plan.sizes.slots + plan.sizes.slots) zero
 
   pub long_first : length (first_words plan) ≡ all_words plan.sizes
-  long_first = let a = length-append eights behind in let b = length-append (numbers plan.sizes.cells) (replicate plan.sizes.slots zero) in let c = long_eights plan.sizes.cells n in let d = many_of plan.sizes.slots zero in let e = long_numbers plan.sizes.cells in omega arith
+  long_first = let a = length-append eights behind in let b = length-append (numbers plan.sizes.cells) (replicate (plan.sizes.slots + plan.sizes.slots) zero) in let c = long_eights plan.sizes.cells n in let d = many_of (plan.sizes.slots + plan.sizes.slots) zero in let e = long_numbers plan.sizes.cells in omega arith
 
   -- behind the first 16 words are those of participants, and then all others
   past : (i j : ℕ) → i ≡ 16 + j → get_or (first_words plan) i 0 ≡ get_or (eights ++ behind) j 0
@@ -89,7 +89,7 @@ module _ (plan : Plan) where
   cell_words_first c lt = let l = long_numbers plan.sizes.cells in past (cell_word plan.sizes c) (8 * n + c) (omega arith)
       ∙ (get_or-append_right eights behind (8 * n) (8 * n + c) 0 (long_eights plan.sizes.cells n) (omega arith)
       ∙ (ap (λ z. get_or behind z 0) (let d : 8 * n + c - 8 * n ≡ c = omega arith in d)
-      ∙ (get_or_append_left (numbers plan.sizes.cells) (replicate plan.sizes.slots zero) 0 c (omega arith) ∙ numbers_at plan.sizes.cells c lt)))
+      ∙ (get_or_append_left (numbers plan.sizes.cells) (replicate (plan.sizes.slots + plan.sizes.slots) zero) 0 c (omega arith) ∙ numbers_at plan.sizes.cells c lt)))
 
 -- all slots are free, each user has the spare slot of its own number, and bags are empty
 abbrev pub first_book : Sizes → Book
@@ -158,6 +158,11 @@ module _ {S : Type 0} {IsIn : Content → S → Type 0} (plan : Plan) (words : L
           noted = λ j d w at has. absurd (subst (λ (v : Acting). Has v.collected w) (sym (only j d at)) has);
           once = λ j d at. subst (λ (v : Acting). Distinct v.collected) (only j d at) tt;
           apart = λ j k d e v w at_d at_e has. absurd (subst (λ (z : Acting). Has z.collected v) (sym (only j d at_d)) has);
+        };
+        links = record {
+          waits = λ j d w at_j kind has. let z : 0 ≡ d.kind = ap (λ (v : Acting). v.kind) (only j d at_j) in absurd (omega arith);
+          notes = λ j d w at_j has. absurd (subst (λ (v : Acting). Has v.collected w) (sym (only j d at_j)) has);
+          lefts = λ p w has. absurd has;
         };
         hands = λ i it at. absurd (some-ne-none it (sym at));
         owners = λ j d o at has. absurd (subst (λ (v : Acting). Has v.hand o) (sym (only j d at)) has);

@@ -17,7 +17,7 @@ use Rattle.sdd_steps.proofs.ListLemmas.{set_here, set_else, same_at}
 use Rattle.sdd_homes.specs.declared.Garbage.{Garbage}
 use Rattle.sdd_homes.specs.Book.{Content}
 use Rattle.sdd_homes.specs.Reasons.{Loads}
-use Rattle.domain_table.specs.Items.{Grip, HasState, IsWaiting, IsNoted, Private, Distinct, Items}
+use Rattle.domain_table.specs.Items.{Grip, HasState, IsWaiting, IsNoted, Private, IsLinked, Distinct, Items}
 use Rattle.domain_table.specs.Rule.{Runs, Shows}
 use Rattle.domain_table.specs.Plays.{handing_over, hand_over_then}
 use Rattle.domain_table.specs.declared.board.Acting.{Acting}
@@ -119,6 +119,9 @@ module _ (S : Type 0) (IsIn : Content → S → Type 0) (plan : Plan) where
         (λ j e v _ at_e k has. waits_on e.number v (r.items.waiting j e v at_e k has)))
         (still_left r.items.leftovers (λ v h. states_on Waiting v (unlike Waiting v (λ e. absurd (cc)) h) h))
         private_now
+        (items.links_set r.items s.words r.book.left id d' (λ _ _. refl)
+        (λ v _ has. ⊎_elim (λ (e : record w { age = 0 } ≡ v). subst (IsLinked plan.sizes s.words) e (r.items.links.notes id d w at there)) (λ (t : Has d.waits v). r.items.links.waits id d v at kind t) has)
+        (λ v has. r.items.links.notes id d v at (was_there v has)) r.items.links.lefts)
 
     pub shown_hand : (m : ℕ) → Shows IsIn plan record { words = set s.words m (get_or s.words m 0); homes = s.homes; views = views' }
     shown_hand m = subst (λ xs. Shows IsIn plan record { words = xs; homes = s.homes; views = views' }) (sym (set-get_or s.words m 0))

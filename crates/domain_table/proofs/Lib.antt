@@ -45,3 +45,4 @@ pub mod BagSeats
 pub mod Rereads
 pub mod HandOvers
 pub mod GiveUps
+pub mod Linking

@@ -9,6 +9,7 @@ use lib.Seq.{set-get_or}
 use Rattle.atomic_table.specs.Table.{State}
 use Rattle.atomic_table.proofs.Lists.{set_again}
 use Rattle.domain_table.specs.declared.board.Plan.{Plan}
+use Rattle.sdd_base.specs.declared.sizes.Sizes.{Sizes}
 use Rattle.sdd_steps.specs.declared.participant.Phase.TheVariants.{Idle, Opened}
 use Rattle.sdd_steps.specs.declared.participant.Participant.{Participant}
 use Rattle.sdd_steps.specs.State.{At, Has, newcomer}
@@ -20,7 +21,7 @@ use Rattle.sdd_homes.specs.declared.Lease.{Lease}
 use Rattle.sdd_homes.specs.declared.Garbage.{Garbage}
 use Rattle.sdd_homes.specs.Reasons.{Loads, Why}
 use Rattle.domain_table.specs.Layout.{state_word, claim_word, slot_word, lock_word, count_word, epoch_words, shown}
-use Rattle.domain_table.specs.Items.{Grasps, Grip, IsWaiting, IsLeftover, IsNoted, Carries, Items, Distinct}
+use Rattle.domain_table.specs.Items.{Grasps, Grip, IsWaiting, IsLeftover, IsNoted, IsLinked, Carries, Items, Distinct}
 use Rattle.domain_table.proofs.Stirred.{Stirred, stirred_none, still_left, grip_set, loads_others, seated}
 use Rattle.domain_table.proofs.Stirred as items
 use Rattle.domain_table.proofs.Privates.{private_set}
@@ -53,6 +54,7 @@ module _ (state core : steps.State) (d d' : Acting) where
     pub same : d' ≡ record d { known = d'.known; born = d'.born; scan = d'.scan; waits = d'.waits; cell_steps = d'.cell_steps }
     pub distinct : Distinct d.waits → Distinct d'.waits
     pub waits_mine : (slot_of : ℕ → ℕ) (w : Garbage) → ((v : Garbage) → Has d.waits v → IsWaiting state.items slot_of d.number v) → Has d'.waits w → IsWaiting core.items slot_of d.number w
+    pub links_mine : (sizes : Sizes) (words : List ℕ) (w : Garbage) → ((v : Garbage) → Has d.waits v → IsLinked sizes words v) → Has d'.waits w → IsLinked sizes words w
     pub waits_others : (slot_of : ℕ → ℕ) (q : ℕ) (w : Garbage) → q ≢ d.number → IsWaiting state.items slot_of q w → IsWaiting core.items slot_of q w
     pub lefts : (slot_of : ℕ → ℕ) (w : Garbage) → IsLeftover state.items slot_of w → IsLeftover core.items slot_of w
     pub notes : (slot_of : ℕ → ℕ) (w : Garbage) → IsNoted state.items slot_of w → IsNoted core.items slot_of w
@@ -90,6 +92,8 @@ module _ (S : Type 0) (IsIn : Content → S → Type 0) (plan : Plan) where
       (λ j e u other here k has. let a = r.epochs.seats id d at kind in let x = r.epochs.seats j e here k in v.waits_others r.book.slot_of e.number u (λ same. other (sym x.seated ∙ (ap r.epochs.seat_of same ∙ a.seated))) (r.items.waiting j e u here k has)))
       (still_left r.items.leftovers (λ u h. v.lefts r.book.slot_of u h))
       (private_set r.items.private (λ u h. v.notes r.book.slot_of u h) id d d' at (ap (λ (z : Acting). z.collected) v.same))
+      (items.links_set r.items words' r.book.left id d' high (λ u _ has. v.links_mine plan.sizes s.words u (λ u' h. r.items.links.waits id d u' at kind h) has)
+      (λ u has. r.items.links.notes id d u at (subst (λ (us : List Garbage). Has us u) (ap (λ (z : Acting). z.collected) v.same) has)) r.items.links.lefts)
 
   -- what stands of epochs is kept, with what is told of items and cells
   pub moved : (s : Table) (r : Shown s) (id : ℕ) (d d' : Acting) (words' : List ℕ) (homes' : List (maybe.Option S)) (book' : Book) (m : Moves r.state r.born d d') → get_elem? s.views id ≡ some d → d.kind ≡ 1
@@ -192,6 +196,7 @@ module _ (S : Type 0) (IsIn : Content → S → Type 0) (plan : Plan) where
     same = refl;
     distinct = λ h. h;
     waits_mine = λ _ w all h. all w h;
+    links_mine = λ _ _ w all h. all w h;
     waits_others = λ _ _ _ _ h. h;
     lefts = λ _ _ h. h;
     notes = λ _ _ h. h;

@@ -38,7 +38,7 @@ use Rattle.sdd_homes.proofs.OwnerLemmas.{alike_placed}
 use Rattle.sdd_homes.proofs.SpareLemmas.{Was, stays_kept}
 use Rattle.sdd_homes.proofs.PartLemmas as parts
 use Rattle.sdd_homes.proofs.Fillings as fillings
-use Rattle.domain_table.specs.Layout.{cell_word, slot_word, claim_word, packed, all_homes, all_extras}
+use Rattle.domain_table.specs.Layout.{cell_word, slot_word, link_word, claim_word, packed, all_homes, all_extras}
 use Rattle.domain_table.specs.Items.{owners_in_hand, code, Grip, Owns, HasState, IsWaiting, Carries, Items, IsGiven}
 use Rattle.domain_table.specs.Rule.{Runs, Shows}
 use Rattle.domain_table.specs.Plays.{placing, CanPlace, place_then}
@@ -48,7 +48,7 @@ use Rattle.domain_table.proofs.Taken as taken
 use Rattle.domain_table.proofs.Taken.{and_true}
 use Rattle.domain_table.proofs.Privates.{private_set}
 use Rattle.domain_table.proofs.Moves.{items_change, slot_written}
-use Rattle.domain_table.proofs.Stirred.{rests_on, still_left, grip_set}
+use Rattle.domain_table.proofs.Stirred.{rests_on, still_left, grip_set, links_at}
 
 at_last : {A : Type 0} (l : List A) (a : A) → At (l ++ a ∷ []) (length l) a
 at_last [] a = refl
@@ -252,6 +252,7 @@ module _ (S : Type 0) (IsIn : Content → S → Type 0) (plan : Plan) where
       waiting = waits_now;
       leftovers = still_left r.items.leftovers (waits_on Waiting);
       private = private_set r.items.private (λ w h. waits_on (Collected w.age) w h) id d d' at refl;
+      links = links_at r.items words' r.book.left id d' (λ m. get_or-set_other s.words word (link_word plan.sizes m) 3 0 (λ z. let low = has.0 in omega arith)) (λ w _ h. r.items.links.waits id d w at kind h) (λ w h. r.items.links.notes id d w at h) r.items.links.lefts;
       seats = seats_now;
     }
 

@@ -94,6 +94,7 @@ module _ (S : Type 0) (IsIn : Content → S → Type 0) (plan : Plan) where
         })
         (seated r.items id d d' at (sym bare) (λ _. record { sizes_are = refl; leases = rests.0; spare = refl; fills = λ f e. absurd (cc); distinct = tt; left = refl })) (items.waits_stay r.items id d' (λ w _ has. absurd has)) r.items.leftovers
         (private_on r.items.private (λ _ h. h) (set_all (λ j e. Keeps s.views j e) s.views id d' (inl refl) (λ j e _ here. inr (e, here, refl))))
+        (items.links_set r.items words' r.book.left id d' (λ j le. get_or-set_other s.words i j 0 0 (λ e. omega arith)) (λ w _ has. absurd has) (λ w has. absurd has) r.items.links.lefts)
 
     unbagged : Items IsIn plan.sizes r.state (record r.book { extra = put r.book.extra b away }) words' homes1 views'
     unbagged = items.rebagged seated_now q away homes1 now (takes_high r.items.lying b bag_range)

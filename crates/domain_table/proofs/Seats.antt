@@ -88,7 +88,11 @@ module _ (S : Type 0) (IsIn : Content → S → Type 0) (plan : Plan) where
             owners = λ j d o' e has. ⊎_elim (λ (h : get_elem? s.views j ≡ some d). r.items.owners j d o' h has) (λ (t : spent ≡ d). absurd (subst (λ (v : Acting). Has v.hand o') (sym t) has)) (at_snoc s.views spent d j e);
             seats = λ j d e kind. ⊎_elim (λ (h : get_elem? s.views j ≡ some d). r.items.seats j d h kind) (λ (t : spent ≡ d). nobody d _ t kind) (at_snoc s.views spent d j e);
           }) (λ j d w e kind has. ⊎_elim (λ (h : get_elem? s.views j ≡ some d). r.items.waiting j d w h kind has) (λ (t : spent ≡ d). nobody d _ t kind) (at_snoc s.views spent d j e)) r.items.leftovers
-          (private_on r.items.private (λ _ h. h) (λ j d e. ⊎_elim (λ (h : get_elem? s.views j ≡ some d). inr (d, h, refl)) (λ (t : spent ≡ d). inl (ap (λ (z : Acting). z.collected) (sym t))) (at_snoc s.views spent d j e)));
+          (private_on r.items.private (λ _ h. h) (λ j d e. ⊎_elim (λ (h : get_elem? s.views j ≡ some d). inr (d, h, refl)) (λ (t : spent ≡ d). inl (ap (λ (z : Acting). z.collected) (sym t))) (at_snoc s.views spent d j e)))
+          (items.links_all r.items s.words r.book.left (s.views ++ spent ∷ []) (λ _. refl)
+          (λ j d w e kind has. ⊎_elim (λ (h : get_elem? s.views j ≡ some d). r.items.links.waits j d w h kind has) (λ (t : spent ≡ d). nobody d _ t kind) (at_snoc s.views spent d j e))
+          (λ j d w e has. ⊎_elim (λ (h : get_elem? s.views j ≡ some d). r.items.links.notes j d w h has) (λ (t : spent ≡ d). absurd (subst (λ (v : Acting). Has v.collected w) (sym t) has)) (at_snoc s.views spent d j e))
+          r.items.links.lefts);
       born = r.born;
       bounded = r.bounded;
       epochs = record {

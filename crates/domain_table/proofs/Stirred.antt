@@ -28,8 +28,8 @@ use Rattle.sdd_homes.specs.Lying.{Lying}
 use Rattle.sdd_homes.proofs.PartLemmas as parts
 use Rattle.sdd_homes.proofs.SpareLemmas.{stays_kept, refilled, beside}
 use Rattle.sdd_homes.proofs.HandLemmas.{owned_set}
-use Rattle.domain_table.specs.Layout.{epoch_words, claim_word, cell_word, slot_word, all_homes, all_extras, bag_place}
-use Rattle.domain_table.specs.Items.{owners_in_hand, Grasps, Grip, Owns, IsWaiting, IsLeftover, IsNoted, Leftovers, Private, IsFilling, Rests, Carries, Items, Distinct}
+use Rattle.domain_table.specs.Layout.{epoch_words, claim_word, cell_word, slot_word, link_word, all_homes, all_extras, bag_place}
+use Rattle.domain_table.specs.Items.{owners_in_hand, Grasps, Grip, Owns, IsWaiting, IsLeftover, IsNoted, Leftovers, Private, IsLinked, Links, IsFilling, Rests, Carries, Items, Distinct}
 use Rattle.domain_table.specs.Views.{older_waits}
 use Rattle.domain_table.proofs.Privates.{private_set}
 use Rattle.domain_table.specs.declared.board.Acting.{Acting}
@@ -148,6 +148,29 @@ module _ {S : Type 0} {IsIn : Content → S → Type 0} {sizes : Sizes} {state :
   pub rests_on : (words' : List ℕ) (p : ℕ) → p < sizes.participants → get_or words' (claim_word p) 0 ≡ get_or words (claim_word p) 0 → get_or words' (claim_word p) 0 ≢ 0 → Rests sizes book words' p
   rests_on words' p low same some_ = let t = r.free p low (λ e. some_ (same ∙ e)) in (t.0, same ∙ t.1, t.2, t.3)
 
+  -- the link words stay, and what is in bags is told still
+  pub links_all : (words' : List ℕ) (left' : ℕ → List Garbage) (views' : List Acting) → ((k : ℕ) → get_or words' (link_word sizes k) 0 ≡ get_or words (link_word sizes k) 0)
+      → ((j : ℕ) (e : Acting) (w : Garbage) → At views' j e → e.kind ≡ 1 → Has e.waits w → IsLinked sizes words w) → ((j : ℕ) (e : Acting) (w : Garbage) → At views' j e → Has e.collected w → IsLinked sizes words w)
+      → ((p : ℕ) (w : Garbage) → Has (left' p) w → IsLinked sizes words w) → Links sizes words' left' views'
+  links_all words' left' views' same waits notes lefts = let on : (w : Garbage) → IsLinked sizes words w → IsLinked sizes words' w = (λ w h some_. same w.slot ∙ h some_) in record {
+    waits = λ j e w at_j k has. on w (waits j e w at_j k has);
+    notes = λ j e w at_j has. on w (notes j e w at_j has);
+    lefts = λ q w has. on w (lefts q w has);
+  }
+
+  -- one view changes
+  pub links_at : (words' : List ℕ) (left' : ℕ → List Garbage) (id : ℕ) (d' : Acting) → ((k : ℕ) → get_or words' (link_word sizes k) 0 ≡ get_or words (link_word sizes k) 0)
+      → ((w : Garbage) → d'.kind ≡ 1 → Has d'.waits w → IsLinked sizes words w) → ((w : Garbage) → Has d'.collected w → IsLinked sizes words w) → ((p : ℕ) (w : Garbage) → Has (left' p) w → IsLinked sizes words w) → Links sizes words' left' (set views id d')
+  links_at words' left' id d' same mine notes lefts = links_all words' left' (set views id d') same
+      (λ j e w at_j. set_all (λ _ (e' : Acting). e'.kind ≡ 1 → Has e'.waits w → IsLinked sizes words w) views id d' (mine w) (λ j' e' _ here. r.links.waits j' e' w here) j e at_j)
+      (λ j e w at_j. set_all (λ _ (e' : Acting). Has e'.collected w → IsLinked sizes words w) views id d' (notes w) (λ j' e' _ here. r.links.notes j' e' w here) j e at_j)
+      lefts
+
+  -- the same where all words behind those of epochs stay
+  pub links_set : (words' : List ℕ) (left' : ℕ → List Garbage) (id : ℕ) (d' : Acting) → ((i : ℕ) → epoch_words sizes.participants ≤ i → get_or words' i 0 ≡ get_or words i 0)
+      → ((w : Garbage) → d'.kind ≡ 1 → Has d'.waits w → IsLinked sizes words w) → ((w : Garbage) → Has d'.collected w → IsLinked sizes words w) → ((p : ℕ) (w : Garbage) → Has (left' p) w → IsLinked sizes words w) → Links sizes words' left' (set views id d')
+  links_set words' left' id d' high = links_at words' left' id d' (λ k. high (link_word sizes k) (omega arith))
+
   -- the words of items and cells stay, and a participant that is freed rests
   pub record Untouched (words' : List ℕ) : Type 0 where
     pub long : length words' ≡ length words
@@ -173,6 +196,7 @@ module _ {S : Type 0} {IsIn : Content → S → Type 0} {sizes : Sizes} {state :
     pub waiting : (j : ℕ) (d : Acting) (w : Garbage) → At views' j d → d.kind ≡ 1 → Has d.waits w → IsWaiting core.items book.slot_of d.number w
     pub leftovers : Leftovers core.items book.slot_of left'
     pub private : Private core.items book.slot_of views'
+    pub links : Links sizes words' left' views'
     pub seats : (j : ℕ) (d : Acting) → At views' j d → d.kind ≡ 1 → Carries sizes (record book { left = left' }) d
 
   pub renewed : (core : steps.State) (left' : ℕ → List Garbage) (words' : List ℕ) (views' : List Acting) → Anew core left' words' views' → Items IsIn sizes core (record book { left = left' }) words' homes views'
@@ -196,14 +220,15 @@ module _ {S : Type 0} {IsIn : Content → S → Type 0} {sizes : Sizes} {state :
         waiting = v.waiting;
         leftovers = v.leftovers;
         private = v.private;
+        links = v.links;
         seats = v.seats;
       }
 
   -- the same where bags stay as they are
   pub stays : (core : steps.State) (words' : List ℕ) (views' : List Acting) → core.cells ≡ state.cells → Stirred state.items core.items
       → ((q : ℕ) (l : Lease) → Has (book.out q) l → Why state (Grip views) q l.item → Why core (Grip views') q l.item)
-      → Untouched words' → Seated views' → ((j : ℕ) (d : Acting) (w : Garbage) → At views' j d → d.kind ≡ 1 → Has d.waits w → IsWaiting core.items book.slot_of d.number w) → Leftovers core.items book.slot_of book.left → Private core.items book.slot_of views' → Items IsIn sizes core book words' homes views'
-  stays core words' views' same stir why w v waiting leftovers private = renewed core book.left words' views' (record {
+      → Untouched words' → Seated views' → ((j : ℕ) (d : Acting) (w : Garbage) → At views' j d → d.kind ≡ 1 → Has d.waits w → IsWaiting core.items book.slot_of d.number w) → Leftovers core.items book.slot_of book.left → Private core.items book.slot_of views' → Links sizes words' book.left views' → Items IsIn sizes core book words' homes views'
+  stays core words' views' same stir why w v waiting leftovers private links = renewed core book.left words' views' (record {
     cells = same;
     stirred = stir;
     why = why;
@@ -215,6 +240,7 @@ module _ {S : Type 0} {IsIn : Content → S → Type 0} {sizes : Sizes} {state :
     waiting = waiting;
     leftovers = leftovers;
     private = private;
+    links = links;
     seats = v.seats;
   })
 
@@ -241,6 +267,7 @@ module _ {S : Type 0} {IsIn : Content → S → Type 0} {sizes : Sizes} {state :
     waiting = r.waiting;
     leftovers = r.leftovers;
     private = r.private;
+    links = r.links;
     seats = λ j d at k. let b = r.seats j d at k in record { sizes_are = b.sizes_are; leases = b.leases; spare = b.spare; fills = b.fills; distinct = b.distinct; left = b.left };
   }
 
@@ -313,6 +340,8 @@ module _ {S : Type 0} {IsIn : Content → S → Type 0} {sizes : Sizes} {state :
       waiting = waits_stay id d' (λ w k has. subst (λ (z : Acting). Has z.waits w → IsWaiting state.items book.slot_of z.number w) (sym l.same) (r.waiting id d w at kind) has);
       leftovers = r.leftovers;
       private = private_set r.private (λ _ h. h) id d d' at (ap (λ (z : Acting). z.collected) l.same);
+      links = links_set words' book.left id d' w.high (λ v k has. subst (λ (z : Acting). Has z.waits v → IsLinked sizes words v) (sym l.same) (λ h. r.links.waits id d v at kind h) has)
+          (λ v has. r.links.notes id d v at (subst (λ (ws : List Garbage). Has ws v) (ap (λ (z : Acting). z.collected) l.same) has)) r.links.lefts;
       seats = λ j e at_j k. set_all (λ _ e'. e'.kind ≡ 1 → Carries sizes book_of e') views id d'
           (λ _. record { sizes_are = ap (λ (z : Acting). z.sizes) l.same ∙ c.sizes_are; leases = ap (λ (z : Acting). out' z.number) l.same ∙ l.mine; spare = ap (λ (z : Acting). book.spare (sizes.cells + z.number)) l.same ∙ (c.spare ∙ sym (ap (λ (z : Acting). z.spare) l.same)); fills = subst (IsFilling sizes book_of) (sym l.same) c.fills; distinct = subst (λ (z : Acting). Distinct z.waits) (sym l.same) c.distinct; left = ap (λ (z : Acting). book.left z.number) l.same ∙ (c.left ∙ sym (ap (λ (z : Acting). z.left) l.same)) })
           (λ j' e' other here k'. let x = r.seats j' e' here k' in record { sizes_are = x.sizes_are; leases = l.others e'.number (l.apart j' e' other here k') ∙ x.leases; spare = x.spare; fills = x.fills; distinct = x.distinct; left = x.left }) j e at_j k;

@@ -34,7 +34,7 @@ use Rattle.sdd_homes.proofs.PartLemmas as parts
 use Rattle.sdd_homes.proofs.SwapLemmas.{Handy, handy_swapped, handy_back, hand_swapped, names_swapped, alone_swapped}
 use Rattle.sdd_homes.proofs.SpareLemmas.{Was, exchanged, spare_of_user, spare_of_cell, spare_of_others, extra_of_others, swapped}
 use Rattle.sdd_homes.proofs.HandLemmas.{owned_set, owned_some, mine_some}
-use Rattle.domain_table.specs.Layout.{cell_word, slot_word, claim_word, state_word, all_homes, all_extras, bag_place, packed, Tells}
+use Rattle.domain_table.specs.Layout.{cell_word, slot_word, link_word, claim_word, state_word, all_homes, all_extras, bag_place, packed, Tells}
 use Rattle.domain_table.specs.Items.{owners_in_hand, code, Grip, Owns, HasState, IsWaiting, Carries, Items}
 use Rattle.domain_table.specs.Owners.{item_of, slot_code, part_of, besides}
 use Rattle.domain_table.specs.Rule.{Runs, Shows}
@@ -42,7 +42,7 @@ use Rattle.domain_table.specs.declared.board.Acting.{Acting}
 use Rattle.domain_table.specs.declared.board.Plan.{Plan}
 use Rattle.domain_table.proofs.Privates.{private_set}
 use Rattle.domain_table.proofs.Moves.{moved, own_inside}
-use Rattle.domain_table.proofs.Stirred.{rests_on, still_left, grip_set, waits_set}
+use Rattle.domain_table.proofs.Stirred.{rests_on, still_left, grip_set, waits_set, links_at}
 use Rattle.domain_table.proofs.Taken as taken
 use Rattle.domain_table.proofs.Taken.{and_true, or_left}
 
@@ -249,6 +249,7 @@ module _ (S : Type 0) (IsIn : Content → S → Type 0) (plan : Plan) (s : State
     waiting = waits_now;
     leftovers = still_left r.items.leftovers (waits_on Waiting);
     private = private_set r.items.private (λ w h. waits_on (Collected w.age) w h) id d d' at refl;
+    links = links_at r.items words' r.book.left id d' (λ m. get_or-set_other s.words cw (link_word plan.sizes m) value 0 (λ z. omega arith)) (λ w _ h. r.items.links.waits id d w at kind h) (λ w h. r.items.links.notes id d w at h) r.items.links.lefts;
     seats = seats_now;
   }
     where

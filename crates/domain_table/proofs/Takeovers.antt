@@ -1,5 +1,5 @@
 -- a participant takes over an item that was left where it ended before
-use Rattle.std.proofs.Common.{◌≡◌, ◌≢◌, true, ℕ, List, [], ◌∷◌, ◌++◌, get_or, set, sym, refl, ap, ◌∙◌, subst, ⊎_elim, inl, inr, arith}
+use Rattle.std.proofs.Common.{◌≡◌, ◌≢◌, true, ℕ, List, [], ◌∷◌, ◌++◌, zero, suc, length, get_or, set, sym, refl, ap, ◌∙◌, subst, ⊎_elim, inl, inr, arith}
 use mathlib.Core.Logic.{dite}
 use mathlib.Core.Option.{some, none}
 use native.Mathlib.Decide.{ℕ_discrete}
@@ -20,7 +20,7 @@ use Rattle.sdd_homes.specs.Book.{Content, bag, Book}
 use Rattle.sdd_homes.specs.Reasons.{Loads}
 use Rattle.sdd_homes.proofs.HandLemmas.{owned_set}
 use Rattle.domain_table.specs.Layout.{claim_word}
-use Rattle.domain_table.specs.Items.{owners_in_hand, Grip, Owns, HasState, IsWaiting, IsLeftover, Leftovers, Distinct, Carries, Items}
+use Rattle.domain_table.specs.Items.{owners_in_hand, Grip, Owns, HasState, IsWaiting, IsLeftover, Leftovers, Distinct, IsLinked, Carries, Items}
 use Rattle.domain_table.specs.Rule.{Runs, Shows}
 use Rattle.domain_table.specs.Plays.{taking_over, take_over_then}
 use Rattle.domain_table.specs.declared.board.Acting.{Acting}
@@ -28,8 +28,8 @@ use Rattle.domain_table.specs.declared.board.Plan.{Plan}
 use Rattle.domain_table.proofs.Taken as taken
 use Rattle.domain_table.proofs.Taken.{and_true}
 use Rattle.domain_table.proofs.Looks.{has_last, has_more}
-use Rattle.domain_table.proofs.Moves.{items_change, reads_only}
 use Rattle.domain_table.proofs.Reclaims.{init_distinct, snoc_same}
+use Rattle.domain_table.proofs.Moves.{items_change, reads_only}
 use Rattle.domain_table.proofs.Stirred.{Ages, Stirred, grip_set}
 use Rattle.domain_table.proofs.Stirred as items
 use Rattle.domain_table.proofs.Privates.{private_set}
@@ -146,6 +146,10 @@ module _ (S : Type 0) (IsIn : Content → S → Type 0) (plan : Plan) where
           (λ j e v _ at_e k has. waits_on e.number v (r.items.waiting j e v at_e k has));
       leftovers = leftovers_now;
       private = private_set r.items.private (λ v h. states_on (Collected v.age) v (unlike (Collected v.age) v (λ e. absurd (cc)) h) h) id d d' at refl;
+      links = items.links_set r.items s.words left' id d' (λ _ _. refl)
+          (λ v _ has. ⊎_elim (λ (e : record w { age = 0 } ≡ v). subst (IsLinked plan.sizes s.words) e (r.items.links.lefts p w there)) (λ (t : Has d.waits v). r.items.links.waits id d v at kind t) has)
+          (λ v has. r.items.links.notes id d v at has)
+          (λ q v has. r.items.links.lefts q v (origin q v has).0);
       seats = set_all (λ _ e. e.kind ≡ 1 → Carries plan.sizes book' e) s.views id d'
           (λ _. record {
             sizes_are = carries.sizes_are;

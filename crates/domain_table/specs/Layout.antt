@@ -29,8 +29,12 @@ cell_word sizes c = epoch_words sizes.participants + c
 abbrev pub slot_word : Sizes → ℕ → ℕ
 slot_word sizes k = epoch_words sizes.participants + sizes.cells + k
 
+-- and behind these the link words of slots
+abbrev pub link_word : Sizes → ℕ → ℕ
+link_word sizes k = epoch_words sizes.participants + sizes.cells + sizes.slots + k
+
 abbrev pub all_words : Sizes → ℕ
-all_words sizes = epoch_words sizes.participants + sizes.cells + sizes.slots
+all_words sizes = epoch_words sizes.participants + sizes.cells + sizes.slots + sizes.slots
 
 -- The slots of the table: homes, those of each participant together, one for each slot for items, and behind them one more for each slot, that of its deed; then spare ones, one for each cell and participant; then a bag of each participant.
 abbrev pub all_homes : Sizes → ℕ

@@ -15,7 +15,7 @@ use Rattle.sdd_homes.specs.declared.Filling.{Filling}
 use Rattle.sdd_homes.specs.declared.Garbage.{Garbage}
 use Rattle.sdd_homes.specs.Book.{Content, part, home, lease, Lends, Apart, recounted, blank, room, deed, bag}
 use Rattle.domain_table.specs.Views.{spent, gathering, registered, reading, rereading, publishing, rotated, looking, closing}
-use Rattle.domain_table.specs.Layout.{state_word, claim_word, slot_word, all_homes, bag_place, Tells, shown}
+use Rattle.domain_table.specs.Layout.{state_word, claim_word, slot_word, link_word, all_homes, bag_place, Tells, shown}
 use Rattle.domain_table.specs.Owners.{slot_code, part_of, besides}
 use Rattle.domain_table.specs.declared.board.Acting.{Acting}
 use Rattle.domain_table.specs.declared.board.CellStep.{CellStep}
@@ -188,12 +188,12 @@ clone_then t m n m' = (l : Lease) → Has m.0.leases l → t.word ≡ slot_word 
 
 -- with the last owner the item waits, with age 0, or it is put into the private bag with a note, where there is one; 3 is the word of an item with one owner
 abbrev pub retiring : Option ℕ → ℕ → Lease → List Garbage → List Garbage
-retiring None n l ws = cond (n == 3) (record { item = l.item; slot = l.slot; round = l.round; age = 0 } ∷ ws) ws
+retiring None n l ws = cond (n == 3) (record { item = l.item; slot = l.slot; round = l.round; age = 0; next = 0 } ∷ ws) ws
 retiring (Some note) n l ws = ws
 
 abbrev pub collecting : Option ℕ → ℕ → Lease → List Garbage → List Garbage
 collecting None n l ws = ws
-collecting (Some note) n l ws = cond (n == 3) (record { item = l.item; slot = l.slot; round = l.round; age = note } ∷ ws) ws
+collecting (Some note) n l ws = cond (n == 3) (record { item = l.item; slot = l.slot; round = l.round; age = note; next = 0 } ∷ ws) ws
 
 -- a note is the count that was read again under the open guard
 abbrev pub MayNote : Option ℕ → Participant → Type 0
@@ -399,3 +399,39 @@ module _ {S : Type 0} (IsIn : Content → S → Type 0) where
 
   abbrev pub vacates_then : Step S → Me S Acting → ℕ → Me S Acting → Type 0
   vacates_then t m n m' = (f : Filling) (tail : List (ℕ × S)) → CanVacate m f tail → m' ≡ (record m.0 { filling = None }, tail)
+
+-- what is in slot k is followed by what n tells
+abbrev pub linked_to : ℕ → ℕ → List Garbage → List Garbage
+linked_to k n [] = []
+linked_to k n (w ∷ ws) = record w { next = cond (w.slot == k) n w.next } ∷ linked_to k n ws
+
+abbrev pub linking : ℕ → ℕ → Acting → Acting
+linking k n d = record d { waits = linked_to k n d.waits; collected = linked_to k n d.collected }
+
+-- a bag of the acting participant holds what is in slot k: its own, or the private one at its seat
+abbrev pub HoldsSlot : Acting → ℕ → Type 0
+HoldsSlot d k = (w : Garbage) × (Has d.waits w ⊎ Has d.collected w) × (w.slot ≡ k)
+
+-- no two of these are in one slot
+abbrev pub SlotsApart : List Garbage → Type 0
+SlotsApart [] = Unit {0}
+SlotsApart (w ∷ ws) = ((v : Garbage) → Has ws v → v.slot ≢ w.slot) × SlotsApart ws
+
+-- n is what is known of the link word of slot k
+abbrev pub TellsLink : Acting → ℕ → ℕ → Type 0
+TellsLink d k n = (w : Garbage) → (Has d.waits w ⊎ Has d.collected w) ⊎ Has d.left w → w.slot ≡ k → w.next ≢ 0 → n ≡ w.next
+
+module _ {S : Type 0} where
+  -- what waits is in slots of its own, and so is what is in the private bag
+  abbrev pub load_link_then : Step S → Me S Acting → ℕ → Me S Acting → Type 0
+  load_link_then t m n m' = (m' ≡ m) × SlotsApart m.0.waits × SlotsApart m.0.collected × ((k : ℕ) → t.word ≡ link_word m.0.sizes k → TellsLink m.0 k n)
+
+-- what came into the bag before w is followed by it
+abbrev pub follow_then : {S : Type 0} → Step S → Me S Acting → ℕ → Me S Acting → Type 0
+follow_then t m n m' = (xs : List Garbage) (w v : Garbage) (ys : List Garbage) → m.0.waits ≡ xs ++ (w ∷ v ∷ ys) → t.word ≡ link_word m.0.sizes v.slot → t.first ≡ suc w.slot
+    → m' ≡ (record m.0 { waits = xs ++ (w ∷ record v { next = suc w.slot } ∷ ys) }, m.1)
+
+-- what came into the private bag before w is followed by it
+abbrev pub follow_noted_then : {S : Type 0} → Step S → Me S Acting → ℕ → Me S Acting → Type 0
+follow_noted_then t m n m' = (xs : List Garbage) (w v : Garbage) (ys : List Garbage) → m.0.collected ≡ xs ++ (w ∷ v ∷ ys) → t.word ≡ link_word m.0.sizes v.slot → t.first ≡ suc w.slot
+    → m' ≡ (record m.0 { collected = xs ++ (w ∷ record v { next = suc w.slot } ∷ ys) }, m.1)

@@ -68,7 +68,7 @@ first_eights cells (suc n) = first_eights cells n ++ first_eight (cells + n)
 
 -- the words of a new place: the count, 15 of 0, those of participants, those of cells, each of which has the spare slot of its own number, and 0 for each slot
 abbrev pub first_words : Plan → List ℕ
-first_words plan = plan.first ∷ (replicate 15 zero ++ (first_eights plan.sizes.cells plan.sizes.participants ++ (numbers plan.sizes.cells ++ replicate plan.sizes.slots zero)))
+first_words plan = plan.first ∷ (replicate 15 zero ++ (first_eights plan.sizes.cells plan.sizes.participants ++ (numbers plan.sizes.cells ++ replicate (plan.sizes.slots + plan.sizes.slots) zero)))
 
 -- Between any two steps: single steps have led from the beginning to a state that meets their invariant, and the words and views show it.
 pub record Shows {S : Type 0} (IsIn : Content → S → Type 0) (plan : Plan) (s : State S Acting) : Type 0 where
