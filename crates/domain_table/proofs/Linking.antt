@@ -22,10 +22,11 @@ use Rattle.sdd_homes.proofs.HandLemmas.{owned_set}
 use Rattle.domain_table.specs.Layout.{state_word, claim_word, cell_word, slot_word, link_word, shown}
 use Rattle.domain_table.specs.Items.{owners_in_hand, Grip, Owns, HasState, IsWaiting, IsNoted, IsLeftover, Private, Distinct, IsLinked, Links, Carries, Items}
 use Rattle.domain_table.specs.Rule.{Shows}
-use Rattle.domain_table.specs.Plays.{linked_to, linking, HoldsSlot, SlotsApart, TellsLink, load_link_then, follow_then, follow_noted_then}
+use Rattle.domain_table.specs.Plays.{linked_to, linking, HoldsSlot, SlotsApart, TellsLink, load_link_then, follow_then}
 use Rattle.domain_table.specs.declared.board.Acting.{Acting}
 use Rattle.domain_table.specs.declared.board.Plan.{Plan}
 use Rattle.sdd_base.specs.declared.sizes.Sizes.{Sizes}
+use Rattle.domain_table.proofs.LeftWords.{lefts_behind}
 use Rattle.domain_table.proofs.Moves.{Writes, items_change, idles}
 use Rattle.domain_table.proofs.Stirred.{grip_set, waits_set}
 use Rattle.domain_table.proofs.Privates.{private_new}
@@ -94,8 +95,7 @@ module _ (S : Type 0) (IsIn : Content → S → Type 0) (plan : Plan) where
 
       -- what is known of a link word is so
       pub tells : (k : ℕ) → TellsLink d k (get_or s.words (link_word plan.sizes k) 0)
-      tells k w held e some_ = let l = r.items.links in let c = r.items.seats id d at kind in let known : IsLinked plan.sizes s.words w = ⊎_elim (λ (h : Has d.waits w ⊎ Has d.collected w). ⊎_elim (λ (t : Has d.waits w). l.waits id d w at kind t) (λ (t : Has d.collected w). l.notes id d w at t) h)
-          (λ (h : Has d.left w). l.lefts p w (subst (λ (ws : List Garbage). Has ws w) (sym c.left) h)) held in ap (λ z. get_or s.words (link_word plan.sizes z) 0) (sym e) ∙ known some_
+      tells k w held e some_ = let l = r.items.links in let known : IsLinked plan.sizes s.words w = ⊎_elim (λ (t : Has d.waits w). l.waits id d w at kind t) (λ (t : Has d.collected w). l.notes id d w at t) held in ap (λ z. get_or s.words (link_word plan.sizes z) 0) (sym e) ∙ known some_
 
       -- what waits and what is in the private bag are in different slots
       bags_apart : (v u : Garbage) → Has d.waits v → Has d.collected u → u.slot ≢ v.slot
@@ -191,7 +191,7 @@ module _ (S : Type 0) (IsIn : Content → S → Type 0) (plan : Plan) where
           slot_words = λ q i it lq is at_i. get_or-set_other s.words word (slot_word plan.sizes q) n 0 (λ z. omega arith) ∙ old.slot_words q i it lq is at_i;
           vacancies = λ q lq none_. old.vacancies q lq (sym (get_or-set_other s.words word (slot_word plan.sizes q) n 0 (λ z. omega arith)) ∙ none_);
           alone = old.alone;
-          free = λ q small some_. let same = get_or-set_other s.words word (claim_word q) n 0 (λ z. omega arith) in let t = old.free q small (λ z. some_ (same ∙ z)) in (t.0, same ∙ t.1, t.2, t.3);
+          free = λ q small some_. let same = get_or-set_other s.words word (claim_word q) n 0 (λ z. omega arith) in let t = old.free q small (λ z. some_ (same ∙ z)) in (t.0, same ∙ t.1, t.2);
           hands = λ i it at_i. let h = owned_set owners_in_hand i s.views id d d' at in let g = old.hands i it at_i in omega arith;
           owners = λ j e o at_j has. set_all (λ _ (e' : Acting). Has e'.hand o → Owns r.state.items r.book.slot_of o) s.views id d' (λ h. old.owners id d o at h) (λ j' e' _ here h. old.owners j' e' o here h) j e at_j has;
           given = old.given;
@@ -213,7 +213,7 @@ module _ (S : Type 0) (IsIn : Content → S → Type 0) (plan : Plan) where
         }
 
         pub shown_link : Shows IsIn plan record { words = words'; homes = s.homes; views = views' }
-        shown_link = items_change S IsIn plan s r id d d' r.state words' s.homes r.book at kind refl refl refl refl ([], refl) refl refl written items_now
+        shown_link = items_change S IsIn plan s r id d d' r.state words' s.homes r.book at kind refl refl refl refl ([], refl) refl refl written (lefts_behind r.lefts word n (omega arith)) items_now
 
   pub loads_link : (slots id k : ℕ) (me : Me S Acting) → me.0.kind ≡ 1 → me.0.sizes ≡ plan.sizes → Allows (Shows IsIn plan) slots id me (link_word plan.sizes k) (λ m. m) (load_link_then (step slots (link_word plan.sizes k) 0 0 none) me)
   loads_link slots id k me kind sizes s r _ at _ = (
@@ -234,15 +234,4 @@ module _ (S : Type 0) (IsIn : Content → S → Type 0) (plan : Plan) where
     shown_link s r id me.0 at kind v.slot (suc w.slot) (v, inl there, refl),
     λ xs' w' v' ys' is' word first. let words : link_word plan.sizes v.slot ≡ link_word plan.sizes v'.slot = word ∙ ap (λ (z : Sizes). link_word z v'.slot) sizes in let same : v.slot ≡ v'.slot = omega arith in
         λ j. ((ap (λ k. linking k (suc w.slot) me.0) same ∙ (ap (λ n. linking v'.slot n me.0) first ∙ one_linked s r id me.0 at kind (suc w'.slot) xs' w' v' ys' is')) j, me.1),
-  )
-
-  pub follows_noted : (slots id : ℕ) (me : Me S Acting) (xs : List Garbage) (w v : Garbage) (ys : List Garbage) → me.0.kind ≡ 1 → me.0.sizes ≡ plan.sizes → me.0.collected ≡ xs ++ (w ∷ v ∷ ys)
-      → Allows (Shows IsIn plan) slots id me (link_word plan.sizes v.slot) (λ _. suc w.slot) (λ _. follow_noted_then (step slots (link_word plan.sizes v.slot) (suc w.slot) 0 none) me (suc w.slot))
-  follows_noted slots id me xs w v ys kind sizes is s r _ at _ = let there : Has me.0.collected v = subst (λ (zs : List Garbage). Has zs v) (sym is) (has_mid xs w v ys) in (
-    linking v.slot (suc w.slot) me.0,
-    keeps,
-    tt,
-    shown_link s r id me.0 at kind v.slot (suc w.slot) (v, inr there, refl),
-    λ xs' w' v' ys' is' word first. let words : link_word plan.sizes v.slot ≡ link_word plan.sizes v'.slot = word ∙ ap (λ (z : Sizes). link_word z v'.slot) sizes in let same : v.slot ≡ v'.slot = omega arith in
-        λ j. ((ap (λ k. linking k (suc w.slot) me.0) same ∙ (ap (λ n. linking v'.slot n me.0) first ∙ one_noted s r id me.0 at kind (suc w'.slot) xs' w' v' ys' is')) j, me.1),
   )

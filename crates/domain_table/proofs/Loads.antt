@@ -190,7 +190,7 @@ module _ (S : Type 0) (IsIn : Content → S → Type 0) (plan : Plan) where
 
       pub newly_leased : (w : ℕ) → Shows IsIn plan record { words = set s.words w (get_or s.words w 0); homes = set s.homes (home plan.sizes.slots k p) none; views = set s.views id d' }
       newly_leased w = let b = r.items.seats id d at kind in subst (λ ws. Shows IsIn plan record { words = ws; homes = set s.homes (home plan.sizes.slots k p) none; views = set s.views id d' }) (sym (set-get_or s.words w 0))
-          (moved S IsIn plan s r id d d' s.words (set s.homes (home plan.sizes.slots k p) none) (record r.book { out = out'; what = what' }) (goes (d.leases ++ new ∷ [])) at kind (reads_only S IsIn plan s r id d d' at kind refl)
+          (moved S IsIn plan s r id d d' s.words (set s.homes (home plan.sizes.slots k p) none) (record r.book { out = out'; what = what' }) (goes (d.leases ++ new ∷ [])) at kind (reads_only S IsIn plan s r id d d' at kind refl) r.lefts
           (leased r.items core.participants out' what' s.words (set s.homes (home plan.sizes.slots k p) none) id d d' at kind (record {
             parts = kept;
             lying = takes_low r.items.lying (home plan.sizes.slots k p) (home_in n plan.sizes.slots k p stand.0 (omega (arith, low)));

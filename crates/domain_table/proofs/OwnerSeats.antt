@@ -38,6 +38,7 @@ module _ (S : Type 0) (IsIn : Content → S → Type 0) (plan : Plan) where
       book = r.book;
       items = items.stays r.items r.state s.words views' refl (stirred_none r.state.items) why (record { long = refl; high = λ _ _. refl; freed = λ _ _ _. inl refl }) seated waiting r.items.leftovers private links;
       born = r.born;
+      lefts = r.lefts;
       bounded = r.bounded;
       epochs = record { seat_of = o.seat_of; scanner = o.scanner; wide = o.wide; many = o.many; count_is = o.count_is; states = o.states; free = o.free; seats = acts };
     }

@@ -322,7 +322,7 @@ module _ (S : Type 0) (IsIn : Content → S → Type 0) (plan : Plan) where
 
     pub shown_open : (m : ℕ) → Shows IsIn plan record { words = set s.words m (get_or s.words m 0); homes = homes'; views = views' }
     shown_open m = subst (λ xs. Shows IsIn plan record { words = xs; homes = homes'; views = views' }) (sym (set-get_or s.words m 0))
-        (items_change S IsIn plan s r id d d' core s.words homes' book' at kind refl refl refl refl runs refl refl (reads_only S IsIn plan s r id d d' at kind refl) items_now)
+        (items_change S IsIn plan s r id d d' core s.words homes' book' at kind refl refl refl refl runs refl refl (reads_only S IsIn plan s r id d d' at kind refl) r.lefts items_now)
 
   -- an item in another state is another item
   unlike : (s : State S Acting) (r : Shows IsIn plan s) (w v : Garbage) (st st' : ItemState) → HasState r.state.items r.book.slot_of st w → HasState r.state.items r.book.slot_of st' v → st' ≢ st → v.item ≢ w.item

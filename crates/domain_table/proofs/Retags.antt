@@ -20,6 +20,7 @@ use Rattle.domain_table.specs.declared.board.Plan.{Plan}
 use Rattle.domain_table.proofs.Moves.{idles}
 use Rattle.domain_table.proofs.Telling.{tells_step}
 use Rattle.domain_table.proofs.Stirred.{rests_on, links_all}
+use Rattle.domain_table.proofs.LeftWords.{lefts_behind}
 
 module _ (S : Type 0) (IsIn : Content → S → Type 0) (plan : Plan) where
   module _ (s : State S Acting) (r : Shows IsIn plan s) (c value : ℕ) (lc : c < plan.sizes.cells) (small : plan.sizes.cells + plan.sizes.participants ≤ 2 ^ 31) (alike : AreAlike (get_or s.words (cell_word plan.sizes c) 0) value) where
@@ -94,6 +95,7 @@ module _ (S : Type 0) (IsIn : Content → S → Type 0) (plan : Plan) where
       run = r.run;
       kept = r.kept;
       born = r.born;
+      lefts = lefts_behind r.lefts (cell_word plan.sizes c) value (omega arith);
       bounded = r.bounded;
       epochs = epochs_now;
       book = r.book;

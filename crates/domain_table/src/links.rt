@@ -6,7 +6,7 @@
 
 ghost use Rattle.std.specs.Prelude.{◌≡◌, ◌∷◌, ◌++◌, List, ◌+◌, ◌<◌, ◌≤◌, ◌^◌};
 ghost use Rattle.domain_table.specs.Layout.{all_words, IsSized};
-ghost use Rattle.domain_table.specs.Plays.{SlotsApart, TellsLink, load_link_then, follow_then, follow_noted_then};
+ghost use Rattle.domain_table.specs.Plays.{SlotsApart, TellsLink, load_link_then, follow_then};
 ghost use Rattle.sdd_homes.specs.declared.Garbage.{Garbage};
 
 use crate::board::{Acting, Home, Place, Words};
@@ -24,12 +24,6 @@ struct OnLoadLink;
 
 impl<T> Play<Home<T>, Acting> for OnLoadLink {
     ghost then = { load_link_then };
-}
-
-struct OnFollowNoted;
-
-impl<T> Play<Home<T>, Acting> for OnFollowNoted {
-    ghost then = { follow_noted_then };
 }
 
 /// What follows what is in `slot`, if a bag of the participant holds that, and it is known.
@@ -66,27 +60,6 @@ pub fn follow<T, H: Holding<T>>(
     ensures followed { (xs : List Garbage) (w v : Garbage) (ys : List Garbage) → place.old.me.0.waits ≡ xs ++ (w ∷ v ∷ ys) → w.slot ≡ next → v.slot ≡ slot → place.new.me ≡ (record place.old.me.0 { waits = xs ++ (w ∷ record v { next = w.slot + 1 } ∷ ys) }, place.old.me.1) }
 {
     words.store::<OnFollow>(
-        place,
-        8 * sizes.participants + 16 + sizes.cells + sizes.slots + slot,
-        next as u64 + 1,
-    );
-}
-
-/// What came into the private bag last, in slot `next`, follows what came before it, in `slot`.
-pub fn follow_noted<T, H: Holding<T>>(
-    words: &Words<T, H>,
-    place: &mut Place<T>,
-    sizes: &Sizes,
-    slot: usize,
-    next: usize,
-)
-    requires table { (place.old.table_id ≡ words.now.table_id) × (words.now.key.sizes ≡ sizes.now) × (place.old.me.0.sizes ≡ sizes.now) × IsSized sizes.now × (all_words sizes.now ≤ words.now.table_id.words) × (slot < sizes.now.slots) }
-    requires acts { (place.old.me.0.kind ≡ 1) × (next < 2 ^ 30) }
-    requires held { (xs : List Garbage) × (w : Garbage) × (v : Garbage) × (ys : List Garbage) × (place.old.me.0.collected ≡ xs ++ (w ∷ v ∷ ys)) × (w.slot ≡ next) × (v.slot ≡ slot) }
-    ensures seat { (place.new.table_id ≡ place.old.table_id) × (place.new.id ≡ place.old.id) }
-    ensures followed { (xs : List Garbage) (w v : Garbage) (ys : List Garbage) → place.old.me.0.collected ≡ xs ++ (w ∷ v ∷ ys) → w.slot ≡ next → v.slot ≡ slot → place.new.me ≡ (record place.old.me.0 { collected = xs ++ (w ∷ record v { next = w.slot + 1 } ∷ ys) }, place.old.me.1) }
-{
-    words.store::<OnFollowNoted>(
         place,
         8 * sizes.participants + 16 + sizes.cells + sizes.slots + slot,
         next as u64 + 1,
