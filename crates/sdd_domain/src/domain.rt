@@ -40,7 +40,7 @@ impl<T: Holds> Domain<T> {
     ghost use Rattle.sdd_domain.specs.Tokens.{participants_of, slot_count, cell_count, first_of, place_of, home_of, number_of, own_of, hand_of};
 
     /// A place without items, for as many participants as its sizes name, none of them registered. It takes all memory
-    /// of the place but what `register` takes: homes for slots times participants, a box for the item of each slot, and 48
+    /// of the place but what `register` takes: homes for slots times participants, a box for the item of each slot, and 40
     /// bytes a slot for `close`. Without memory nothing is kept.
     pub fn new(alloc: Global, sizes: Sizes) -> Result<Domain<T>, AllocError>
         requires { IsSized sizes }
