@@ -1,11 +1,9 @@
 //! What becomes of items that have no owner any more, in a place that threads share.
 //!
 //! Over the table of the place, [`emptying`] has the single steps of who reclaims an item, and [`reclaiming`] makes one call of
-//! them. A [private bag](private) has a seat of its own, and comes to that of a participant for a call. [`left`] moves what an
-//! ended participant leaves to the next one that acts for it.
+//! them. A [private bag](private) has a seat of its own, and comes to that of a participant for a call.
 #![tactic(auto)]
 
 pub mod emptying;
-pub mod left;
 pub mod private;
 pub mod reclaiming;

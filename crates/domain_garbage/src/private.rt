@@ -110,7 +110,7 @@ fn hand_over<T, H: Holding<T>>(words: &Words<T, H>, place: &mut Place<T>)
     requires ready { (place.old.me.0.kind ≡ 1) × (is_ready place.old.me.0.known ≡ true) }
     requires noted { (w : Garbage) × (ws : List Garbage) × (place.old.me.0.collected ≡ ws ++ w ∷ []) }
     ensures seat { (place.new.table_id ≡ place.old.table_id) × (place.new.id ≡ place.old.id) }
-    ensures room { length place.old.me.0.waits < place.old.me.0.sizes.slots }
+    ensures low { (w : Garbage) (ws : List Garbage) → place.old.me.0.collected ≡ ws ++ w ∷ [] → w.slot < place.old.me.0.sizes.slots }
     ensures handed { (w : Garbage) (ws : List Garbage) → place.old.me.0.collected ≡ ws ++ w ∷ [] → place.new.me ≡ (handing_over w ws place.old.me.0, place.old.me.1) }
 {
     let _ = words.load::<OnHandOver>(place, 1);
@@ -121,22 +121,23 @@ fn hand_over<T, H: Holding<T>>(words: &Words<T, H>, place: &mut Place<T>)
 pub fn hand_all<T, H: Holding<T>>(
     words: &Words<T, H>,
     place: &mut Place<T>,
+    sizes: &Sizes,
     waiting: VecDeque<Noted>,
     bags: &mut Bags,
 )
-    requires table { (place.old.table_id ≡ words.now.table_id) × (1 < words.now.table_id.words) }
+    requires table { FitsSizes words.now.table_id words.now.key.sizes place.old.table_id place.old.me.0.sizes sizes.now }
     requires ready { (place.old.me.0.kind ≡ 1) × (is_ready place.old.me.0.known ≡ true) }
     requires noted { Notes place.old.me.0.collected waiting.items }
-    requires waits { WaitsIn place.old.me.0.waits bags.old × (deque_capacity bags.old.slots ≡ place.old.me.0.sizes.slots) }
+    requires waits { WaitsIn sizes.now.slots place.old.me.0.waits bags.old }
     ensures seat { (place.new.table_id ≡ place.old.table_id) × (place.new.id ≡ place.old.id) }
     ensures handed { HandsAll place.old.me place.new.me }
-    ensures waits { WaitsIn place.new.me.0.waits bags.new }
-    ensures bags { (bags.new.due ≡ bags.old.due) × (deque_capacity bags.new.slots ≡ deque_capacity bags.old.slots) }
+    ensures waits { WaitsIn sizes.now.slots place.new.me.0.waits bags.new }
+    ensures bags { bags.new.due ≡ bags.old.due }
 {
     let mut waiting = waiting;
     while let Some(noted) = waiting.pop_back() {
         hand_over(words, place);
-        bags.retire(noted.slot);
+        bags.retire(words, place, sizes, noted.slot);
     }
 }
 
@@ -172,16 +173,16 @@ pub fn give_back<T, H: Holding<T>>(
     requires ready { (place.old.me.0.kind ≡ 1) × (place.old.me.0.number ≡ number) × (is_ready place.old.me.0.known ≡ true) × (place.old.me.0.releasing ≡ 0) }
     requires owner { IsFirst place.old.me.0 slot owner.part.life.id × IsSome owner.part.seen.value }
     requires rows { ((life : ℕ) × (map row_told rows.old.items ≡ map (lease_told life) place.old.me.0.leases)) × (all_below sizes.now.slots (row_slots rows.old.items) ≡ true) }
-    requires waits { WaitsIn place.old.me.0.waits bags.old × (deque_capacity bags.old.slots ≡ sizes.now.slots) }
+    requires waits { WaitsIn sizes.now.slots place.old.me.0.waits bags.old }
     ensures seat { (place.new.table_id ≡ place.old.table_id) × (place.new.id ≡ place.old.id) }
     ensures given { GivesBack place.old.me place.new.me }
     ensures rows { (life : ℕ) → map row_told rows.old.items ≡ map (lease_told life) place.old.me.0.leases → map row_told rows.new.items ≡ map (lease_told life) place.new.me.0.leases }
     ensures same { (deque_capacity rows.new ≡ deque_capacity rows.old) × (row_slots rows.new.items ≡ row_slots rows.old.items) }
-    ensures waits { WaitsIn place.new.me.0.waits bags.new }
-    ensures bags { (bags.new.due ≡ bags.old.due) × (deque_capacity bags.new.slots ≡ deque_capacity bags.old.slots) }
+    ensures waits { WaitsIn sizes.now.slots place.new.me.0.waits bags.new }
+    ensures bags { bags.new.due ≡ bags.old.due }
 {
     if release::<T, H, Retire>(words, place, sizes, number, rows, slot, owner) == 0 {
-        bags.retire(slot);
+        bags.retire(words, place, sizes, slot);
     }
 }
 
@@ -221,7 +222,7 @@ pub fn put_in<T, H: Holding<T>>(
 
 /// Sets the flag of garbage if anything waits.
 pub fn flag_waiting(own: &mut LocalState, bags: &Bags)
-    ensures { (ws : List Garbage) → WaitsIn ws bags.now → own.new ≡ record own.old { garbage = own.old.garbage || nat_lt 0 (length ws) } }
+    ensures { (n : ℕ) (ws : List Garbage) → WaitsIn n ws bags.now → own.new ≡ record own.old { garbage = own.old.garbage || nat_lt 0 (length ws) } }
 {
     if bags.has_some() {
         own.garbage = true;

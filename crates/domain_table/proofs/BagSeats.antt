@@ -10,7 +10,7 @@ use Rattle.sdd_homes.specs.declared.Garbage.{Garbage}
 use Rattle.sdd_homes.specs.Book.{Content}
 use Rattle.sdd_homes.specs.Reasons.{Loads}
 use Rattle.sdd_homes.proofs.HandLemmas.{owned_set, owned_end}
-use Rattle.domain_table.specs.Items.{owners_in_hand, Grip, Owns, IsWaiting, IsNoted, Private, Distinct, Carries}
+use Rattle.domain_table.specs.Items.{owners_in_hand, Grip, Owns, IsWaiting, IsNoted, Private, IsLinked, Distinct, Carries}
 use Rattle.domain_table.specs.Rule.{Acts, Shows}
 use Rattle.domain_table.specs.Views.{spent, gathering}
 use Rattle.domain_table.specs.Plays.{without_bag, bag_alone}
@@ -69,6 +69,10 @@ module _ (S : Type 0) (IsIn : Content → S → Type 0) (plan : Plan) where
       (λ q l _. ⊎_elim (λ (t : Loads r.state q l.item). inl t) (λ (g : Grip s.views q l.item). let h = items.grip_set s.views id d left at (λ _ _ y. y) q l.item g in inr (h.0, h.1, at_longer mid (right ∷ []) h.0 h.1 h.2, h.3)))
       (λ j e w at_j k has. each (λ _ (e' : Acting). e'.kind ≡ 1 → Has e'.waits w → IsWaiting r.state.items r.book.slot_of e'.number w) (λ _ t. r.items.waiting id d w at kind t) (λ _ _ t. absurd t) (λ j' e' here k' t. r.items.waiting j' e' w here k' t) j e at_j k has)
       (private_now s r id d at kind)
+      (items.links_all r.items s.words r.book.left (mid ++ right ∷ []) (λ _. refl)
+      (λ j e w at_j k has. each (λ _ (e' : Acting). e'.kind ≡ 1 → Has e'.waits w → IsLinked plan.sizes s.words w) (λ _ t. r.items.links.waits id d w at kind t) (λ _ _ t. absurd t) (λ j' e' here k' t. r.items.links.waits j' e' w here k' t) j e at_j k has)
+      (λ j e w at_j has. each (λ _ (e' : Acting). Has e'.collected w → IsLinked plan.sizes s.words w) (λ t. absurd t) (λ _ t. r.items.links.notes id d w at t) (λ j' e' here t. r.items.links.notes j' e' w here t) j e at_j has)
+      r.items.links.lefts)
       (λ j e at_j k. each (λ j' (e' : Acting). e'.kind ≡ 1 → Acts r.state.participants r.state.count r.born s.words r.epochs.seat_of r.epochs.scanner j' e')
       (λ _. record { is = a.is; seated = a.seated; claimed = a.claimed; locked = a.locked; present = a.present; begun = a.begun; still = a.still }) (λ _ z. absurd (omega arith)) (λ j' e' here k'. r.epochs.seats j' e' here k') j e at_j k)
 
@@ -96,5 +100,9 @@ module _ (S : Type 0) (IsIn : Content → S → Type 0) (plan : Plan) where
             (λ j' x' ne here. each (λ k' (y' : Acting). Has x'.collected v → Has y'.collected w → v.item ≡ w.item → j' ≡ k') (λ has_v has_w e. absurd (ne (old.apart j' other x' w0 v w here at_w has_v has_w e))) (λ _ h. absurd h)
             (λ k' y' _ here' has_v has_w e. old.apart j' k' x' y' v w here here' has_v has_w e) k y at_y) j x at_x;
       })
+      (items.links_all r.items s.words r.book.left views' (λ _. refl)
+      (λ j e v at_j k has. each (λ _ (e' : Acting). e'.kind ≡ 1 → Has e'.waits v → IsLinked plan.sizes s.words v) (λ _ t. r.items.links.waits id d v at kind t) (λ _ t. absurd t) (λ j' e' _ here k' t. r.items.links.waits j' e' v here k' t) j e at_j k has)
+      (λ j e v at_j has. each (λ _ (e' : Acting). Has e'.collected v → IsLinked plan.sizes s.words v) (λ h. r.items.links.notes other w0 v at_w h) (λ t. absurd t) (λ j' e' _ here h. r.items.links.notes j' e' v here h) j e at_j has)
+      r.items.links.lefts)
       (λ j e at_j k. each (λ j' (e' : Acting). e'.kind ≡ 1 → Acts r.state.participants r.state.count r.born s.words r.epochs.seat_of r.epochs.scanner j' e')
       (λ _. record { is = a.is; seated = a.seated; claimed = a.claimed; locked = a.locked; present = a.present; begun = a.begun; still = a.still }) (λ z. absurd (omega arith)) (λ j' e' _ here k'. r.epochs.seats j' e' here k') j e at_j k)

@@ -11,11 +11,11 @@ abbrev pub rebagged : Option ℕ → ℕ → Lease → Acting → Acting
 rebagged to k l d = record d { waits = retiring to k l d.waits; collected = collecting to k l d.collected }
 
 pub bags_stay : (to : Option ℕ) (n : ℕ) (l : Lease) (d : Acting) → 0 < n → rebagged to (n + 3) l d ≡ d
-bags_stay None n l d more = ap (λ b. record d { waits = cond b (record { item = l.item; slot = l.slot; round = l.round; age = 0 } ∷ d.waits) d.waits }) (ne_eqb (n + 3) 3 (λ e. omega arith))
-bags_stay (Some note) n l d more = ap (λ b. record d { collected = cond b (record { item = l.item; slot = l.slot; round = l.round; age = note } ∷ d.collected) d.collected }) (ne_eqb (n + 3) 3 (λ e. omega arith))
+bags_stay None n l d more = ap (λ b. record d { waits = cond b (record { item = l.item; slot = l.slot; round = l.round; age = 0; next = 0 } ∷ d.waits) d.waits }) (ne_eqb (n + 3) 3 (λ e. omega arith))
+bags_stay (Some note) n l d more = ap (λ b. record d { collected = cond b (record { item = l.item; slot = l.slot; round = l.round; age = note; next = 0 } ∷ d.collected) d.collected }) (ne_eqb (n + 3) 3 (λ e. omega arith))
 
 abbrev pub gone : Option ℕ → Lease → Garbage
-gone to l = record { item = l.item; slot = l.slot; round = l.round; age = first_age to }
+gone to l = record { item = l.item; slot = l.slot; round = l.round; age = first_age to; next = 0 }
 
 pub one_goes : (to : Option ℕ) (n : ℕ) (l : Lease) (d : Acting) → n ≡ 0 → rebagged to (n + 3) l d ≡ gone_to to (gone to l) d
 one_goes None n l d none = ap (λ z. rebagged None (z + 3) l d) none

@@ -85,7 +85,7 @@ module _ (S : Type 0) (IsIn : Content → S → Type 0) (plan : Plan) where
 
     pub shown_begin : (i : ℕ) → Shows IsIn plan record { words = set s.words i (get_or s.words i 0); homes = set s.homes (home plan.sizes.slots o.slot p) none; views = set s.views id d' }
     shown_begin i = let b = r.items.seats id d at kind in let a = r.epochs.seats id d at kind in subst (λ ws. Shows IsIn plan record { words = ws; homes = set s.homes (home plan.sizes.slots o.slot p) none; views = set s.views id d' }) (sym (set-get_or s.words i 0))
-        (items_change S IsIn plan s r id d d' r.state s.words (set s.homes (home plan.sizes.slots o.slot p) none) (record r.book { out = out'; what = put r.book.what (home plan.sizes.slots o.slot p) away }) at kind refl refl refl refl ([], refl) refl refl (reads_only S IsIn plan s r id d d' at kind refl)
+        (items_change S IsIn plan s r id d d' r.state s.words (set s.homes (home plan.sizes.slots o.slot p) none) (record r.book { out = out'; what = put r.book.what (home plan.sizes.slots o.slot p) away }) at kind refl refl refl refl ([], refl) refl refl (reads_only S IsIn plan s r id d d' at kind refl) r.lefts
         (leased r.items r.state.participants out' (put r.book.what (home plan.sizes.slots o.slot p) away) s.words (set s.homes (home plan.sizes.slots o.slot p) none) id d d' at kind (record {
           parts = kept;
           lying = takes_low r.items.lying (home plan.sizes.slots o.slot p) (home_in n plan.sizes.slots o.slot p stand.0 (omega (arith, low)));

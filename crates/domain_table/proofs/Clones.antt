@@ -104,6 +104,8 @@ module _ (S : Type 0) (IsIn : Content → S → Type 0) (plan : Plan) where
       waits = λ w h. waits_else S IsIn plan s r id l.slot l.item d it (raised it) at kind y.inside y.is f.here (recounted l.slot (l.count - 1) d.leases) (owner_of l ∷ d.hand) d.releasing d.waits d.collected share' out' r.book.what s.homes alive p w (r.items.waiting id d w at kind h);
       once = r.items.private.once id d at;
       noted = λ w h. inl h;
+      old_waits = λ w h. inl h;
+      old_notes = λ w h. inl h;
       owns = λ o h. ⊎_elim (λ (e : owner_of l ≡ o). subst (Rattle.domain_table.specs.Items.Owns r.state.items r.book.slot_of) e (it, f.here, y.round it f.here, f.slot)) (λ (t : Has d.hand o). r.items.owners id d o at t) h;
     }
 

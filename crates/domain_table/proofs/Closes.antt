@@ -29,6 +29,7 @@ use Rattle.domain_table.specs.Plays.{own_home, Steady, Refilled, CanClose, endin
 use Rattle.domain_table.specs.declared.board.Acting.{Acting}
 use Rattle.domain_table.specs.declared.board.Plan.{Plan}
 use Rattle.domain_table.proofs.Taken as taken
+use Rattle.domain_table.proofs.LeftWords.{lefts_else}
 use Rattle.domain_table.proofs.Moves.{Moves, Writes, moved}
 use Rattle.domain_table.proofs.Stirred.{grip_set, loads_others, leased}
 
@@ -89,7 +90,7 @@ module _ (S : Type 0) (IsIn : Content → S → Type 0) (plan : Plan) where
       (λ s r _ at _. let d = me.0 in let q : ℕ = d.number in let n : ℕ = plan.sizes.participants in let a = r.epochs.seats id d at kind in let b = r.items.seats id d at kind in let x = d.known in let d' = ending d in let i : ℕ = state_word q in
       let core = with_participant r.state q (closing x) in let words' = set s.words i 0 in let wide = r.epochs.wide in let many = r.epochs.many in let inside = at_inside r.state.participants q x a.is in
       let homes' = table.homes_after s.homes me.1 (give_all IsIn d d.leases) in let carried = given IsIn d d.leases me.1 tail filled in
-      let g = gives_all IsIn d n plan.sizes.slots (plan.sizes.cells + n + n) q r.state.items (Why r.state (Grip s.views)) (omega arith) (λ k. ap (λ (z : Sizes). home z.slots k q) b.sizes_are) d.leases r.book s.homes me.1 tail r.items.parts r.items.lying b.leases filled in
+      let g = gives_all IsIn d n plan.sizes.slots (plan.sizes.cells + n) q r.state.items (Why r.state (Grip s.views)) (omega arith) (λ k. ap (λ (z : Sizes). home z.slots k q) b.sizes_are) d.leases r.book s.homes me.1 tail r.items.parts r.items.lying b.leases filled in
       let m : Moves r.state r.born d d' = (record {
         core = core;
         runs = taken.one r.state (Close q) core (taken.closes r.state q x a.is e is (sym found));
@@ -115,7 +116,7 @@ module _ (S : Type 0) (IsIn : Content → S → Type 0) (plan : Plan) where
         d',
         give_all IsIn d d.leases,
         valid IsIn d d.leases me.1 s.homes,
-        moved S IsIn plan s r id d d' words' homes' (record r.book { out = g.out; what = g.what }) m at kind w (leased r.items core.participants g.out g.what words' homes' id d d' at kind (record {
+        moved S IsIn plan s r id d d' words' homes' (record r.book { out = g.out; what = g.what }) m at kind w (lefts_else r.lefts i 0 (λ q' _ z. omega arith)) (leased r.items core.participants g.out g.what words' homes' id d d' at kind (record {
           parts = parts.stays g.counted r.state.items (Why core (Grip (set s.views id d'))) (λ k it at_k. (it, at_k, refl, refl)) reasons;
           lying = g.lying;
           mine = g.none_left;

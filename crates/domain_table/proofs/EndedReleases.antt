@@ -30,7 +30,7 @@ use Rattle.sdd_homes.proofs.LyingLemmas.{gives_low}
 use Rattle.sdd_homes.proofs.OwnerLemmas.{counts}
 use Rattle.sdd_homes.proofs.PartLemmas as parts
 use Rattle.sdd_homes.proofs.Totals.{home_in}
-use Rattle.domain_table.specs.Layout.{slot_word, all_homes, all_extras}
+use Rattle.domain_table.specs.Layout.{slot_word, all_homes, all_spares}
 use Rattle.domain_table.specs.Items.{Grasps, Grip, IsWaiting}
 use Rattle.domain_table.specs.Rule.{Shows}
 use Rattle.domain_table.specs.Plays.{own_home, retiring, collecting, MayNote, CanEnd, ended_release, end_release_then}
@@ -145,7 +145,7 @@ module _ (S : Type 0) (IsIn : Content → S → Type 0) (plan : Plan) where
       abbrev homes' : List (maybe.Option S)
       homes' = set s.homes (home plan.sizes.slots k p) (some u)
 
-      lies : Lying IsIn (all_homes plan.sizes) (all_extras plan.sizes) what' r.book.extra homes'
+      lies : Lying IsIn (all_homes plan.sizes) (all_spares plan.sizes) what' r.book.extra homes'
       lies = let low = y.low in let z = y.count in let one : l.count + 1 ≡ c = omega arith in gives_low r.items.lying (home plan.sizes.slots k p) (part it'.value c) u (home_in n plan.sizes.slots k p y.inside (omega arith))
           (subst (λ (w : ℕ × ℕ). IsIn (part w.0 w.1) u) (λ j. (sym (y.round it f.here) j, one j)) is_in)
 
@@ -169,6 +169,8 @@ module _ (S : Type 0) (IsIn : Content → S → Type 0) (plan : Plan) where
         waits = retires_now;
         once = releases.once_now S IsIn plan s r id d l o os at kind ready has first slot to;
         noted = releases.collects S IsIn plan s r id d l o os at kind ready has first slot to;
+        old_waits = λ w h. releases.new_waits to (2 + it.owners) l d.waits w h;
+        old_notes = λ w h. releases.new_notes to (2 + it.owners) l d.collected w h;
         owns = λ w h. r.items.owners id d w at (subst (λ (z : List Owner). Has z w) (sym first) (inr h));
       }
 

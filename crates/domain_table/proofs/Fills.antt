@@ -18,14 +18,15 @@ use Rattle.sdd_homes.specs.Reasons.{Loads, Why}
 use Rattle.sdd_homes.specs.Lying.{Lying}
 use Rattle.sdd_homes.proofs.PartLemmas as parts
 use Rattle.sdd_homes.proofs.HandLemmas.{owned_set}
-use Rattle.domain_table.specs.Layout.{cell_word, slot_word, claim_word, all_homes, all_extras}
+use Rattle.domain_table.specs.Layout.{cell_word, slot_word, link_word, claim_word, all_homes, all_spares}
 use Rattle.domain_table.specs.Items.{owners_in_hand, Grip, Owns, Carries, Items}
 use Rattle.domain_table.specs.Rule.{Shows}
 use Rattle.domain_table.specs.declared.board.Acting.{Acting}
 use Rattle.domain_table.specs.declared.board.Plan.{Plan}
 use Rattle.domain_table.proofs.Privates.{private_set}
+use Rattle.domain_table.proofs.LeftWords.{lefts_behind}
 use Rattle.domain_table.proofs.Moves.{items_change, slot_written}
-use Rattle.domain_table.proofs.Stirred.{rests_on, grip_set, waits_stay}
+use Rattle.domain_table.proofs.Stirred.{rests_on, grip_set, waits_stay, links_at}
 
 module _ (S : Type 0) (IsIn : Content → S → Type 0) (plan : Plan) (s : State S Acting) (r : Shows IsIn plan s) (id k v : ℕ) (d : Acting) (at : get_elem? s.views id ≡ some d) (kind : d.kind ≡ 1)
     (inside : k < plan.sizes.slots) (st : Stage) (filling' : Option Filling) (share' : ℕ → ℕ → ℕ) (what' : ℕ → Content) (homes' : List (maybe.Option S)) where
@@ -52,7 +53,7 @@ module _ (S : Type 0) (IsIn : Content → S → Type 0) (plan : Plan) (s : State
   -- no item is in the slot, before or after; the word is 0 only where it is vacant after; and nobody else fills it
   pub record Fills : Type 0 where
     pub parts : Parts plan.sizes.participants plan.sizes.slots r.state.items (Why r.state (Grip views')) book'
-    pub lying : Lying IsIn (all_homes plan.sizes) (all_extras plan.sizes) what' r.book.extra homes'
+    pub lying : Lying IsIn (all_homes plan.sizes) (all_spares plan.sizes) what' r.book.extra homes'
     pub unused : (i : ℕ) → r.book.stage k ≢ full i
     pub unplaced : (i : ℕ) → st ≢ full i
     pub room : v ≡ 0 → st ≡ vacant
@@ -102,8 +103,9 @@ module _ (S : Type 0) (IsIn : Content → S → Type 0) (plan : Plan) (s : State
       waiting = waits_stay r.items id d' (λ w _ h. r.items.waiting id d w at kind h);
       leftovers = r.items.leftovers;
       private = private_set r.items.private (λ _ h. h) id d d' at refl;
+      links = links_at r.items words' r.book.left id d' (λ m. get_or-set_other s.words word (link_word plan.sizes m) v 0 (λ z. omega arith)) (λ w _ h. r.items.links.waits id d w at kind h) (λ w h. r.items.links.notes id d w at h) r.items.links.lefts;
       seats = seats_now;
     }
 
     pub fills_shown : Shows IsIn plan record { words = words'; homes = homes'; views = views' }
-    fills_shown = items_change S IsIn plan s r id d d' r.state words' homes' book' at kind refl refl refl refl ([], refl) refl refl (slot_written S IsIn plan s r id d d' k v at kind refl inside) items_now
+    fills_shown = items_change S IsIn plan s r id d d' r.state words' homes' book' at kind refl refl refl refl ([], refl) refl refl (slot_written S IsIn plan s r id d d' k v at kind refl inside) (lefts_behind r.lefts word v (omega arith)) items_now

@@ -12,12 +12,12 @@ use Rattle.sdd_steps.specs.declared.item.Cell.{Cell}
 use Rattle.sdd_steps.specs.State.{At, Has, empty_cell}
 use Rattle.sdd_steps.specs.Invariant.{names_of}
 use Rattle.sdd_steps.proofs.ListLemmas.{at_map, at_mapped, at_inside, at_replicate, find_at, at_end}
-use Rattle.sdd_homes.specs.Book.{Content, blank, bag, room, home, resting, vacant, Book}
+use Rattle.sdd_homes.specs.Book.{Content, blank, room, home, resting, vacant, Book}
 use Rattle.sdd_homes.specs.Spares.{IsKept}
 use Rattle.sdd_homes.proofs.Fillings.{resting_own, resting_else}
 use Rattle.domain_table.specs.Contents.{first_in_home}
 use Rattle.domain_table.specs.Views.{spent}
-use Rattle.domain_table.specs.Layout.{state_word, claim_word, cell_word, all_words, all_homes, own_homes, all_spares, all_extras, bag_place, packed}
+use Rattle.domain_table.specs.Layout.{state_word, claim_word, left_word, cell_word, all_words, all_homes, own_homes, all_spares, packed}
 use Rattle.domain_table.specs.Items.{code, Distinct, Items}
 use Rattle.domain_table.specs.Rule.{beginning, numbers, first_eight, first_eights, first_words}
 use Rattle.domain_table.specs.declared.board.Acting.{Acting}
@@ -67,10 +67,10 @@ module _ (plan : Plan) where
   eights = first_eights plan.sizes.cells n
 
   abbrev behind : List ℕ
-  behind = numbers plan.sizes.cells ++ replicate plan.sizes.slots zero
+  behind = numbers plan.sizes.cells ++ replicate (plan.sizes.slots + plan.sizes.slots) zero
 
   pub long_first : length (first_words plan) ≡ all_words plan.sizes
-  long_first = let a = length-append eights behind in let b = length-append (numbers plan.sizes.cells) (replicate plan.sizes.slots zero) in let c = long_eights plan.sizes.cells n in let d = many_of plan.sizes.slots zero in let e = long_numbers plan.sizes.cells in omega arith
+  long_first = let a = length-append eights behind in let b = length-append (numbers plan.sizes.cells) (replicate (plan.sizes.slots + plan.sizes.slots) zero) in let c = long_eights plan.sizes.cells n in let d = many_of (plan.sizes.slots + plan.sizes.slots) zero in let e = long_numbers plan.sizes.cells in omega arith
 
   -- behind the first 16 words are those of participants, and then all others
   past : (i j : ℕ) → i ≡ 16 + j → get_or (first_words plan) i 0 ≡ get_or (eights ++ behind) j 0
@@ -85,18 +85,18 @@ module _ (plan : Plan) where
   pub claim_words_first : (p : ℕ) → p < n → get_or (first_words plan) (claim_word p) 0 ≡ suc (plan.sizes.cells + p)
   claim_words_first p lt = ap (λ z. get_or (first_words plan) z 0) (let e : claim_word p ≡ 8 * p + 16 + 1 = omega arith in e) ∙ first_of_participant p 1 lt (omega arith)
 
+  pub left_words_first : (p : ℕ) → p < n → get_or (first_words plan) (left_word p) 0 ≡ 0
+  left_words_first p lt = ap (λ z. get_or (first_words plan) z 0) (let e : left_word p ≡ 8 * p + 16 + 2 = omega arith in e) ∙ first_of_participant p 2 lt (omega arith)
+
   pub cell_words_first : (c : ℕ) → c < plan.sizes.cells → get_or (first_words plan) (cell_word plan.sizes c) 0 ≡ c
   cell_words_first c lt = let l = long_numbers plan.sizes.cells in past (cell_word plan.sizes c) (8 * n + c) (omega arith)
       ∙ (get_or-append_right eights behind (8 * n) (8 * n + c) 0 (long_eights plan.sizes.cells n) (omega arith)
       ∙ (ap (λ z. get_or behind z 0) (let d : 8 * n + c - 8 * n ≡ c = omega arith in d)
-      ∙ (get_or_append_left (numbers plan.sizes.cells) (replicate plan.sizes.slots zero) 0 c (omega arith) ∙ numbers_at plan.sizes.cells c lt)))
+      ∙ (get_or_append_left (numbers plan.sizes.cells) (replicate (plan.sizes.slots + plan.sizes.slots) zero) 0 c (omega arith) ∙ numbers_at plan.sizes.cells c lt)))
 
--- all slots are free, each user has the spare slot of its own number, and bags are empty
+-- all slots are free, each user has the spare slot of its own number, and nothing is left
 abbrev pub first_book : Sizes → Book
-first_book sizes = record { stage = λ _. vacant; share = λ _ _. 0; slot_of = λ _. 0; held = λ _. []; out = λ _. []; left = λ _. []; what = first_in_home (own_homes sizes); spare = λ u. u; user = λ u. u; extra = λ y. cond (nat_lt y (all_spares sizes)) blank (bag sizes.slots []) }
-
-abbrev extra_first : Sizes → ℕ → Content
-extra_first sizes y = cond (nat_lt y (all_spares sizes)) blank (bag sizes.slots [])
+first_book sizes = record { stage = λ _. vacant; share = λ _ _. 0; slot_of = λ _. 0; held = λ _. []; out = λ _. []; left = λ _. []; what = first_in_home (own_homes sizes); spare = λ u. u; user = λ u. u; extra = λ _. blank }
 
 -- these are the homes of free slots
 rests_first : (sizes : Sizes) (k p : ℕ) → k < sizes.slots → p < suc sizes.participants → first_in_home (own_homes sizes) (home sizes.slots k p) ≡ resting sizes.participants p
@@ -104,24 +104,17 @@ rests_first sizes k p lk lp = let n : ℕ = sizes.participants in let m : ℕ = 
     (λ e. let f : p * m ≡ n * m = ap (λ z. z * m) e in ap (λ b. cond b blank room) (le-ltb (home m k p) (n * m) (omega arith)) ∙ sym (resting_own n p e))
     (λ ne. let most : suc p * m ≤ n * m = mul-le (suc p) m n m (omega arith) (omega arith) in let one : suc p * m ≡ p * m + m = suc-mul p m in ap (λ b. cond b blank room) (lt-ltb (home m k p) (n * m) (omega arith)) ∙ sym (resting_else n p ne))
 
-spare_first : (sizes : Sizes) (y : ℕ) → y < all_spares sizes → extra_first sizes y ≡ blank
-spare_first sizes y lt = ap (λ b. cond b blank (bag sizes.slots [])) (lt-ltb y (all_spares sizes) lt)
-
-bag_first : (sizes : Sizes) (p : ℕ) → extra_first sizes (bag_place sizes p) ≡ bag sizes.slots []
-bag_first sizes p = ap (λ b. cond b blank (bag sizes.slots [])) (le-ltb (bag_place sizes p) (all_spares sizes) (omega arith))
-
 named_none : (plan : Plan) (c : ℕ) (o : Option ℕ) → At (names_of (beginning plan).cells) c o → o ≡ None
 named_none plan c o at = let t = at_mapped (λ (z : Cell). z.names) (replicate plan.sizes.cells empty_cell) c o at in sym t.2 ∙ ap (λ (z : Cell). z.names) (sym (at_replicate plan.sizes.cells c empty_cell t.0 t.1))
 
 only : (j : ℕ) (d : Acting) → At (spent ∷ []) j d → spent ≡ d
 only j d at = ⊎_elim (λ (h : At [] j d). absurd (some-ne-none d (sym h))) (λ t. t.1) (at_end [] spent j d at)
 
--- the slots of a new place: the homes are those of free slots, the spare slots behind them are empty, and so are the bags behind those
+-- the slots of a new place: the homes are those of free slots, and the spare slots behind them are empty
 pub record FirstSlots {S : Type 0} (IsIn : Content → S → Type 0) (sizes : Sizes) (slots : List S) : Type 0 where
-  pub long : length slots ≡ all_homes sizes + all_extras sizes
+  pub long : length slots ≡ all_homes sizes + all_spares sizes
   pub low : (i : ℕ) (y : S) → i < all_homes sizes → At slots i y → IsIn (first_in_home (own_homes sizes) i) y
   pub high : (i : ℕ) (y : S) → i < all_spares sizes → At slots (all_homes sizes + i) y → IsIn blank y
-  pub bags : (p : ℕ) (y : S) → p < sizes.participants → At slots (all_homes sizes + bag_place sizes p) y → IsIn (bag sizes.slots []) y
 
 -- the slot i is at home with what the content tells
 abbrev Found : {S : Type 0} → (Content → S → Type 0) → List S → Content → ℕ → Type 0
@@ -133,14 +126,11 @@ module _ {S : Type 0} {IsIn : Content → S → Type 0} (plan : Plan) (words : L
   items_begin long claims cells f = let n = plan.sizes.participants in let many = many_of plan.sizes.cells empty_cell in
       let long_slots = f.long in let found : (x : Content) (i : ℕ) → i < length slots → ((y : S) → At slots i y → IsIn x y) → Found IsIn slots x i = (λ x i lt is. let t = find_at slots i lt in (t.0, at_map some slots i t.0 t.1, is t.0 t.1)) in record {
         parts = record { full_at = λ k i _ e. absurd (cc); partly_at = λ k f _ e. absurd (cc); vacant_at = λ k p lk _ lp. rests_first plan.sizes k p lk lp; leases = λ p l h. absurd h; once = λ _. tt };
-        spares = record { users = λ _ _. refl; range = λ _ lt. lt; kept = λ c o lc at. subst (λ z. IsKept [] z (extra_first plan.sizes c)) (sym (named_none plan c o at)) (spare_first plan.sizes c (omega arith)) };
+        spares = record { users = λ _ _. refl; range = λ _ lt. lt; kept = λ c o lc at. subst (λ z. IsKept [] z blank) (sym (named_none plan c o at)) refl };
         lying = record {
           long = length-map slots some ∙ long_slots;
           low = λ i lt _. found (first_in_home (own_homes plan.sizes) i) i (omega arith) (λ y. f.low i y lt);
-          high = λ i lt _. dite (dec_le (suc i) (all_spares plan.sizes))
-              (λ low. subst (λ b. Found IsIn slots (cond b blank (bag plan.sizes.slots [])) (all_homes plan.sizes + i)) (sym (lt-ltb i (all_spares plan.sizes) low)) (found blank (all_homes plan.sizes + i) (omega arith) (λ y. f.high i y low)))
-              (λ up. let p : ℕ = i - all_spares plan.sizes in let is : i ≡ bag_place plan.sizes p = omega arith in subst (λ b. Found IsIn slots (cond b blank (bag plan.sizes.slots [])) (all_homes plan.sizes + i)) (sym (le-ltb i (all_spares plan.sizes) (omega arith)))
-              (found (bag plan.sizes.slots []) (all_homes plan.sizes + i) (omega arith) (λ y at. f.bags p y (omega arith) (subst (λ z. At slots (all_homes plan.sizes + z) y) is at))));
+          high = λ i lt _. found blank (all_homes plan.sizes + i) (omega arith) (λ y. f.high i y lt);
         };
         standing = λ i it at. absurd (some-ne-none it (sym at));
         settled = λ i it q at. absurd (some-ne-none it (sym at));
@@ -152,12 +142,17 @@ module _ {S : Type 0} {IsIn : Content → S → Type 0} (plan : Plan) (words : L
         given = λ i it at_i. absurd (cc);
         waiting = λ j d w at_j kind has. let z : 0 ≡ d.kind = ap (λ (v : Acting). v.kind) (only j d at_j) in absurd (omega arith);
         alone = λ c o at. ap (λ (z : Cell). z.holder) (sym (at_replicate plan.sizes.cells c empty_cell o at));
-        free = λ p low _. (refl, claims p low, spare_first plan.sizes (plan.sizes.cells + p) (omega arith), bag_first plan.sizes p);
+        free = λ p low _. (refl, claims p low, refl);
         leftovers = record { waits = λ p w h. absurd h; once = λ _. tt; apart = λ p q v w h. absurd h };
         private = record {
           noted = λ j d w at has. absurd (subst (λ (v : Acting). Has v.collected w) (sym (only j d at)) has);
           once = λ j d at. subst (λ (v : Acting). Distinct v.collected) (only j d at) tt;
           apart = λ j k d e v w at_d at_e has. absurd (subst (λ (z : Acting). Has z.collected v) (sym (only j d at_d)) has);
+        };
+        links = record {
+          waits = λ j d w at_j kind has. let z : 0 ≡ d.kind = ap (λ (v : Acting). v.kind) (only j d at_j) in absurd (omega arith);
+          notes = λ j d w at_j has. absurd (subst (λ (v : Acting). Has v.collected w) (sym (only j d at_j)) has);
+          lefts = λ p w has. absurd has;
         };
         hands = λ i it at. absurd (some-ne-none it (sym at));
         owners = λ j d o at has. absurd (subst (λ (v : Acting). Has v.hand o) (sym (only j d at)) has);

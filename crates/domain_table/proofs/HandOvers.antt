@@ -17,7 +17,7 @@ use Rattle.sdd_steps.proofs.ListLemmas.{set_here, set_else, same_at}
 use Rattle.sdd_homes.specs.declared.Garbage.{Garbage}
 use Rattle.sdd_homes.specs.Book.{Content}
 use Rattle.sdd_homes.specs.Reasons.{Loads}
-use Rattle.domain_table.specs.Items.{Grip, HasState, IsWaiting, IsNoted, Private, Distinct, Items}
+use Rattle.domain_table.specs.Items.{Grip, HasState, IsWaiting, IsNoted, Private, IsLinked, Distinct, Items}
 use Rattle.domain_table.specs.Rule.{Runs, Shows}
 use Rattle.domain_table.specs.Plays.{handing_over, hand_over_then}
 use Rattle.domain_table.specs.declared.board.Acting.{Acting}
@@ -119,16 +119,19 @@ module _ (S : Type 0) (IsIn : Content → S → Type 0) (plan : Plan) where
         (λ j e v _ at_e k has. waits_on e.number v (r.items.waiting j e v at_e k has)))
         (still_left r.items.leftovers (λ v h. states_on Waiting v (unlike Waiting v (λ e. absurd (cc)) h) h))
         private_now
+        (items.links_set r.items s.words r.book.left id d' (λ _ _. refl)
+        (λ v _ has. ⊎_elim (λ (e : record w { age = 0 } ≡ v). subst (IsLinked plan.sizes s.words) e (r.items.links.notes id d w at there)) (λ (t : Has d.waits v). r.items.links.waits id d v at kind t) has)
+        (λ v has. r.items.links.notes id d v at (was_there v has)) r.items.links.lefts)
 
     pub shown_hand : (m : ℕ) → Shows IsIn plan record { words = set s.words m (get_or s.words m 0); homes = s.homes; views = views' }
     shown_hand m = subst (λ xs. Shows IsIn plan record { words = xs; homes = s.homes; views = views' }) (sym (set-get_or s.words m 0))
-        (items_change S IsIn plan s r id d d' core s.words s.homes r.book at kind refl refl refl refl runs refl refl (reads_only S IsIn plan s r id d d' at kind refl) items_now)
+        (items_change S IsIn plan s r id d d' core s.words s.homes r.book at kind refl refl refl refl runs refl refl (reads_only S IsIn plan s r id d d' at kind refl) r.lefts items_now)
 
   pub hands_over : (slots id i : ℕ) (me : Me S Acting) (w : Garbage) (ws : List Garbage) → me.0.kind ≡ 1 → is_ready me.0.known ≡ true → me.0.collected ≡ ws ++ w ∷ [] → Allows (Shows IsIn plan) slots id me i (λ m. m) (hand_over_then (step slots i 0 0 none) me)
-  hands_over slots id i me w ws kind ready last s r _ at _ = let room = fewer_beside S IsIn plan s r id me.0 w at kind (there s r id me.0 w ws at kind ready last) in (
+  hands_over slots id i me w ws kind ready last s r _ at _ = let h = r.items.private.noted id me.0 w at (there s r id me.0 w ws at kind ready last) in let low = (r.items.standing w.item h.0 h.1 (λ q e. let bad : Collected w.age ≡ Reclaimed q = sym h.2 ∙ e in absurd (cc))).0 in (
     handing_over w ws me.0,
     keeps,
     tt,
     shown_hand s r id me.0 w ws at kind ready last i,
-    λ w' ws' last'. let same = snoc_same ws ws' w w' (sym last ∙ last') in (subst (λ (z : Sizes). length me.0.waits < z.slots) (sym (r.items.seats id me.0 at kind).sizes_are) room, λ j. (handing_over (same.1 j) (same.0 j) me.0, me.1)),
+    λ w' ws' last'. let same = snoc_same ws ws' w w' (sym last ∙ last') in (subst (λ (z : Garbage). z.slot < me.0.sizes.slots) same.1 (subst (λ (z : Sizes). w.slot < z.slots) (sym (r.items.seats id me.0 at kind).sizes_are) (subst (λ k. k < plan.sizes.slots) h.4 low)), λ j. (handing_over (same.1 j) (same.0 j) me.0, me.1)),
   )

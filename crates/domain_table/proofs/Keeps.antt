@@ -20,7 +20,7 @@ use Rattle.sdd_homes.proofs.Leases.{Returns, lends_has, returns_last, end_apart,
 use Rattle.sdd_homes.proofs.LyingLemmas.{gives_low}
 use Rattle.sdd_homes.proofs.PartLemmas as parts
 use Rattle.sdd_homes.proofs.Totals.{home_in}
-use Rattle.domain_table.specs.Layout.{all_homes, all_extras}
+use Rattle.domain_table.specs.Layout.{all_homes, all_spares}
 use Rattle.domain_table.specs.Items.{Grasps, Grip}
 use Rattle.domain_table.specs.Rule.{Shows}
 use Rattle.domain_table.specs.Plays.{CanKeep, keep_then}
@@ -82,12 +82,12 @@ module _ (S : Type 0) (IsIn : Content → S → Type 0) (plan : Plan) where
       abbrev homes' : List (maybe.Option S)
       homes' = set s.homes (home plan.sizes.slots l.slot p) (some u)
 
-      lies : Lying IsIn (all_homes plan.sizes) (all_extras plan.sizes) what' r.book.extra homes'
+      lies : Lying IsIn (all_homes plan.sizes) (all_spares plan.sizes) what' r.book.extra homes'
       lies = let low = y.low in gives_low r.items.lying (home plan.sizes.slots l.slot p) (part f.it.value l.count) u (home_in n plan.sizes.slots l.slot p y.inside (omega arith)) (subst (λ v. IsIn (part v l.count) u) (sym (y.round f.it f.here)) is_in)
 
       pub shown_keep : (i : ℕ) → Shows IsIn plan record { words = set s.words i (get_or s.words i 0); homes = homes'; views = views' }
       shown_keep i = let a = r.epochs.seats id d at kind in subst (λ ws. Shows IsIn plan record { words = ws; homes = homes'; views = views' }) (sym (set-get_or s.words i 0))
-          (items_change S IsIn plan s r id d d' r.state s.words homes' (record r.book { out = out'; what = what' }) at kind refl refl refl refl ([], refl) refl refl (reads_only S IsIn plan s r id d d' at kind refl)
+          (items_change S IsIn plan s r id d d' r.state s.words homes' (record r.book { out = out'; what = what' }) at kind refl refl refl refl ([], refl) refl refl (reads_only S IsIn plan s r id d d' at kind refl) r.lefts
           (leased r.items r.state.participants out' what' s.words homes' id d d' at kind (record {
             parts = parts.stays (parts.gives r.items.parts p l ls f.it back f.here) r.state.items (Why r.state (Grip views')) (λ m z at_z. (z, at_z, refl, refl)) reasons;
             lying = lies;

@@ -50,31 +50,27 @@ module _ {T : Type 0} (m : Me (Home T) Acting) (d : Acting) (l : Lease) (next : 
       e' ∙ (ap (λ (z : Me (Home T) Acting). (z.0, turned z.1)) (put_in m m1 (own_home d l.slot) i Blank r y (b ++ (t ++ xs)) front f e)
       ∙ λ j. ((is j).0, (append_assoc b (t ++ xs) one ∙ ap (λ ys. b ++ ys) (append_assoc t xs one)) j))
 
--- two turns put the first two slots behind the others
-pub two_behind : {S : Type 0} (x y : ℕ × S) (zs : List (ℕ × S)) → turned (turned (x ∷ y ∷ zs)) ≡ zs ++ x ∷ y ∷ []
-two_behind x y zs = append_assoc zs (x ∷ []) (y ∷ [])
+-- a slot was in front of what is leased, and is behind it now
+module _ {T : Type 0} (holds : T → List (ℕ × ℕ)) (m m1 : Me (Home T) Acting) (k : ℕ) (is : m.1 ≡ blanks (k ∷ leased_homes m.0 m.0.leases)) (one : m1 ≡ (m.0, turned m.1)) where
+  abbrev alone : List (ℕ × Home T)
+  alone = blanks (k ∷ [])
 
--- two slots were in front of what is leased, and are behind it now
-module _ {T : Type 0} (holds : T → List (ℕ × ℕ)) (m m1 m2 : Me (Home T) Acting) (k l : ℕ) (is : m.1 ≡ blanks (k ∷ l ∷ leased_homes m.0 m.0.leases)) (one : m1 ≡ (m.0, turned m.1)) (two : m2 ≡ (m1.0, turned m1.1)) where
-  abbrev both : List (ℕ × Home T)
-  both = blanks (k ∷ l ∷ [])
+  pub is_behind : m1 ≡ (m.0, blanks (leased_homes m.0 m.0.leases) ++ alone)
+  is_behind = one ∙ λ j. (m.0, ap turned is j)
 
-  pub both_behind : m2 ≡ (m.0, blanks (leased_homes m.0 m.0.leases) ++ both)
-  both_behind = two ∙ (ap (λ (z : Me (Home T) Acting). (z.0, turned z.1)) one ∙ λ j. (m.0, (ap (λ (xs : List (ℕ × Home T)). turned (turned xs)) is ∙ two_behind (k, Blank) (l, Blank) (blanks (leased_homes m.0 m.0.leases))) j))
+  pub leased_ahead : m1.1 ≡ blanks (leased_homes m1.0 m1.0.leases) ++ drop (length m1.0.leases) m1.1
+  leased_ahead = let d = m.0 in let b : List (ℕ × Home T) = blanks (leased_homes d d.leases) in let all = drop_blanks d d.leases alone in
+      subst (λ (z : Me (Home T) Acting). z.1 ≡ blanks (leased_homes z.0 z.0.leases) ++ drop (length z.0.leases) z.1) (sym is_behind) (ap (λ ys. b ++ ys) (sym all))
 
-  pub leased_ahead : m2.1 ≡ blanks (leased_homes m2.0 m2.0.leases) ++ drop (length m2.0.leases) m2.1
-  leased_ahead = let d = m.0 in let b : List (ℕ × Home T) = blanks (leased_homes d d.leases) in let all = drop_blanks d d.leases both in
-      subst (λ (z : Me (Home T) Acting). z.1 ≡ blanks (leased_homes z.0 z.0.leases) ++ drop (length z.0.leases) z.1) (sym both_behind) (ap (λ ys. b ++ ys) (sym all))
-
-  -- the homes are filled, and then the two are behind them again
-  pub filled_home : (xs : List (ℕ × Home T)) (m3 m4 m5 : Me (Home T) Acting) → Refilled (IsIn holds) m2.0 m2.0.leases xs [] → m3 ≡ (m2.0, drop (length m2.0.leases) m2.1 ++ xs) → m4 ≡ (m3.0, turned m3.1) → m5 ≡ (m4.0, turned m4.1)
-      → (ys : List (ℕ × Home T)) × Refilled (IsIn holds) m.0 m.0.leases ys (blanks (k ∷ l ∷ [])) × (m5 ≡ (m.0, ys))
-  filled_home xs m3 m4 m5 filled e e' e'' = let d = m.0 in let same = ap (λ (z : Me (Home T) Acting). z.0) both_behind in let t : List (ℕ × Home T) = blanks (k ∷ l ∷ []) in
-      let rest_is : drop (length m2.0.leases) m2.1 ≡ t = ap (λ (z : Me (Home T) Acting). drop (length z.0.leases) z.1) both_behind ∙ drop_blanks d d.leases t in
-      let third : m3 ≡ (d, t ++ xs) = e ∙ λ j. (same j, rest_is j ++ xs) in (
+  -- the homes are filled, and then the slot is behind them again
+  pub filled_home : (xs : List (ℕ × Home T)) (m2 m3 : Me (Home T) Acting) → Refilled (IsIn holds) m1.0 m1.0.leases xs [] → m2 ≡ (m1.0, drop (length m1.0.leases) m1.1 ++ xs) → m3 ≡ (m2.0, turned m2.1)
+      → (ys : List (ℕ × Home T)) × Refilled (IsIn holds) m.0 m.0.leases ys (blanks (k ∷ [])) × (m3 ≡ (m.0, ys))
+  filled_home xs m2 m3 filled e e' = let d = m.0 in let same = ap (λ (z : Me (Home T) Acting). z.0) is_behind in let t : List (ℕ × Home T) = blanks (k ∷ []) in
+      let rest_is : drop (length m1.0.leases) m1.1 ≡ t = ap (λ (z : Me (Home T) Acting). drop (length z.0.leases) z.1) is_behind ∙ drop_blanks d d.leases t in
+      let second : m2 ≡ (d, t ++ xs) = e ∙ λ j. (same j, rest_is j ++ xs) in (
         xs ++ t,
         filled_ahead (IsIn holds) d d.leases xs t (subst (λ (z : Acting). Refilled (IsIn holds) z z.leases xs []) same filled),
-        e'' ∙ (ap (λ (z : Me (Home T) Acting). (z.0, turned z.1)) e' ∙ (ap (λ (z : Me (Home T) Acting). (z.0, turned (turned z.1))) third ∙ λ j. (d, two_behind (k, Blank) (l, Blank) xs j))),
+        e' ∙ ap (λ (z : Me (Home T) Acting). (z.0, turned z.1)) second,
       )
 
 -- where the row of a slot is

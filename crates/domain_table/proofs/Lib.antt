@@ -1,4 +1,6 @@
 pub mod Privates
+pub mod LeftWords
+pub mod LeftCodes
 pub mod Stirred
 pub mod Taken
 pub mod Bounds
@@ -15,6 +17,7 @@ pub mod Leased
 pub mod Leasing
 pub mod Noted
 pub mod Rows
+pub mod Leavings
 pub mod Ends
 pub mod Loads
 pub mod Closes
@@ -38,10 +41,12 @@ pub mod PlacedLemmas
 pub mod Fronts
 pub mod Gathers
 pub mod Reclaims
-pub mod Aged
 pub mod Takeovers
 pub mod OwnerSeats
 pub mod BagSeats
 pub mod Rereads
 pub mod HandOvers
 pub mod GiveUps
+pub mod Linking
+pub mod BagLemmas
+pub mod WaitLemmas

@@ -137,7 +137,7 @@ module _ (S : Type 0) (IsIn : Content → S → Type 0) (plan : Plan) where
 
     -- nothing comes out
     pub again_leased : (w : ℕ) → Shows IsIn plan record { words = set s.words w (get_or s.words w 0); homes = s.homes; views = set s.views id (loading h d.leases d) }
-    again_leased w = own_load S IsIn plan s r w id d (loading h d.leases d) (goes d.leases) (record { cells = refl; stirred = stirred_none r.state.items; loads = inr (λ k l. still_loaded p k l); same = refl; distinct = λ h. h; waits_mine = λ _ w all h. all w h; waits_others = λ _ _ _ _ h. h; lefts = λ _ _ h. h; notes = λ _ _ h. h }) at kind refl
+    again_leased w = own_load S IsIn plan s r w id d (loading h d.leases d) (goes d.leases) (record { cells = refl; stirred = stirred_none r.state.items; loads = inr (λ k l. still_loaded p k l); same = refl; distinct = λ h. h; waits_mine = λ _ w all h. all w h; links_mine = λ _ _ w all h. all w h; waits_others = λ _ _ _ _ h. h; lefts = λ _ _ h. h; notes = λ _ _ h. h }) at kind refl
 
     is_leased : Lends d.leases (r.book.slot_of i) → IsLeased d.leases (r.book.slot_of i) h
     is_leased has = let t = has_lends d.leases (r.book.slot_of i) has in let l : Lease = t.0 in let y = r.items.parts.leases p l (subst (λ (ls : List Lease). Has ls l) (sym (r.items.seats id d at kind).leases) t.1) in
@@ -190,7 +190,7 @@ module _ (S : Type 0) (IsIn : Content → S → Type 0) (plan : Plan) where
 
       pub newly_leased : (w : ℕ) → Shows IsIn plan record { words = set s.words w (get_or s.words w 0); homes = set s.homes (home plan.sizes.slots k p) none; views = set s.views id d' }
       newly_leased w = let b = r.items.seats id d at kind in subst (λ ws. Shows IsIn plan record { words = ws; homes = set s.homes (home plan.sizes.slots k p) none; views = set s.views id d' }) (sym (set-get_or s.words w 0))
-          (moved S IsIn plan s r id d d' s.words (set s.homes (home plan.sizes.slots k p) none) (record r.book { out = out'; what = what' }) (goes (d.leases ++ new ∷ [])) at kind (reads_only S IsIn plan s r id d d' at kind refl)
+          (moved S IsIn plan s r id d d' s.words (set s.homes (home plan.sizes.slots k p) none) (record r.book { out = out'; what = what' }) (goes (d.leases ++ new ∷ [])) at kind (reads_only S IsIn plan s r id d d' at kind refl) r.lefts
           (leased r.items core.participants out' what' s.words (set s.homes (home plan.sizes.slots k p) none) id d d' at kind (record {
             parts = kept;
             lying = takes_low r.items.lying (home plan.sizes.slots k p) (home_in n plan.sizes.slots k p stand.0 (omega (arith, low)));

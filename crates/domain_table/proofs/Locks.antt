@@ -19,6 +19,7 @@ use Rattle.domain_table.proofs.Privates.{private_set}
 use Rattle.domain_table.proofs.Stirred.{stirred_none, grip_set, seated}
 use Rattle.domain_table.proofs.Stirred as items
 use Rattle.domain_table.proofs.Moves.{idles}
+use Rattle.domain_table.proofs.LeftWords.{lefts_else}
 
 module _ (S : Type 0) (IsIn : Content → S → Type 0) (plan : Plan) where
   -- the lock changes hands: nobody else has it
@@ -33,8 +34,10 @@ module _ (S : Type 0) (IsIn : Content → S → Type 0) (plan : Plan) where
     items = let c = r.items.seats id d at kind in let d' : Acting = record d { scan = st } in items.stays r.items r.state (set s.words lock_word v) (set s.views id d') refl (stirred_none r.state.items)
         (λ q l _ y. ⊎_elim (λ (t : Loads r.state q l.item). inl t) (λ (g : Grip s.views q l.item). inr (grip_set s.views id d d' at (λ _ _ h. h) q l.item g)) y)
         (record { long = length-set s.words 8 v; high = λ i le. get_or-set_other s.words 8 i v 0 (λ e. omega arith); freed = λ q _ _. inl (get_or-set_other s.words 8 (claim_word q) v 0 (λ e. omega arith)) })
-        (seated r.items id d d' at refl (λ _. record { sizes_are = c.sizes_are; leases = c.leases; spare = c.spare; fills = c.fills; distinct = c.distinct; left = c.left })) (items.waits_stay r.items id d' (λ w _ has. r.items.waiting id d w at kind has)) r.items.leftovers (private_set r.items.private (λ _ h. h) id d d' at refl);
+        (seated r.items id d d' at refl (λ _. record { sizes_are = c.sizes_are; leases = c.leases; spare = c.spare; fills = c.fills; distinct = c.distinct; left = c.left })) (items.waits_stay r.items id d' (λ w _ has. r.items.waiting id d w at kind has)) r.items.leftovers (private_set r.items.private (λ _ h. h) id d d' at refl)
+        (items.links_set r.items (set s.words lock_word v) r.book.left id d' (λ i le. get_or-set_other s.words 8 i v 0 (λ e. omega arith)) (λ w _ has. r.items.links.waits id d w at kind has) (λ w has. r.items.links.notes id d w at has) r.items.links.lefts);
     born = r.born;
+    lefts = lefts_else r.lefts 8 v (λ q _ e. omega arith);
     bounded = r.bounded;
     epochs = record {
       seat_of = o.seat_of;

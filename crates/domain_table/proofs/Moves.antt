@@ -9,6 +9,7 @@ use lib.Seq.{set-get_or}
 use Rattle.atomic_table.specs.Table.{State}
 use Rattle.atomic_table.proofs.Lists.{set_again}
 use Rattle.domain_table.specs.declared.board.Plan.{Plan}
+use Rattle.sdd_base.specs.declared.sizes.Sizes.{Sizes}
 use Rattle.sdd_steps.specs.declared.participant.Phase.TheVariants.{Idle, Opened}
 use Rattle.sdd_steps.specs.declared.participant.Participant.{Participant}
 use Rattle.sdd_steps.specs.State.{At, Has, newcomer}
@@ -20,11 +21,12 @@ use Rattle.sdd_homes.specs.declared.Lease.{Lease}
 use Rattle.sdd_homes.specs.declared.Garbage.{Garbage}
 use Rattle.sdd_homes.specs.Reasons.{Loads, Why}
 use Rattle.domain_table.specs.Layout.{state_word, claim_word, slot_word, lock_word, count_word, epoch_words, shown}
-use Rattle.domain_table.specs.Items.{Grasps, Grip, IsWaiting, IsLeftover, IsNoted, Carries, Items, Distinct}
+use Rattle.domain_table.specs.Items.{Grasps, Grip, IsWaiting, IsLeftover, IsNoted, IsLinked, Carries, Items, Distinct}
 use Rattle.domain_table.proofs.Stirred.{Stirred, stirred_none, still_left, grip_set, loads_others, seated}
 use Rattle.domain_table.proofs.Stirred as items
 use Rattle.domain_table.proofs.Privates.{private_set}
-use Rattle.domain_table.specs.Rule.{Acts, Bounded, Runs, beginning, Shows}
+use Rattle.domain_table.proofs.LeftWords.{lefts_else, lefts_behind}
+use Rattle.domain_table.specs.Rule.{Acts, Bounded, Runs, beginning, Shows, Lefts}
 use Rattle.domain_table.proofs.Bounds.{changes}
 use Rattle.domain_table.proofs.Taken.{goes_on, run_keeps}
 use Rattle.domain_table.specs.declared.board.Acting.{Acting}
@@ -53,6 +55,7 @@ module _ (state core : steps.State) (d d' : Acting) where
     pub same : d' ≡ record d { known = d'.known; born = d'.born; scan = d'.scan; waits = d'.waits; cell_steps = d'.cell_steps }
     pub distinct : Distinct d.waits → Distinct d'.waits
     pub waits_mine : (slot_of : ℕ → ℕ) (w : Garbage) → ((v : Garbage) → Has d.waits v → IsWaiting state.items slot_of d.number v) → Has d'.waits w → IsWaiting core.items slot_of d.number w
+    pub links_mine : (sizes : Sizes) (words : List ℕ) (w : Garbage) → ((v : Garbage) → Has d.waits v → IsLinked sizes words v) → Has d'.waits w → IsLinked sizes words w
     pub waits_others : (slot_of : ℕ → ℕ) (q : ℕ) (w : Garbage) → q ≢ d.number → IsWaiting state.items slot_of q w → IsWaiting core.items slot_of q w
     pub lefts : (slot_of : ℕ → ℕ) (w : Garbage) → IsLeftover state.items slot_of w → IsLeftover core.items slot_of w
     pub notes : (slot_of : ℕ → ℕ) (w : Garbage) → IsNoted state.items slot_of w → IsNoted core.items slot_of w
@@ -90,50 +93,61 @@ module _ (S : Type 0) (IsIn : Content → S → Type 0) (plan : Plan) where
       (λ j e u other here k has. let a = r.epochs.seats id d at kind in let x = r.epochs.seats j e here k in v.waits_others r.book.slot_of e.number u (λ same. other (sym x.seated ∙ (ap r.epochs.seat_of same ∙ a.seated))) (r.items.waiting j e u here k has)))
       (still_left r.items.leftovers (λ u h. v.lefts r.book.slot_of u h))
       (private_set r.items.private (λ u h. v.notes r.book.slot_of u h) id d d' at (ap (λ (z : Acting). z.collected) v.same))
+      (items.links_set r.items words' r.book.left id d' high (λ u _ has. v.links_mine plan.sizes s.words u (λ u' h. r.items.links.waits id d u' at kind h) has)
+      (λ u has. r.items.links.notes id d u at (subst (λ (us : List Garbage). Has us u) (ap (λ (z : Acting). z.collected) v.same) has)) r.items.links.lefts)
 
-  -- what stands of epochs is kept, with what is told of items and cells
+  -- what stands of epochs is kept, with what is told of items and cells, and of what was left
+  pub moved_to : (s : Table) (r : Shown s) (id : ℕ) (d d' : Acting) (words' : List ℕ) (homes' : List (maybe.Option S)) (book' : Book) (m : Moves r.state r.born d d') → get_elem? s.views id ≡ some d → d.kind ≡ 1
+      → Writes (length r.state.participants) d.number s.words words' (shown d'.known.phase) → Lefts plan.sizes.participants words' book'.left → Items IsIn plan.sizes m.core book' words' homes' (set s.views id d')
+      → (r' : Shown record { words = words'; homes = homes'; views = set s.views id d' }) × (r'.book ≡ book')
+  moved_to s r id d d' words' homes' book' m at kind w lefts told = let e = r.epochs in let a = e.seats id d at kind in let p = d.number in let x' = d'.known in let ps = r.state.participants in (
+    record {
+      state = m.core;
+      run = goes_on (beginning plan) r.state m.core r.run m.runs;
+      kept = run_keeps r.state m.core m.runs r.kept;
+      book = book';
+      items = told;
+      lefts = lefts;
+      born = put r.born p d'.born;
+      bounded = subst (λ (z : List Participant × ℕ). Bounded z.0 z.1 (put r.born p d'.born)) (λ k. (sym m.changed k, sym m.count k))
+          (changes ps r.state.count r.born r.bounded p d.known x' d'.born a.is m.inside m.again m.looks);
+      epochs = record {
+        seat_of = e.seat_of;
+        scanner = e.scanner;
+        wide = subst (λ n. 8 * plan.sizes.participants + 16 ≤ n) (sym w.long) e.wide;
+        many = ap length m.changed ∙ (length-set ps p x' ∙ e.many);
+        count_is = w.count ∙ (e.count_is ∙ sym m.count);
+        states = λ q y at_q. set_all (λ q' y'. get_or words' (state_word q') 0 ≡ shown y'.phase) ps p x' w.mine
+            (λ q' y' other here. w.others q' (at_inside ps q' y' here) other ∙ e.states q' y' here) q y (subst (λ l. At l q y) m.changed at_q);
+        free = λ q y at_q some_. set_all (λ q' y'. get_or words' (claim_word q') 0 ≢ 0 → y' ≡ newcomer) ps p x' (λ z. absurd (z (w.claims p (at_inside ps p d.known a.is) ∙ a.claimed)))
+            (λ q' y' other here z. e.free q' y' here (λ t. z (w.claims q' (at_inside ps q' y' here) ∙ t))) q y (subst (λ l. At l q y) m.changed at_q) some_;
+        seats = λ j z at_j k. set_all (λ j' z'. z'.kind ≡ 1 → Acts m.core.participants m.core.count (put r.born p d'.born) words' e.seat_of e.scanner j' z') s.views id d'
+            (λ _. record {
+              is = subst (λ (l : List Participant). At l d'.number x') (sym m.changed) (subst (λ k. At (set ps p x') k x') (sym m.number) (set_here ps p x' d.known a.is));
+              seated = ap e.seat_of m.number ∙ a.seated;
+              claimed = ap (λ k. get_or words' (claim_word k) 0) m.number ∙ (w.claims p (at_inside ps p d.known a.is) ∙ a.claimed);
+              locked = λ more. let l = a.locked (m.scan more) in (w.lock ∙ l.0, l.1);
+              present = λ more. m.present more ∙ ap Opened (sym m.count);
+              begun = λ _ _. sym (put_here r.born p d'.born) ∙ ap (put r.born p d'.born) (sym m.number);
+              still = m.still;
+            })
+            (λ j' z' other here kind'. let b = e.seats j' z' here kind' in let apart : z'.number ≢ p = (λ same. other (sym b.seated ∙ (ap e.seat_of same ∙ a.seated))) in record {
+              is = subst (λ (l : List Participant). At l z'.number z'.known) (sym m.changed) (set_else ps p z'.number x' apart ∙ b.is);
+              seated = b.seated;
+              claimed = w.claims z'.number (at_inside ps z'.number z'.known b.is) ∙ b.claimed;
+              locked = λ more. let l = b.locked more in (w.lock ∙ l.0, l.1);
+              present = λ more. b.present more ∙ ap Opened (sym m.count);
+              begun = λ n is. b.begun n is ∙ sym (put_else r.born p d'.born z'.number apart);
+              still = b.still;
+            }) j z at_j k;
+      };
+    },
+    refl,
+  )
+
   pub moved : (s : Table) (r : Shown s) (id : ℕ) (d d' : Acting) (words' : List ℕ) (homes' : List (maybe.Option S)) (book' : Book) (m : Moves r.state r.born d d') → get_elem? s.views id ≡ some d → d.kind ≡ 1
-      → Writes (length r.state.participants) d.number s.words words' (shown d'.known.phase) → Items IsIn plan.sizes m.core book' words' homes' (set s.views id d') → Shown record { words = words'; homes = homes'; views = set s.views id d' }
-  moved s r id d d' words' homes' book' m at kind w told = let e = r.epochs in let a = e.seats id d at kind in let p = d.number in let x' = d'.known in let ps = r.state.participants in record {
-    state = m.core;
-    run = goes_on (beginning plan) r.state m.core r.run m.runs;
-    kept = run_keeps r.state m.core m.runs r.kept;
-    book = book';
-    items = told;
-    born = put r.born p d'.born;
-    bounded = subst (λ (z : List Participant × ℕ). Bounded z.0 z.1 (put r.born p d'.born)) (λ k. (sym m.changed k, sym m.count k))
-        (changes ps r.state.count r.born r.bounded p d.known x' d'.born a.is m.inside m.again m.looks);
-    epochs = record {
-      seat_of = e.seat_of;
-      scanner = e.scanner;
-      wide = subst (λ n. 8 * plan.sizes.participants + 16 ≤ n) (sym w.long) e.wide;
-      many = ap length m.changed ∙ (length-set ps p x' ∙ e.many);
-      count_is = w.count ∙ (e.count_is ∙ sym m.count);
-      states = λ q y at_q. set_all (λ q' y'. get_or words' (state_word q') 0 ≡ shown y'.phase) ps p x' w.mine
-          (λ q' y' other here. w.others q' (at_inside ps q' y' here) other ∙ e.states q' y' here) q y (subst (λ l. At l q y) m.changed at_q);
-      free = λ q y at_q some_. set_all (λ q' y'. get_or words' (claim_word q') 0 ≢ 0 → y' ≡ newcomer) ps p x' (λ z. absurd (z (w.claims p (at_inside ps p d.known a.is) ∙ a.claimed)))
-          (λ q' y' other here z. e.free q' y' here (λ t. z (w.claims q' (at_inside ps q' y' here) ∙ t))) q y (subst (λ l. At l q y) m.changed at_q) some_;
-      seats = λ j z at_j k. set_all (λ j' z'. z'.kind ≡ 1 → Acts m.core.participants m.core.count (put r.born p d'.born) words' e.seat_of e.scanner j' z') s.views id d'
-          (λ _. record {
-            is = subst (λ (l : List Participant). At l d'.number x') (sym m.changed) (subst (λ k. At (set ps p x') k x') (sym m.number) (set_here ps p x' d.known a.is));
-            seated = ap e.seat_of m.number ∙ a.seated;
-            claimed = ap (λ k. get_or words' (claim_word k) 0) m.number ∙ (w.claims p (at_inside ps p d.known a.is) ∙ a.claimed);
-            locked = λ more. let l = a.locked (m.scan more) in (w.lock ∙ l.0, l.1);
-            present = λ more. m.present more ∙ ap Opened (sym m.count);
-            begun = λ _ _. sym (put_here r.born p d'.born) ∙ ap (put r.born p d'.born) (sym m.number);
-            still = m.still;
-          })
-          (λ j' z' other here kind'. let b = e.seats j' z' here kind' in let apart : z'.number ≢ p = (λ same. other (sym b.seated ∙ (ap e.seat_of same ∙ a.seated))) in record {
-            is = subst (λ (l : List Participant). At l z'.number z'.known) (sym m.changed) (set_else ps p z'.number x' apart ∙ b.is);
-            seated = b.seated;
-            claimed = w.claims z'.number (at_inside ps z'.number z'.known b.is) ∙ b.claimed;
-            locked = λ more. let l = b.locked more in (w.lock ∙ l.0, l.1);
-            present = λ more. b.present more ∙ ap Opened (sym m.count);
-            begun = λ n is. b.begun n is ∙ sym (put_else r.born p d'.born z'.number apart);
-            still = b.still;
-          }) j z at_j k;
-    };
-  }
+      → Writes (length r.state.participants) d.number s.words words' (shown d'.known.phase) → Lefts plan.sizes.participants words' book'.left → Items IsIn plan.sizes m.core book' words' homes' (set s.views id d') → Shown record { words = words'; homes = homes'; views = set s.views id d' }
+  moved s r id d d' words' homes' book' m at kind w lefts told = (moved_to s r id d d' words' homes' book' m at kind w lefts told).0
 
   -- no word changes
   pub reads_only : (s : Table) (r : Shown s) (id : ℕ) (d d' : Acting) → get_elem? s.views id ≡ some d → d.kind ≡ 1 → shown d'.known.phase ≡ shown d.known.phase → Writes (length r.state.participants) d.number s.words s.words (shown d'.known.phase)
@@ -150,7 +164,7 @@ module _ (S : Type 0) (IsIn : Content → S → Type 0) (plan : Plan) where
   pub own_load : (s : Table) (r : Shown s) (i id : ℕ) (d d' : Acting) (m : Moves r.state r.born d d') → Leaves r.state m.core d d' → get_elem? s.views id ≡ some d → d.kind ≡ 1 → shown d'.known.phase ≡ shown d.known.phase
       → Shown record { words = set s.words i (get_or s.words i 0); homes = s.homes; views = set s.views id d' }
   own_load s r i id d d' m v at kind same = let w = reads_only s r id d d' at kind same in subst (λ ws. Shown record { words = ws; homes = s.homes; views = set s.views id d' }) (sym (set-get_or s.words i 0))
-      (moved s r id d d' s.words s.homes r.book m at kind w (items_moved s r id d d' s.words m v at kind w (λ _ _. refl)))
+      (moved s r id d d' s.words s.homes r.book m at kind w r.lefts (items_moved s r id d d' s.words m v at kind w (λ _ _. refl)))
 
   -- the same where the participant's own word is written
   pub own_store : (s : Table) (r : Shown s) (v id : ℕ) (d d' : Acting) (m : Moves r.state r.born d d') → Leaves r.state m.core d d' → get_elem? s.views id ≡ some d → d.kind ≡ 1 → v ≡ shown d'.known.phase
@@ -163,7 +177,7 @@ module _ (S : Type 0) (IsIn : Content → S → Type 0) (plan : Plan) where
         claims = λ q _. get_or-set_other s.words i (claim_word q) v 0 (λ e. omega arith);
         others = λ q _ other. get_or-set_other s.words i (state_word q) v 0 (λ e. other (omega arith));
         mine = get_or-set_same s.words i v 0 (omega arith) ∙ is;
-      }) in moved s r id d d' (set s.words i v) s.homes r.book m at kind w (items_moved s r id d d' (set s.words i v) m l at kind w (λ j le. get_or-set_other s.words i j v 0 (λ e. omega arith)))
+      }) in moved s r id d d' (set s.words i v) s.homes r.book m at kind w (lefts_else r.lefts i v (λ q _ e. omega arith)) (items_moved s r id d d' (set s.words i v) m l at kind w (λ j le. get_or-set_other s.words i j v 0 (λ e. omega arith)))
 
   -- what is known of the seat's own open guard
   pub own_inside : (s : Table) (r : Shown s) (id : ℕ) (d : Acting) → get_elem? s.views id ≡ some d → d.kind ≡ 1 → (e : ℕ) → d.known.phase ≡ Opened e
@@ -192,6 +206,7 @@ module _ (S : Type 0) (IsIn : Content → S → Type 0) (plan : Plan) where
     same = refl;
     distinct = λ h. h;
     waits_mine = λ _ w all h. all w h;
+    links_mine = λ _ _ w all h. all w h;
     waits_others = λ _ _ _ _ h. h;
     lefts = λ _ _ h. h;
     notes = λ _ _ h. h;
@@ -218,9 +233,10 @@ module _ (S : Type 0) (IsIn : Content → S → Type 0) (plan : Plan) where
   }
 
   -- the seat's own participant stays as it is, whatever becomes of items
-  pub items_change : (s : Table) (r : Shown s) (id : ℕ) (d d' : Acting) (core : steps.State) (words' : List ℕ) (homes' : List (maybe.Option S)) (book' : Book) → get_elem? s.views id ≡ some d → d.kind ≡ 1 → d'.known ≡ d.known → d'.born ≡ d.born → d'.number ≡ d.number → d'.scan ≡ d.scan
-      → Runs r.state core → core.count ≡ r.state.count → core.participants ≡ r.state.participants → Writes (length r.state.participants) d.number s.words words' (shown d'.known.phase) → Items IsIn plan.sizes core book' words' homes' (set s.views id d') → Shown record { words = words'; homes = homes'; views = set s.views id d' }
-  items_change s r id d d' core words' homes' book' at kind known born number scan runs count same w told = let a = r.epochs.seats id d at kind in let phase = ap (λ (z : Participant). z.phase) known in moved s r id d d' words' homes' book' (record {
+  pub items_change_to : (s : Table) (r : Shown s) (id : ℕ) (d d' : Acting) (core : steps.State) (words' : List ℕ) (homes' : List (maybe.Option S)) (book' : Book) → get_elem? s.views id ≡ some d → d.kind ≡ 1 → d'.known ≡ d.known → d'.born ≡ d.born → d'.number ≡ d.number → d'.scan ≡ d.scan
+      → Runs r.state core → core.count ≡ r.state.count → core.participants ≡ r.state.participants → Writes (length r.state.participants) d.number s.words words' (shown d'.known.phase) → Lefts plan.sizes.participants words' book'.left → Items IsIn plan.sizes core book' words' homes' (set s.views id d')
+      → (r' : Shown record { words = words'; homes = homes'; views = set s.views id d' }) × (r'.book ≡ book')
+  items_change_to s r id d d' core words' homes' book' at kind known born number scan runs count same w lefts told = let a = r.epochs.seats id d at kind in let phase = ap (λ (z : Participant). z.phase) known in moved_to s r id d d' words' homes' book' (record {
     core = core;
     runs = runs;
     count = count;
@@ -232,4 +248,8 @@ module _ (S : Type 0) (IsIn : Content → S → Type 0) (plan : Plan) where
     number = number;
     scan = λ h. subst (λ z. 0 < z) scan h;
     present = λ h. phase ∙ a.present (subst (λ z. 1 < z) scan h);
-  }) at kind w told
+  }) at kind w lefts told
+
+  pub items_change : (s : Table) (r : Shown s) (id : ℕ) (d d' : Acting) (core : steps.State) (words' : List ℕ) (homes' : List (maybe.Option S)) (book' : Book) → get_elem? s.views id ≡ some d → d.kind ≡ 1 → d'.known ≡ d.known → d'.born ≡ d.born → d'.number ≡ d.number → d'.scan ≡ d.scan
+      → Runs r.state core → core.count ≡ r.state.count → core.participants ≡ r.state.participants → Writes (length r.state.participants) d.number s.words words' (shown d'.known.phase) → Lefts plan.sizes.participants words' book'.left → Items IsIn plan.sizes core book' words' homes' (set s.views id d') → Shown record { words = words'; homes = homes'; views = set s.views id d' }
+  items_change s r id d d' core words' homes' book' at kind known born number scan runs count same w lefts told = (items_change_to s r id d d' core words' homes' book' at kind known born number scan runs count same w lefts told).0

@@ -34,10 +34,10 @@ module _ {T : Type 0} where
     pub is_leased : HasLeased m m'
     is_leased = (n.0, m.0.leases ++ n.1, ap (λ (z : Me (Home T) Acting). z.0) n.2)
 
-    pub out_now : (k l : ℕ) → has_all is_blank (k ∷ l ∷ leased_homes m.0 m.0.leases) m.1 ≡ true → has_all is_blank (k ∷ l ∷ leased_homes m'.0 m'.0.leases) m'.1 ≡ true
-    out_now k l out = let ks : List ℕ = k ∷ l ∷ leased_homes m.0 m.0.leases in let more : List ℕ = leased_homes m.0 n.1 in
+    pub out_now : (k : ℕ) → has_all is_blank (k ∷ leased_homes m.0 m.0.leases) m.1 ≡ true → has_all is_blank (k ∷ leased_homes m'.0 m'.0.leases) m'.1 ≡ true
+    out_now k out = let ks : List ℕ = k ∷ leased_homes m.0 m.0.leases in let more : List ℕ = leased_homes m.0 n.1 in
         let lie : m.1 ++ blanks more ≡ blanks (ks ++ more) = ap (λ xs. xs ++ blanks more) (all_there ks m.1 out) ∙ sym (blanks_both ks more) in
-        subst (λ (z : Me (Home T) Acting). has_all is_blank (k ∷ l ∷ leased_homes z.0 z.0.leases) z.1 ≡ true) (sym n.2) ((λ j. has_all is_blank (k ∷ l ∷ homes_both m.0 m.0.leases n.1 j) (lie j)) ∙ are_there T (ks ++ more))
+        subst (λ (z : Me (Home T) Acting). has_all is_blank (k ∷ leased_homes z.0 z.0.leases) z.1 ≡ true) (sym n.2) ((λ j. has_all is_blank (k ∷ homes_both m.0 m.0.leases n.1 j) (lie j)) ∙ are_there T (ks ++ more))
 
 -- a word that was loaded is found with the tag that is told, and names what this row is of
 pub found_as : {S T : Type 0} (In : Content → S → Type 0) (m m' : Me S Acting) (w t : ℕ) (rows : List (Row T)) (at : Option ℕ) → HasLoaded In m w m' → ((y u c : ℕ) → y < 2147483648 → u < 4 → w ≡ packed y u c → t ≡ u) → ((y u c : ℕ) → y < 2147483648 → u < 4 → w ≡ packed y u c → HasCode rows at c) → IsFoundAs w t rows at

@@ -1,5 +1,5 @@
 -- opening a guard keeps the rule of the table
-use Rattle.std.proofs.Common.{◌≡◌, ◌≢◌, ℕ, ◌≤◌, [], ◌∷◌, map, get_or, set, sym, refl, ap, ◌∙◌, subst, inl, inr, arith, None, List, cond, eq-eqb, ne_eqb}
+use Rattle.std.proofs.Common.{◌≡◌, ◌≢◌, ◌==◌, ◌+◌, true, false, ℕ, ◌≤◌, [], ◌∷◌, map, get_or, set, sym, refl, ap, ◌∙◌, subst, inl, inr, arith, None, List, cond, eq-eqb, ne_eqb}
 use mathlib.Core.Logic.{dite}
 use native.Mathlib.Decide.{ℕ_discrete}
 use Rattle.atomic_table.specs.Table.{Me, step, keeps, Allows}
@@ -10,7 +10,7 @@ use Rattle.sdd_steps.specs.declared.step.Step.TheVariants.{ReadEpoch, Publish, R
 use Rattle.sdd_steps.specs.State.{At, with_participant, Has}
 use Rattle.sdd_steps.specs.Steps.{older}
 use Rattle.sdd_steps.specs.State as steps
-use Rattle.sdd_steps.proofs.ListLemmas.{set_here}
+use Rattle.sdd_steps.proofs.ListLemmas.{set_here, has_map}
 use Rattle.sdd_homes.specs.Reasons.{Loads}
 use Rattle.sdd_homes.proofs.SwapLemmas.{set_twice}
 use Rattle.domain_table.specs.Views.{reading, publishing, rotated, older_waits}
@@ -22,8 +22,9 @@ use Rattle.domain_table.specs.declared.board.Acting.{Acting}
 use Rattle.domain_table.proofs.Moves.{own_load, own_store, own_inside, idles}
 use Rattle.domain_table.proofs.Stirred.{Stirred, stirred_none, stirred_older, loads_none, waits_older, waits_older_else, distinct_older, left_older, notes_older}
 use Rattle.domain_table.proofs.Taken as taken
-use Rattle.domain_table.specs.Items.{IsWaiting, IsLeftover, IsNoted, Distinct}
+use Rattle.domain_table.specs.Items.{IsWaiting, IsLeftover, IsNoted, IsLinked, Distinct}
 use Rattle.sdd_homes.specs.declared.Garbage.{Garbage}
+use Rattle.sdd_base.specs.declared.sizes.Sizes.{Sizes}
 
 -- p publishes the count that it read, and rotates if it found another one before
 record Published (core : steps.State) (p e : ℕ) (x : Participant) : Type 0 where
@@ -57,6 +58,13 @@ published core p e x at is = let x1 : Participant = record x { phase = Opened e;
       notes = λ slot_of w h. notes_older p core.items slot_of w h;
     })
 
+-- what is older is linked as it was
+links_rotated : (e found : ℕ) (sizes : Sizes) (words : List ℕ) (ws : List Garbage) (w : Garbage) → ((v : Garbage) → Has ws v → IsLinked sizes words v) → Has (rotated e found ws) w → IsLinked sizes words w
+links_rotated e found sizes words ws w all = elim (e == found) as (λ b. Has (cond b ws (older_waits ws)) w → IsLinked sizes words w) [
+  | true ↦ λ h. all w h
+  | false ↦ λ h. let t = has_map (λ (v : Garbage). record v { age = v.age + 1 }) ws w h in subst (IsLinked sizes words) t.2 (all t.0 t.1)
+]
+
 module _ (S : Type 0) (IsIn : Content → S → Type 0) (plan : Plan) where
   pub reads : (slots id : ℕ) (me : Me S Acting) → me.0.kind ≡ 1 → me.0.known.phase ≡ Idle → me.0.scan ≡ 0
       → Allows (Shows IsIn plan) slots id me count_word (λ k. k) (read_then (step slots count_word 0 0 mathlib.Core.Option.none) me)
@@ -85,6 +93,7 @@ module _ (S : Type 0) (IsIn : Content → S → Type 0) (plan : Plan) where
           same = refl;
           distinct = λ h. h;
           waits_mine = λ _ w all h. all w h;
+          links_mine = λ _ _ w all h. all w h;
           waits_others = λ _ _ _ _ h. h;
           lefts = λ _ _ h. h;
           notes = λ _ _ h. h;
@@ -116,6 +125,7 @@ module _ (S : Type 0) (IsIn : Content → S → Type 0) (plan : Plan) where
           stirred = t.stirred;
           distinct = t.distinct d.waits;
           waits_mine = λ slot_of w all h. t.waits_mine slot_of d.waits w all h;
+          links_mine = λ sizes words w all h. links_rotated e d.known.found sizes words d.waits w all h;
           waits_others = t.waits_others;
           lefts = t.lefts;
           notes = t.notes;

@@ -14,7 +14,7 @@ use Rattle.sdd_homes.specs.Book.{Content}
 use Rattle.sdd_homes.specs.Hands.{items_of}
 use Rattle.sdd_homes.specs.Reasons.{Loads, Why}
 use Rattle.sdd_homes.proofs.HandLemmas.{owned_set, owned_end}
-use Rattle.domain_table.specs.Items.{owners_in_hand, Grip, Owns, IsWaiting, Private, Carries}
+use Rattle.domain_table.specs.Items.{owners_in_hand, Grip, Owns, IsWaiting, Private, IsLinked, Links, Carries}
 use Rattle.domain_table.specs.Rule.{Acts, Shows}
 use Rattle.domain_table.specs.Views.{spent, holding}
 use Rattle.domain_table.specs.declared.board.Acting.{Acting}
@@ -29,14 +29,16 @@ module _ (S : Type 0) (IsIn : Content → S → Type 0) (plan : Plan) where
     pub rehanded : Seated r.items views' → ((q : ℕ) (l : Lease) → Has (r.book.out q) l → Why r.state (Grip s.views) q l.item → Why r.state (Grip views') q l.item)
         → ((j : ℕ) (e : Acting) (w : Garbage) → At views' j e → e.kind ≡ 1 → Has e.waits w → IsWaiting r.state.items r.book.slot_of e.number w)
         → Private r.state.items r.book.slot_of views'
+        → Links plan.sizes s.words r.book.left views'
         → ((j : ℕ) (e : Acting) → get_elem? views' j ≡ some e → e.kind ≡ 1 → Acts r.state.participants r.state.count r.born s.words r.epochs.seat_of r.epochs.scanner j e) → Shows IsIn plan record { words = s.words; homes = s.homes; views = views' }
-    rehanded seated why waiting private acts = let o = r.epochs in record {
+    rehanded seated why waiting private links acts = let o = r.epochs in record {
       state = r.state;
       run = r.run;
       kept = r.kept;
       book = r.book;
-      items = items.stays r.items r.state s.words views' refl (stirred_none r.state.items) why (record { long = refl; high = λ _ _. refl; freed = λ _ _ _. inl refl }) seated waiting r.items.leftovers private;
+      items = items.stays r.items r.state s.words views' refl (stirred_none r.state.items) why (record { long = refl; high = λ _ _. refl; freed = λ _ _ _. inl refl }) seated waiting r.items.leftovers private links;
       born = r.born;
+      lefts = r.lefts;
       bounded = r.bounded;
       epochs = record { seat_of = o.seat_of; scanner = o.scanner; wide = o.wide; many = o.many; count_is = o.count_is; states = o.states; free = o.free; seats = acts };
     }
@@ -60,6 +62,14 @@ module _ (S : Type 0) (IsIn : Content → S → Type 0) (plan : Plan) where
       (λ (t : right ≡ e). absurd (subst (λ (z : Acting). Has z.waits w) (sym t) has)) (at_snoc (set s.views id left) right e j at_j))
       (private_on r.items.private (λ _ h. h) (λ j e at_j. ⊎_elim (λ (h : get_elem? (set s.views id left) j ≡ some e). set_all (λ j' e'. Keeps s.views j' e') s.views id left (inr (d, at, refl)) (λ j' e' _ here. inr (e', here, refl)) j e h)
       (λ (t : right ≡ e). inl (ap (λ (z : Acting). z.collected) (sym t))) (at_snoc (set s.views id left) right e j at_j)))
+      (items.links_all r.items s.words r.book.left views' (λ _. refl)
+      (λ j e w at_j k has. ⊎_elim
+      (λ (h : get_elem? (set s.views id left) j ≡ some e). set_all (λ _ e'. e'.kind ≡ 1 → Has e'.waits w → IsLinked plan.sizes s.words w) s.views id left (λ _ t. r.items.links.waits id d w at kind t) (λ j' e' _ here k' t. r.items.links.waits j' e' w here k' t) j e h k has)
+      (λ (t : right ≡ e). absurd (subst (λ (z : Acting). Has z.waits w) (sym t) has)) (at_snoc (set s.views id left) right e j at_j))
+      (λ j e w at_j has. ⊎_elim
+      (λ (h : get_elem? (set s.views id left) j ≡ some e). set_all (λ _ (e' : Acting). Has e'.collected w → IsLinked plan.sizes s.words w) s.views id left (λ t. r.items.links.notes id d w at t) (λ j' e' _ here t. r.items.links.notes j' e' w here t) j e h has)
+      (λ (t : right ≡ e). absurd (subst (λ (z : Acting). Has z.collected w) (sym t) has)) (at_snoc (set s.views id left) right e j at_j))
+      r.items.links.lefts)
       (λ j e at_j k. ⊎_elim
       (λ (h : get_elem? (set s.views id left) j ≡ some e). set_all (λ j' e'. e'.kind ≡ 1 → Acts r.state.participants r.state.count r.born s.words r.epochs.seat_of r.epochs.scanner j' e') s.views id left
       (λ _. record { is = a.is; seated = a.seated; claimed = a.claimed; locked = a.locked; present = a.present; begun = a.begun; still = a.still }) (λ j' e' _ here k'. r.epochs.seats j' e' here k') j e h k)
@@ -80,5 +90,9 @@ module _ (S : Type 0) (IsIn : Content → S → Type 0) (plan : Plan) where
       (λ (g : Grip s.views q l.item). let h = items.grip_set s.views id d both at (λ _ _ y. (y.0, y.1, y.2, inr y.3)) q l.item g in inr (items.grip_set mid other w spent there (λ _ _ y. let z = y.0 in absurd (omega arith)) q l.item h)))
       (λ j e v at_j k has. each (λ _ e'. e'.kind ≡ 1 → Has e'.waits v → IsWaiting r.state.items r.book.slot_of e'.number v) (λ _ t. r.items.waiting id d v at kind t) (λ _ t. absurd t) (λ j' e' here k' t. r.items.waiting j' e' v here k' t) j e at_j k has)
       (private_on r.items.private (λ _ h. h) (each (λ j e. Keeps s.views j e) (inr (d, at, refl)) (inl refl) (λ j e here. inr (e, here, refl))))
+      (items.links_all r.items s.words r.book.left views' (λ _. refl)
+      (λ j e v at_j k has. each (λ _ e'. e'.kind ≡ 1 → Has e'.waits v → IsLinked plan.sizes s.words v) (λ _ t. r.items.links.waits id d v at kind t) (λ _ t. absurd t) (λ j' e' here k' t. r.items.links.waits j' e' v here k' t) j e at_j k has)
+      (λ j e v at_j has. each (λ _ (e' : Acting). Has e'.collected v → IsLinked plan.sizes s.words v) (λ t. r.items.links.notes id d v at t) (λ t. absurd t) (λ j' e' here t. r.items.links.notes j' e' v here t) j e at_j has)
+      r.items.links.lefts)
       (λ j e at_j k. each (λ j' e'. e'.kind ≡ 1 → Acts r.state.participants r.state.count r.born s.words r.epochs.seat_of r.epochs.scanner j' e')
       (λ _. record { is = a.is; seated = a.seated; claimed = a.claimed; locked = a.locked; present = a.present; begun = a.begun; still = a.still }) (λ z. absurd (omega arith)) (λ j' e' here k'. r.epochs.seats j' e' here k') j e at_j k)

@@ -38,7 +38,7 @@ use Rattle.sdd_homes.proofs.OwnerLemmas.{alike_placed}
 use Rattle.sdd_homes.proofs.SpareLemmas.{Was, stays_kept}
 use Rattle.sdd_homes.proofs.PartLemmas as parts
 use Rattle.sdd_homes.proofs.Fillings as fillings
-use Rattle.domain_table.specs.Layout.{cell_word, slot_word, claim_word, packed, all_homes, all_extras}
+use Rattle.domain_table.specs.Layout.{cell_word, slot_word, link_word, claim_word, packed, all_homes, all_spares}
 use Rattle.domain_table.specs.Items.{owners_in_hand, code, Grip, Owns, HasState, IsWaiting, Carries, Items, IsGiven}
 use Rattle.domain_table.specs.Rule.{Runs, Shows}
 use Rattle.domain_table.specs.Plays.{placing, CanPlace, place_then}
@@ -47,8 +47,9 @@ use Rattle.domain_table.specs.declared.board.Plan.{Plan}
 use Rattle.domain_table.proofs.Taken as taken
 use Rattle.domain_table.proofs.Taken.{and_true}
 use Rattle.domain_table.proofs.Privates.{private_set}
+use Rattle.domain_table.proofs.LeftWords.{lefts_behind}
 use Rattle.domain_table.proofs.Moves.{items_change, slot_written}
-use Rattle.domain_table.proofs.Stirred.{rests_on, still_left, grip_set}
+use Rattle.domain_table.proofs.Stirred.{rests_on, still_left, grip_set, links_at}
 
 at_last : {A : Type 0} (l : List A) (a : A) → At (l ++ a ∷ []) (length l) a
 at_last [] a = refl
@@ -169,7 +170,7 @@ module _ (S : Type 0) (IsIn : Content → S → Type 0) (plan : Plan) where
     spares_now : Spares plan.sizes.cells n (names_of r.state.cells) core.items book'
     spares_now = let y = stays_kept r.items.spares core.items was in record { users = y.users; range = y.range; kept = y.kept }
 
-    lies : Lying IsIn (all_homes plan.sizes) (all_extras plan.sizes) what' r.book.extra homes'
+    lies : Lying IsIn (all_homes plan.sizes) (all_spares plan.sizes) what' r.book.extra homes'
     lies = gives_low r.items.lying (home plan.sizes.slots k n) (deed f.round d.hand) u (home_in n plan.sizes.slots k n has.0 (omega arith)) is_in
 
     stands : (i : ℕ) (w : Item) → At core.items i w → ((q : ℕ) → w.state ≢ Reclaimed q) → (slot_of' i < plan.sizes.slots) × (stage' (slot_of' i) ≡ full i)
@@ -252,11 +253,12 @@ module _ (S : Type 0) (IsIn : Content → S → Type 0) (plan : Plan) where
       waiting = waits_now;
       leftovers = still_left r.items.leftovers (waits_on Waiting);
       private = private_set r.items.private (λ w h. waits_on (Collected w.age) w h) id d d' at refl;
+      links = links_at r.items words' r.book.left id d' (λ m. get_or-set_other s.words word (link_word plan.sizes m) 3 0 (λ z. let low = has.0 in omega arith)) (λ w _ h. r.items.links.waits id d w at kind h) (λ w h. r.items.links.notes id d w at h) r.items.links.lefts;
       seats = seats_now;
     }
 
     pub shown_place : Shows IsIn plan record { words = words'; homes = homes'; views = views' }
-    shown_place = items_change S IsIn plan s r id d d' core words' homes' book' at kind refl refl refl refl runs refl refl (slot_written S IsIn plan s r id d d' k 3 at kind refl has.0) items_now
+    shown_place = items_change S IsIn plan s r id d d' core words' homes' book' at kind refl refl refl refl runs refl refl (slot_written S IsIn plan s r id d d' k 3 at kind refl has.0) (lefts_behind r.lefts word 3 (omega arith)) items_now
 
   pub places_item : (slots id : ℕ) (me : Me S Acting) (f : Filling) (tail : List (ℕ × S)) → me.0.kind ≡ 1 → is_ready me.0.known ≡ true → me.0.releasing ≡ 0 → me.0.sizes ≡ plan.sizes → CanPlace IsIn me f tail
       → Allows (Shows IsIn plan) slots id me (slot_word plan.sizes me.0.slot) (λ _. 3) (place_then IsIn (step slots (slot_word plan.sizes me.0.slot) 3 0 none) me)

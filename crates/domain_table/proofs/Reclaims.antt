@@ -47,7 +47,7 @@ use Rattle.domain_table.proofs.Taken as taken
 use Rattle.domain_table.proofs.Taken.{and_true}
 use Rattle.domain_table.proofs.Looks.{has_last, has_more}
 use Rattle.domain_table.proofs.Moves.{items_change, reads_only}
-use Rattle.domain_table.proofs.Stirred.{still_left, grip_set}
+use Rattle.domain_table.proofs.Stirred.{still_left, grip_set, links_at}
 use Rattle.domain_table.proofs.Privates.{private_new}
 use Rattle.domain_table.proofs.GiveUps.{given_up, given_here, given_else, given_back, gives_up}
 
@@ -316,12 +316,13 @@ module _ (S : Type 0) (IsIn : Content → S → Type 0) (plan : Plan) where
       waiting = waits_now;
       leftovers = still_left r.items.leftovers (λ v h. waits_else Waiting v (left_apart v h) h);
       private = private_now;
+      links = links_at r.items s.words r.book.left id d' (λ _. refl) (λ v _ h. r.items.links.waits id d v at kind (t.waits v h).0) (λ v h. r.items.links.notes id d v at (t.collected v h).0) r.items.links.lefts;
       seats = seats_now;
     }
 
     pub shown_open : (m : ℕ) → Shows IsIn plan record { words = set s.words m (get_or s.words m 0); homes = homes'; views = views' }
     shown_open m = subst (λ xs. Shows IsIn plan record { words = xs; homes = homes'; views = views' }) (sym (set-get_or s.words m 0))
-        (items_change S IsIn plan s r id d d' core s.words homes' book' at kind refl refl refl refl runs refl refl (reads_only S IsIn plan s r id d d' at kind refl) items_now)
+        (items_change S IsIn plan s r id d d' core s.words homes' book' at kind refl refl refl refl runs refl refl (reads_only S IsIn plan s r id d d' at kind refl) r.lefts items_now)
 
   -- an item in another state is another item
   unlike : (s : State S Acting) (r : Shows IsIn plan s) (w v : Garbage) (st st' : ItemState) → HasState r.state.items r.book.slot_of st w → HasState r.state.items r.book.slot_of st' v → st' ≢ st → v.item ≢ w.item

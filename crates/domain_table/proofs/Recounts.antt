@@ -24,14 +24,15 @@ use Rattle.sdd_homes.specs.Reasons.{Why}
 use Rattle.sdd_homes.specs.Lying.{Lying}
 use Rattle.sdd_homes.proofs.SpareLemmas.{Was, stays_kept}
 use Rattle.sdd_homes.proofs.HandLemmas.{owned_set}
-use Rattle.domain_table.specs.Layout.{cell_word, slot_word, claim_word, all_homes, all_extras}
+use Rattle.domain_table.specs.Layout.{cell_word, slot_word, link_word, claim_word, all_homes, all_spares}
 use Rattle.domain_table.specs.Items.{owners_in_hand, Grip, Owns, HasState, IsWaiting, IsNoted, Private, Carries, Items, Distinct, IsGiven}
 use Rattle.domain_table.specs.Rule.{Runs, Shows}
 use Rattle.domain_table.specs.declared.board.Acting.{Acting}
 use Rattle.domain_table.specs.declared.board.Plan.{Plan}
 use Rattle.domain_table.proofs.Privates.{private_new}
+use Rattle.domain_table.proofs.LeftWords.{lefts_behind}
 use Rattle.domain_table.proofs.Moves.{items_change, slot_written}
-use Rattle.domain_table.proofs.Stirred.{rests_on, still_left, waits_set}
+use Rattle.domain_table.proofs.Stirred.{rests_on, still_left, waits_set, links_at}
 
 module _ (S : Type 0) (IsIn : Content → S → Type 0) (plan : Plan) (s : State S Acting) (r : Shows IsIn plan s) (id k i : ℕ) (d : Acting) (it it' : Item) (at : get_elem? s.views id ≡ some d) (kind : d.kind ≡ 1)
     (inside : k < plan.sizes.slots) (is : r.book.stage k ≡ full i) (here : At r.state.items i it) (leases' : List Lease) (hand' : List Owner) (releasing' : ℕ) (waits' collected' : List Garbage) (share' : ℕ → ℕ → ℕ) (out' : ℕ → List Lease) (what' : ℕ → Content) (homes' : List (maybe.Option S)) where
@@ -56,7 +57,7 @@ module _ (S : Type 0) (IsIn : Content → S → Type 0) (plan : Plan) (s : State
   -- parts are counted with the item as it is after the step, and so are owners in hand
   pub record Recounts : Type 0 where
     pub parts : Parts plan.sizes.participants plan.sizes.slots core.items (Why core (Grip views')) book'
-    pub lying : Lying IsIn (all_homes plan.sizes) (all_extras plan.sizes) what' r.book.extra homes'
+    pub lying : Lying IsIn (all_homes plan.sizes) (all_spares plan.sizes) what' r.book.extra homes'
     pub mine : out' d.number ≡ leases'
     pub others : (q : ℕ) → q ≢ d.number → out' q ≡ r.book.out q
     pub value : it'.value ≡ it.value
@@ -69,6 +70,8 @@ module _ (S : Type 0) (IsIn : Content → S → Type 0) (plan : Plan) (s : State
     pub distinct : Distinct waits'
     pub waits : (w : Garbage) → Has waits' w → IsWaiting core.items r.book.slot_of d.number w
     pub once : Distinct collected'
+    pub old_waits : (w : Garbage) → Has waits' w → Has d.waits w ⊎ (w.next ≡ 0)
+    pub old_notes : (w : Garbage) → Has collected' w → Has d.collected w ⊎ (w.next ≡ 0)
     pub noted : (w : Garbage) → Has collected' w → Has d.collected w ⊎ ((w.item ≡ i) × IsNoted core.items r.book.slot_of w)
 
   -- the item has an owner, so nobody has retired it
@@ -149,15 +152,18 @@ module _ (S : Type 0) (IsIn : Content → S → Type 0) (plan : Plan) (s : State
       vacancies = vacancies_now;
       alone = r.items.alone;
       free = λ p low some_. let same = get_or-set_other s.words word (claim_word p) (2 + it'.owners) 0 (λ z. omega arith) in let t = rests_on r.items words' p low same some_ in
-          (c.others p (λ e. some_ (same ∙ (ap (λ z. get_or s.words (claim_word z) 0) e ∙ a.claimed))) ∙ t.0, t.1, t.2, t.3);
+          (c.others p (λ e. some_ (same ∙ (ap (λ z. get_or s.words (claim_word z) 0) e ∙ a.claimed))) ∙ t.0, t.1, t.2);
       hands = hands_now;
       owners = λ j e o at_j has. set_all (λ _ e'. Has e'.hand o → Owns core.items r.book.slot_of o) s.views id d' (λ h. owns_on o (c.owns o h)) (λ j' e' _ e_at h. owns_on o (r.items.owners j' e' o e_at h)) j e at_j has;
       given = given_now;
       waiting = waits_set r.items core.items id d' (λ w _ h. c.waits w h) (λ j e w _ e_at k' h. waits_else c.alive e.number w (r.items.waiting j e w e_at k' h));
       leftovers = still_left r.items.leftovers (λ w h. state_else c.alive Waiting w (λ e. absurd (cc)) h);
       private = private_now;
+      links = links_at r.items words' r.book.left id d' (λ m. get_or-set_other s.words word (link_word plan.sizes m) (2 + it'.owners) 0 (λ z. omega arith))
+          (λ w _ h. ⊎_elim (λ (t : Has d.waits w). r.items.links.waits id d w at kind t) (λ (none : w.next ≡ 0). λ some_. absurd (some_ none)) (c.old_waits w h))
+          (λ w h. ⊎_elim (λ (t : Has d.collected w). r.items.links.notes id d w at t) (λ (none : w.next ≡ 0). λ some_. absurd (some_ none)) (c.old_notes w h)) r.items.links.lefts;
       seats = seats_now;
     }
 
     pub recounted_shown : Runs r.state core → Shows IsIn plan record { words = words'; homes = homes'; views = views' }
-    recounted_shown runs = items_change S IsIn plan s r id d d' core words' homes' book' at kind refl refl refl refl runs refl refl (slot_written S IsIn plan s r id d d' k (2 + it'.owners) at kind refl inside) items_now
+    recounted_shown runs = items_change S IsIn plan s r id d d' core words' homes' book' at kind refl refl refl refl runs refl refl (slot_written S IsIn plan s r id d d' k (2 + it'.owners) at kind refl inside) (lefts_behind r.lefts word (2 + it'.owners) (omega arith)) items_now

@@ -5,7 +5,7 @@ use mathlib.Core.Option as maybe
 use mathlib.Core.Option.{some, none}
 use native.Mathlib.Decide.{ℕ_discrete}
 use lib.ListN.{get_elem?}
-use Rattle.atomic_table.specs.Table.{State, Me, step, keeps, takes, chain, Allows}
+use Rattle.atomic_table.specs.Table.{State, Me, step, keeps, takes, Allows}
 use Rattle.domain_table.specs.declared.board.Plan.{Plan}
 use Rattle.sdd_steps.specs.State.{At}
 use Rattle.sdd_steps.proofs.ListLemmas.{put, put_here, put_else, set_all, set_else, find_at}
@@ -13,18 +13,19 @@ use Rattle.sdd_homes.specs.Reasons.{Loads}
 use Rattle.domain_table.specs.Views.{registered}
 use Rattle.domain_table.specs.Items.{Grip, Rests, Items}
 use Rattle.domain_table.proofs.Stirred.{stirred_none, grip_set, seated}
+use Rattle.domain_table.proofs.LeftWords.{lefts_else}
 use Rattle.domain_table.proofs.Stirred as items
 use Rattle.domain_table.proofs.Privates.{Keeps, private_on}
-use Rattle.sdd_homes.specs.Book.{Content, away, blank, bag, Book}
+use Rattle.sdd_homes.specs.Book.{Content, away, blank, Book}
 use Rattle.sdd_homes.proofs.LyingLemmas.{takes_high}
-use Rattle.domain_table.specs.Layout.{state_word, claim_word, epoch_words, all_homes, all_extras, bag_place}
+use Rattle.domain_table.specs.Layout.{state_word, claim_word, epoch_words, all_homes, all_spares}
 use Rattle.domain_table.specs.Rule.{Acts, Shows}
 use Rattle.domain_table.specs.Plays.{claim_then}
 use Rattle.domain_table.specs.declared.board.Acting.{Acting}
 use Rattle.domain_table.proofs.Moves.{idles}
 
 module _ (S : Type 0) (IsIn : Content → S → Type 0) (plan : Plan) where
-  -- a free participant is claimed by a seat that acts for nobody, and its bag and its spare slot come out
+  -- a free participant is claimed by a seat that acts for nobody, and its spare slot comes out
   module _ (s : State S Acting) (r : Shows IsIn plan s) (id q : ℕ) (d : Acting) (at : get_elem? s.views id ≡ some d) (bare : d.hand ≡ []) (kind : d.kind ≡ 0) (small : q < plan.sizes.participants) (unclaimed : get_or s.words (claim_word q) 0 ≢ 0) where
     abbrev i : ℕ
     i = claim_word q
@@ -38,29 +39,17 @@ module _ (S : Type 0) (IsIn : Content → S → Type 0) (plan : Plan) where
     rests : Rests plan.sizes r.book s.words q
     rests = r.items.free q small unclaimed
 
-    abbrev b : ℕ
-    b = bag_place plan.sizes q
-
     low : y < plan.sizes.cells + plan.sizes.participants
     low = r.items.spares.range v (omega arith)
 
-    range : y < all_extras plan.sizes
+    range : y < all_spares plan.sizes
     range = let l = low in omega arith
 
-    bag_range : b < all_extras plan.sizes
-    bag_range = omega arith
-
-    abbrev homes1 : List (maybe.Option S)
-    homes1 = set s.homes (all_homes plan.sizes + b) none
-
-    pub found_bag : (u : S) × (get_elem? s.homes (all_homes plan.sizes + b) ≡ some (some u)) × IsIn (bag plan.sizes.slots (r.book.left q)) u
-    found_bag = let f = r.items.lying.high b bag_range (λ e. let bad : bag plan.sizes.slots (r.book.left q) ≡ away = sym rests.3 ∙ e in absurd (cc)) in (f.0, f.1, subst (λ z. IsIn z f.0) rests.3 f.2)
-
-    pub found : (u : S) × (get_elem? homes1 (all_homes plan.sizes + y) ≡ some (some u)) × IsIn blank u
-    found = let f = r.items.lying.high y range (λ e. let bad : blank ≡ away = sym rests.2 ∙ e in absurd (cc)) in let l = low in (f.0, set_else s.homes (all_homes plan.sizes + b) (all_homes plan.sizes + y) none (λ e. omega arith) ∙ f.1, subst (λ z. IsIn z f.0) rests.2 f.2)
+    pub found : (u : S) × (get_elem? s.homes (all_homes plan.sizes + y) ≡ some (some u)) × IsIn blank u
+    found = let f = r.items.lying.high y range (λ e. let bad : blank ≡ away = sym rests.2 ∙ e in absurd (cc)) in (f.0, f.1, subst (λ z. IsIn z f.0) rests.2 f.2)
 
     abbrev d' : Acting
-    d' = registered plan.sizes y (r.book.left q) q
+    d' = registered plan.sizes y q
 
     abbrev words' : List ℕ
     words' = set s.words i 0
@@ -69,10 +58,10 @@ module _ (S : Type 0) (IsIn : Content → S → Type 0) (plan : Plan) where
     views' = set s.views id d'
 
     abbrev homes' : List (maybe.Option S)
-    homes' = set homes1 (all_homes plan.sizes + y) none
+    homes' = set s.homes (all_homes plan.sizes + y) none
 
     abbrev book' : Book
-    book' = record r.book { extra = put (put r.book.extra b away) y away }
+    book' = record r.book { extra = put r.book.extra y away }
 
     now : get_or words' i 0 ≡ 0
     now = let wide = r.epochs.wide in get_or-set_same s.words i 0 0 (omega arith)
@@ -92,14 +81,12 @@ module _ (S : Type 0) (IsIn : Content → S → Type 0) (plan : Plan) where
           high = λ j le. get_or-set_other s.words i j 0 0 (λ e. omega arith);
           freed = λ p _ some_. inl (else_same p (another p some_));
         })
-        (seated r.items id d d' at (sym bare) (λ _. record { sizes_are = refl; leases = rests.0; spare = refl; fills = λ f e. absurd (cc); distinct = tt; left = refl })) (items.waits_stay r.items id d' (λ w _ has. absurd has)) r.items.leftovers
+        (seated r.items id d d' at (sym bare) (λ _. record { sizes_are = refl; leases = rests.0; spare = refl; fills = λ f e. absurd (cc); distinct = tt; left = λ e. absurd (omega arith) })) (items.waits_stay r.items id d' (λ w _ has. absurd has)) r.items.leftovers
         (private_on r.items.private (λ _ h. h) (set_all (λ j e. Keeps s.views j e) s.views id d' (inl refl) (λ j e _ here. inr (e, here, refl))))
-
-    unbagged : Items IsIn plan.sizes r.state (record r.book { extra = put r.book.extra b away }) words' homes1 views'
-    unbagged = items.rebagged seated_now q away homes1 now (takes_high r.items.lying b bag_range)
+        (items.links_set r.items words' r.book.left id d' (λ j le. get_or-set_other s.words i j 0 0 (λ e. omega arith)) (λ w _ has. absurd has) (λ w has. absurd has) r.items.links.lefts)
 
     items_now : Items IsIn plan.sizes r.state book' words' homes' views'
-    items_now = items.respared unbagged q away homes' small now (takes_high unbagged.lying y range)
+    items_now = items.respared seated_now q away homes' small now (takes_high r.items.lying y range)
 
     acts_now : (j : ℕ) (z : Acting) → At views' j z → z.kind ≡ 1 → Acts r.state.participants r.state.count r.born words' (put r.epochs.seat_of q id) r.epochs.scanner j z
     acts_now j z at_j k = let o = r.epochs in let wide = o.wide in let many = o.many in let x = find_at r.state.participants q (omega arith) in
@@ -132,6 +119,7 @@ module _ (S : Type 0) (IsIn : Content → S → Type 0) (plan : Plan) where
       items = items_now;
       born = r.born;
       bounded = r.bounded;
+      lefts = lefts_else r.lefts i 0 (λ p low_p e. omega arith);
       epochs = record {
         seat_of = put o.seat_of q id;
         scanner = o.scanner;
@@ -148,14 +136,13 @@ module _ (S : Type 0) (IsIn : Content → S → Type 0) (plan : Plan) where
       → Allows (Shows IsIn plan) slots id me (claim_word q) (λ _. 0) (claim_then IsIn (step slots (claim_word q) 0 0 none) me)
   claims slots id me q kind bare small few s r _ at _ = let d = me.0 in let i : ℕ = claim_word q in let k : ℕ = get_or s.words i 0 in dite (ℕ_discrete k 0)
       (λ taken. (d, keeps, tt, subst (λ z. Shows IsIn plan record { words = set s.words i z; homes = s.homes; views = set s.views id d }) taken (idles S IsIn plan s r i id d at), λ _ _. ((λ _. refl), λ y e. absurd (omega arith))))
-      (λ unclaimed. let f = found s r id q d at bare kind small unclaimed in let g = found_bag s r id q d at bare kind small unclaimed in let ws = r.book.left q in let y' : ℕ = r.book.spare (plan.sizes.cells + q) in let told = r.items.free q small unclaimed in let low = r.items.spares.range (plan.sizes.cells + q) (omega arith) in (
-        registered plan.sizes y' ws q,
-        chain (takes (all_homes plan.sizes + bag_place plan.sizes q) g.0) (takes (all_homes plan.sizes + y') f.0),
-        (g.1, f.1),
+      (λ unclaimed. let f = found s r id q d at bare kind small unclaimed in let y' : ℕ = r.book.spare (plan.sizes.cells + q) in let told = r.items.free q small unclaimed in let low = r.items.spares.range (plan.sizes.cells + q) (omega arith) in (
+        registered plan.sizes y' q,
+        takes (all_homes plan.sizes + y') f.0,
+        f.1,
         shown_claim s r id q d at bare kind small unclaimed,
         λ q' iq. (
           (λ e. absurd (unclaimed e)),
-          λ y e. let same : q ≡ q' = omega arith in let spare : y' ≡ y = (let t = told.1 in omega arith) in
-              (omega arith, (plan.sizes, ws, (λ j. registered plan.sizes (spare j) ws (same j)), (g.0, g.2, (f.0, f.2, refl)))),
+          λ y e. let same : q ≡ q' = omega arith in let spare : y' ≡ y = (let t = told.1 in omega arith) in (omega arith, (plan.sizes, (λ j. registered plan.sizes (spare j) (same j)), (f.0, f.2, refl))),
         ),
       ))

@@ -91,29 +91,44 @@ module _ (items : List Item) (slot_of : ℕ → ℕ) (p : ℕ) (l : Lease) (it :
   retires_as : (to : Option ℕ) (ws : List Garbage) (w : Garbage) → Has (retiring to (2 + it.owners) l ws) w → (IsWaiting (set items l.item (lowered p to it)) slot_of p w) ⊎ Has ws w
   retires_as None ws w h = dite (ℕ_discrete (it.owners - 1) 0)
       (λ last. ⊎_elim
-      (λ (e : record { item = l.item; slot = l.slot; round = l.round; age = 0 } ≡ w). inl (subst (IsWaiting (set items l.item (lowered p None it)) slot_of p) e
+      (λ (e : record { item = l.item; slot = l.slot; round = l.round; age = 0; next = 0 } ≡ w). inl (subst (IsWaiting (set items l.item (lowered p None it)) slot_of p) e
       (lowered p None it, set_here items l.item (lowered p None it) it here, ap (λ b. cond b (Retired p 0) it.state) (eq-eqb (it.owners - 1) 0 last), round, slot)))
-      (λ (t : Has ws w). inr t) (subst (λ b. Has (cond b (record { item = l.item; slot = l.slot; round = l.round; age = 0 } ∷ ws) ws) w) (eq-eqb (2 + it.owners) 3 (omega arith)) h))
-      (λ more. inr (subst (λ b. Has (cond b (record { item = l.item; slot = l.slot; round = l.round; age = 0 } ∷ ws) ws) w) (ne_eqb (2 + it.owners) 3 (λ e. more (omega arith))) h))
+      (λ (t : Has ws w). inr t) (subst (λ b. Has (cond b (record { item = l.item; slot = l.slot; round = l.round; age = 0; next = 0 } ∷ ws) ws) w) (eq-eqb (2 + it.owners) 3 (omega arith)) h))
+      (λ more. inr (subst (λ b. Has (cond b (record { item = l.item; slot = l.slot; round = l.round; age = 0; next = 0 } ∷ ws) ws) w) (ne_eqb (2 + it.owners) 3 (λ e. more (omega arith))) h))
   retires_as (Some note) ws w h = inr h
 
   collects_as : (to : Option ℕ) (ws : List Garbage) (w : Garbage) → Has (collecting to (2 + it.owners) l ws) w → Has ws w ⊎ ((w.item ≡ l.item) × IsNoted (set items l.item (lowered p to it)) slot_of w)
   collects_as None ws w h = inl h
   collects_as (Some note) ws w h = dite (ℕ_discrete (it.owners - 1) 0)
       (λ last. ⊎_elim
-      (λ (e : record { item = l.item; slot = l.slot; round = l.round; age = note } ≡ w). inr (subst (λ (v : Garbage). (v.item ≡ l.item) × IsNoted (set items l.item (lowered p (Some note) it)) slot_of v) e
+      (λ (e : record { item = l.item; slot = l.slot; round = l.round; age = note; next = 0 } ≡ w). inr (subst (λ (v : Garbage). (v.item ≡ l.item) × IsNoted (set items l.item (lowered p (Some note) it)) slot_of v) e
       (refl, (lowered p (Some note) it, set_here items l.item (lowered p (Some note) it) it here, ap (λ b. cond b (Collected note) it.state) (eq-eqb (it.owners - 1) 0 last), round, slot))))
-      (λ (t : Has ws w). inl t) (subst (λ b. Has (cond b (record { item = l.item; slot = l.slot; round = l.round; age = note } ∷ ws) ws) w) (eq-eqb (2 + it.owners) 3 (omega arith)) h))
-      (λ more. inl (subst (λ b. Has (cond b (record { item = l.item; slot = l.slot; round = l.round; age = note } ∷ ws) ws) w) (ne_eqb (2 + it.owners) 3 (λ e. more (omega arith))) h))
+      (λ (t : Has ws w). inl t) (subst (λ b. Has (cond b (record { item = l.item; slot = l.slot; round = l.round; age = note; next = 0 } ∷ ws) ws) w) (eq-eqb (2 + it.owners) 3 (omega arith)) h))
+      (λ more. inl (subst (λ b. Has (cond b (record { item = l.item; slot = l.slot; round = l.round; age = note; next = 0 } ∷ ws) ws) w) (ne_eqb (2 + it.owners) 3 (λ e. more (omega arith))) h))
+
+-- what comes into a bag isn't linked yet
+pub new_waits : (to : Option ℕ) (n : ℕ) (l : Lease) (ws : List Garbage) (w : Garbage) → Has (retiring to n l ws) w → Has ws w ⊎ (w.next ≡ 0)
+new_waits None n l ws w = elim (n == 3) as (λ b. Has (cond b (record { item = l.item; slot = l.slot; round = l.round; age = 0; next = 0 } ∷ ws) ws) w → Has ws w ⊎ (w.next ≡ 0)) [
+  | true ↦ λ h. ⊎_elim (λ (e : record { item = l.item; slot = l.slot; round = l.round; age = 0; next = 0 } ≡ w). inr (ap (λ (v : Garbage). v.next) (sym e))) (λ (t : Has ws w). inl t) h
+  | false ↦ λ h. inl h
+]
+new_waits (Some note) n l ws w = λ h. inl h
+
+pub new_notes : (to : Option ℕ) (n : ℕ) (l : Lease) (ws : List Garbage) (w : Garbage) → Has (collecting to n l ws) w → Has ws w ⊎ (w.next ≡ 0)
+new_notes None n l ws w = λ h. inl h
+new_notes (Some note) n l ws w = elim (n == 3) as (λ b. Has (cond b (record { item = l.item; slot = l.slot; round = l.round; age = note; next = 0 } ∷ ws) ws) w → Has ws w ⊎ (w.next ≡ 0)) [
+  | true ↦ λ h. ⊎_elim (λ (e : record { item = l.item; slot = l.slot; round = l.round; age = note; next = 0 } ≡ w). inr (ap (λ (v : Garbage). v.next) (sym e))) (λ (t : Has ws w). inl t) h
+  | false ↦ λ h. inl h
+]
 
 -- where none of a bag is of the item, none is twice in it
 distinct_waits : (to : Option ℕ) (n : ℕ) (l : Lease) (ws : List Garbage) → ((v : Garbage) → Has ws v → v.item ≢ l.item) → Distinct ws → Distinct (retiring to n l ws)
-distinct_waits None n l ws apart h = (elim (n == 3) as (λ b. Distinct (cond b (record { item = l.item; slot = l.slot; round = l.round; age = 0 } ∷ ws) ws)) [ true ↦ (apart, h) | false ↦ h ])
+distinct_waits None n l ws apart h = (elim (n == 3) as (λ b. Distinct (cond b (record { item = l.item; slot = l.slot; round = l.round; age = 0; next = 0 } ∷ ws) ws)) [ true ↦ (apart, h) | false ↦ h ])
 distinct_waits (Some note) n l ws apart h = h
 
 distinct_noted : (to : Option ℕ) (n : ℕ) (l : Lease) (ws : List Garbage) → ((v : Garbage) → Has ws v → v.item ≢ l.item) → Distinct ws → Distinct (collecting to n l ws)
 distinct_noted None n l ws apart h = h
-distinct_noted (Some note) n l ws apart h = (elim (n == 3) as (λ b. Distinct (cond b (record { item = l.item; slot = l.slot; round = l.round; age = note } ∷ ws) ws)) [ true ↦ (apart, h) | false ↦ h ])
+distinct_noted (Some note) n l ws apart h = (elim (n == 3) as (λ b. Distinct (cond b (record { item = l.item; slot = l.slot; round = l.round; age = note; next = 0 } ∷ ws) ws)) [ true ↦ (apart, h) | false ↦ h ])
 
 pub less_one : (w : ℕ) → 0 < w → w < 18446744073709551616 → (w + (18446744073709551616 - 1)) % 18446744073709551616 ≡ w - 1
 less_one w more fits = omega arith
@@ -228,6 +243,8 @@ module _ (S : Type 0) (IsIn : Content → S → Type 0) (plan : Plan) where
         waits = retires_now;
         once = once_now;
         noted = collects;
+        old_waits = λ w h. new_waits to (2 + it.owners) l d.waits w h;
+        old_notes = λ w h. new_notes to (2 + it.owners) l d.collected w h;
         owns = λ w h. r.items.owners id d w at (subst (λ (ls : List Owner). Has ls w) (sym first) (inr h));
       }
 

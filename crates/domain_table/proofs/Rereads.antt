@@ -56,6 +56,7 @@ module _ (S : Type 0) (IsIn : Content → S → Type 0) (plan : Plan) where
           same = refl;
           distinct = λ h. h;
           waits_mine = λ _ w all h. all w h;
+          links_mine = λ _ _ w all h. all w h;
           waits_others = λ _ _ _ _ h. h;
           lefts = λ _ _ h. h;
           notes = λ _ _ h. h;

@@ -11,7 +11,7 @@ use Rattle.sdd_steps.specs.State.{At}
 use Rattle.sdd_steps.specs.Invariant.{names_of}
 use Rattle.sdd_steps.proofs.ListLemmas.{at_inside}
 use Rattle.sdd_homes.specs.Book.{Content}
-use Rattle.domain_table.specs.Layout.{cell_word, slot_word, claim_word, state_word, packed, Tells, AreAlike}
+use Rattle.domain_table.specs.Layout.{cell_word, slot_word, link_word, claim_word, state_word, packed, Tells, AreAlike}
 use Rattle.domain_table.specs.Items.{code, Items}
 use Rattle.domain_table.specs.Rule.{Epochs, Shows}
 use Rattle.domain_table.specs.Plays.{with_step, retag_then}
@@ -19,7 +19,8 @@ use Rattle.domain_table.specs.declared.board.Acting.{Acting}
 use Rattle.domain_table.specs.declared.board.Plan.{Plan}
 use Rattle.domain_table.proofs.Moves.{idles}
 use Rattle.domain_table.proofs.Telling.{tells_step}
-use Rattle.domain_table.proofs.Stirred.{rests_on}
+use Rattle.domain_table.proofs.Stirred.{rests_on, links_all}
+use Rattle.domain_table.proofs.LeftWords.{lefts_behind}
 
 module _ (S : Type 0) (IsIn : Content → S → Type 0) (plan : Plan) where
   module _ (s : State S Acting) (r : Shows IsIn plan s) (c value : ℕ) (lc : c < plan.sizes.cells) (small : plan.sizes.cells + plan.sizes.participants ≤ 2 ^ 31) (alike : AreAlike (get_or s.words (cell_word plan.sizes c) 0) value) where
@@ -64,6 +65,7 @@ module _ (S : Type 0) (IsIn : Content → S → Type 0) (plan : Plan) where
       waiting = r.items.waiting;
       leftovers = r.items.leftovers;
       private = r.items.private;
+      links = links_all r.items words' r.book.left s.views (λ m. other (link_word plan.sizes m) (λ z. omega arith)) r.items.links.waits r.items.links.notes r.items.links.lefts;
       seats = r.items.seats;
     }
 
@@ -93,6 +95,7 @@ module _ (S : Type 0) (IsIn : Content → S → Type 0) (plan : Plan) where
       run = r.run;
       kept = r.kept;
       born = r.born;
+      lefts = lefts_behind r.lefts (cell_word plan.sizes c) value (omega arith);
       bounded = r.bounded;
       epochs = epochs_now;
       book = r.book;

@@ -19,10 +19,10 @@ use Rattle.domain_table.proofs.Stirred.{stirred_none}
 use Rattle.domain_table.proofs.Stirred as items
 use Rattle.domain_table.proofs.Privates.{private_on}
 use Rattle.sdd_homes.specs.Book.{Content}
-use Rattle.domain_table.specs.Layout.{state_word, claim_word, cell_word, shown}
+use Rattle.domain_table.specs.Layout.{state_word, claim_word, cell_word, shown, left_word}
 use Rattle.domain_table.specs.Rule.{beginning, first_words, Shows}
 use Rattle.domain_table.specs.declared.board.Acting.{Acting}
-use Rattle.domain_table.proofs.Firsts.{many_of, long_first, state_words_first, claim_words_first, cell_words_first, first_book, FirstSlots, items_begin}
+use Rattle.domain_table.proofs.Firsts.{many_of, long_first, state_words_first, claim_words_first, left_words_first, cell_words_first, first_book, FirstSlots, items_begin}
 
 -- the view of a seat that acts for nobody isn't that of one that acts
 nobody : (d : Acting) (G : Type 0) → spent ≡ d → d.kind ≡ 1 → G
@@ -56,6 +56,7 @@ module _ (S : Type 0) (IsIn : Content → S → Type 0) (plan : Plan) where
           ),
         );
         born = λ _. 0;
+        lefts = record { told = λ p lt. w (left_word p) ∙ left_words_first plan p lt; chained = λ _. refl };
         bounded = record {
           inside = λ p x e at h. absurd (idle p x e at h);
           looks = λ q x p y e at h. absurd (idle q x count at h);
@@ -88,8 +89,13 @@ module _ (S : Type 0) (IsIn : Content → S → Type 0) (plan : Plan) where
             owners = λ j d o' e has. ⊎_elim (λ (h : get_elem? s.views j ≡ some d). r.items.owners j d o' h has) (λ (t : spent ≡ d). absurd (subst (λ (v : Acting). Has v.hand o') (sym t) has)) (at_snoc s.views spent d j e);
             seats = λ j d e kind. ⊎_elim (λ (h : get_elem? s.views j ≡ some d). r.items.seats j d h kind) (λ (t : spent ≡ d). nobody d _ t kind) (at_snoc s.views spent d j e);
           }) (λ j d w e kind has. ⊎_elim (λ (h : get_elem? s.views j ≡ some d). r.items.waiting j d w h kind has) (λ (t : spent ≡ d). nobody d _ t kind) (at_snoc s.views spent d j e)) r.items.leftovers
-          (private_on r.items.private (λ _ h. h) (λ j d e. ⊎_elim (λ (h : get_elem? s.views j ≡ some d). inr (d, h, refl)) (λ (t : spent ≡ d). inl (ap (λ (z : Acting). z.collected) (sym t))) (at_snoc s.views spent d j e)));
+          (private_on r.items.private (λ _ h. h) (λ j d e. ⊎_elim (λ (h : get_elem? s.views j ≡ some d). inr (d, h, refl)) (λ (t : spent ≡ d). inl (ap (λ (z : Acting). z.collected) (sym t))) (at_snoc s.views spent d j e)))
+          (items.links_all r.items s.words r.book.left (s.views ++ spent ∷ []) (λ _. refl)
+          (λ j d w e kind has. ⊎_elim (λ (h : get_elem? s.views j ≡ some d). r.items.links.waits j d w h kind has) (λ (t : spent ≡ d). nobody d _ t kind) (at_snoc s.views spent d j e))
+          (λ j d w e has. ⊎_elim (λ (h : get_elem? s.views j ≡ some d). r.items.links.notes j d w h has) (λ (t : spent ≡ d). absurd (subst (λ (v : Acting). Has v.collected w) (sym t) has)) (at_snoc s.views spent d j e))
+          r.items.links.lefts);
       born = r.born;
+      lefts = r.lefts;
       bounded = r.bounded;
       epochs = record {
         seat_of = o.seat_of;

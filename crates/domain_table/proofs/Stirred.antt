@@ -26,10 +26,10 @@ use Rattle.sdd_homes.specs.Hands.{items_of, owned}
 use Rattle.sdd_homes.specs.Parts.{Parts}
 use Rattle.sdd_homes.specs.Lying.{Lying}
 use Rattle.sdd_homes.proofs.PartLemmas as parts
-use Rattle.sdd_homes.proofs.SpareLemmas.{stays_kept, refilled, beside}
+use Rattle.sdd_homes.proofs.SpareLemmas.{stays_kept, refilled}
 use Rattle.sdd_homes.proofs.HandLemmas.{owned_set}
-use Rattle.domain_table.specs.Layout.{epoch_words, claim_word, cell_word, slot_word, all_homes, all_extras, bag_place}
-use Rattle.domain_table.specs.Items.{owners_in_hand, Grasps, Grip, Owns, IsWaiting, IsLeftover, IsNoted, Leftovers, Private, IsFilling, Rests, Carries, Items, Distinct}
+use Rattle.domain_table.specs.Layout.{epoch_words, claim_word, cell_word, slot_word, link_word, all_homes, all_spares}
+use Rattle.domain_table.specs.Items.{owners_in_hand, Grasps, Grip, Owns, IsWaiting, IsLeftover, IsNoted, Leftovers, Private, IsLinked, Links, IsFilling, Rests, Carries, Items, Distinct}
 use Rattle.domain_table.specs.Views.{older_waits}
 use Rattle.domain_table.proofs.Privates.{private_set}
 use Rattle.domain_table.specs.declared.board.Acting.{Acting}
@@ -146,7 +146,30 @@ still_left l on = record { waits = λ p w h. on w (l.waits p w h); once = l.once
 module _ {S : Type 0} {IsIn : Content → S → Type 0} {sizes : Sizes} {state : steps.State} {book : Book} {words : List ℕ} {homes : List (maybe.Option S)} {views : List Acting} (r : Items IsIn sizes state book words homes views) where
   -- the claim word of p is as it was
   pub rests_on : (words' : List ℕ) (p : ℕ) → p < sizes.participants → get_or words' (claim_word p) 0 ≡ get_or words (claim_word p) 0 → get_or words' (claim_word p) 0 ≢ 0 → Rests sizes book words' p
-  rests_on words' p low same some_ = let t = r.free p low (λ e. some_ (same ∙ e)) in (t.0, same ∙ t.1, t.2, t.3)
+  rests_on words' p low same some_ = let t = r.free p low (λ e. some_ (same ∙ e)) in (t.0, same ∙ t.1, t.2)
+
+  -- the link words stay, and what is in bags is told still
+  pub links_all : (words' : List ℕ) (left' : ℕ → List Garbage) (views' : List Acting) → ((k : ℕ) → get_or words' (link_word sizes k) 0 ≡ get_or words (link_word sizes k) 0)
+      → ((j : ℕ) (e : Acting) (w : Garbage) → At views' j e → e.kind ≡ 1 → Has e.waits w → IsLinked sizes words w) → ((j : ℕ) (e : Acting) (w : Garbage) → At views' j e → Has e.collected w → IsLinked sizes words w)
+      → ((p : ℕ) (w : Garbage) → Has (left' p) w → IsLinked sizes words w) → Links sizes words' left' views'
+  links_all words' left' views' same waits notes lefts = let on : (w : Garbage) → IsLinked sizes words w → IsLinked sizes words' w = (λ w h some_. same w.slot ∙ h some_) in record {
+    waits = λ j e w at_j k has. on w (waits j e w at_j k has);
+    notes = λ j e w at_j has. on w (notes j e w at_j has);
+    lefts = λ q w has. on w (lefts q w has);
+  }
+
+  -- one view changes
+  pub links_at : (words' : List ℕ) (left' : ℕ → List Garbage) (id : ℕ) (d' : Acting) → ((k : ℕ) → get_or words' (link_word sizes k) 0 ≡ get_or words (link_word sizes k) 0)
+      → ((w : Garbage) → d'.kind ≡ 1 → Has d'.waits w → IsLinked sizes words w) → ((w : Garbage) → Has d'.collected w → IsLinked sizes words w) → ((p : ℕ) (w : Garbage) → Has (left' p) w → IsLinked sizes words w) → Links sizes words' left' (set views id d')
+  links_at words' left' id d' same mine notes lefts = links_all words' left' (set views id d') same
+      (λ j e w at_j. set_all (λ _ (e' : Acting). e'.kind ≡ 1 → Has e'.waits w → IsLinked sizes words w) views id d' (mine w) (λ j' e' _ here. r.links.waits j' e' w here) j e at_j)
+      (λ j e w at_j. set_all (λ _ (e' : Acting). Has e'.collected w → IsLinked sizes words w) views id d' (notes w) (λ j' e' _ here. r.links.notes j' e' w here) j e at_j)
+      lefts
+
+  -- the same where all words behind those of epochs stay
+  pub links_set : (words' : List ℕ) (left' : ℕ → List Garbage) (id : ℕ) (d' : Acting) → ((i : ℕ) → epoch_words sizes.participants ≤ i → get_or words' i 0 ≡ get_or words i 0)
+      → ((w : Garbage) → d'.kind ≡ 1 → Has d'.waits w → IsLinked sizes words w) → ((w : Garbage) → Has d'.collected w → IsLinked sizes words w) → ((p : ℕ) (w : Garbage) → Has (left' p) w → IsLinked sizes words w) → Links sizes words' left' (set views id d')
+  links_set words' left' id d' high = links_at words' left' id d' (λ k. high (link_word sizes k) (omega arith))
 
   -- the words of items and cells stay, and a participant that is freed rests
   pub record Untouched (words' : List ℕ) : Type 0 where
@@ -173,6 +196,7 @@ module _ {S : Type 0} {IsIn : Content → S → Type 0} {sizes : Sizes} {state :
     pub waiting : (j : ℕ) (d : Acting) (w : Garbage) → At views' j d → d.kind ≡ 1 → Has d.waits w → IsWaiting core.items book.slot_of d.number w
     pub leftovers : Leftovers core.items book.slot_of left'
     pub private : Private core.items book.slot_of views'
+    pub links : Links sizes words' left' views'
     pub seats : (j : ℕ) (d : Acting) → At views' j d → d.kind ≡ 1 → Carries sizes (record book { left = left' }) d
 
   pub renewed : (core : steps.State) (left' : ℕ → List Garbage) (words' : List ℕ) (views' : List Acting) → Anew core left' words' views' → Items IsIn sizes core (record book { left = left' }) words' homes views'
@@ -196,14 +220,15 @@ module _ {S : Type 0} {IsIn : Content → S → Type 0} {sizes : Sizes} {state :
         waiting = v.waiting;
         leftovers = v.leftovers;
         private = v.private;
+        links = v.links;
         seats = v.seats;
       }
 
   -- the same where bags stay as they are
   pub stays : (core : steps.State) (words' : List ℕ) (views' : List Acting) → core.cells ≡ state.cells → Stirred state.items core.items
       → ((q : ℕ) (l : Lease) → Has (book.out q) l → Why state (Grip views) q l.item → Why core (Grip views') q l.item)
-      → Untouched words' → Seated views' → ((j : ℕ) (d : Acting) (w : Garbage) → At views' j d → d.kind ≡ 1 → Has d.waits w → IsWaiting core.items book.slot_of d.number w) → Leftovers core.items book.slot_of book.left → Private core.items book.slot_of views' → Items IsIn sizes core book words' homes views'
-  stays core words' views' same stir why w v waiting leftovers private = renewed core book.left words' views' (record {
+      → Untouched words' → Seated views' → ((j : ℕ) (d : Acting) (w : Garbage) → At views' j d → d.kind ≡ 1 → Has d.waits w → IsWaiting core.items book.slot_of d.number w) → Leftovers core.items book.slot_of book.left → Private core.items book.slot_of views' → Links sizes words' book.left views' → Items IsIn sizes core book words' homes views'
+  stays core words' views' same stir why w v waiting leftovers private links = renewed core book.left words' views' (record {
     cells = same;
     stirred = stir;
     why = why;
@@ -215,12 +240,13 @@ module _ {S : Type 0} {IsIn : Content → S → Type 0} {sizes : Sizes} {state :
     waiting = waiting;
     leftovers = leftovers;
     private = private;
+    links = links;
     seats = v.seats;
   })
 
-  -- what lies in a slot behind the homes changes, and it is no spare slot and no bag of a participant for which nobody acts
+  -- what lies in a slot behind the homes changes, and it is no spare slot of a participant for which nobody acts
   refitted : (y : ℕ) (x : Content) (homes' : List (maybe.Option S)) → Spares sizes.cells sizes.participants (names_of state.cells) state.items (record book { extra = put book.extra y x })
-      → ((q : ℕ) → q < sizes.participants → get_or words (claim_word q) 0 ≢ 0 → (book.spare (sizes.cells + q) ≢ y) × (bag_place sizes q ≢ y)) → Lying IsIn (all_homes sizes) (all_extras sizes) book.what (put book.extra y x) homes'
+      → ((q : ℕ) → q < sizes.participants → get_or words (claim_word q) 0 ≢ 0 → book.spare (sizes.cells + q) ≢ y) → Lying IsIn (all_homes sizes) (all_spares sizes) book.what (put book.extra y x) homes'
       → Items IsIn sizes state (record book { extra = put book.extra y x }) words homes' views
   refitted y x homes' spares_now apart lies = record {
     parts = record { full_at = r.parts.full_at; partly_at = r.parts.partly_at; vacant_at = r.parts.vacant_at; leases = r.parts.leases; once = r.parts.once };
@@ -234,28 +260,23 @@ module _ {S : Type 0} {IsIn : Content → S → Type 0} {sizes : Sizes} {state :
     slot_words = r.slot_words;
     vacancies = r.vacancies;
     alone = r.alone;
-    free = λ q lq some_. let t = r.free q lq some_ in let a = apart q lq some_ in (t.0, t.1, put_else book.extra y x (book.spare (sizes.cells + q)) a.0 ∙ t.2, put_else book.extra y x (bag_place sizes q) a.1 ∙ t.3);
+    free = λ q lq some_. let t = r.free q lq some_ in (t.0, t.1, put_else book.extra y x (book.spare (sizes.cells + q)) (apart q lq some_) ∙ t.2);
     hands = r.hands;
     owners = r.owners;
     given = r.given;
     waiting = r.waiting;
     leftovers = r.leftovers;
     private = r.private;
+    links = r.links;
     seats = λ j d at k. let b = r.seats j d at k in record { sizes_are = b.sizes_are; leases = b.leases; spare = b.spare; fills = b.fills; distinct = b.distinct; left = b.left };
   }
 
   -- the spare slot of a participant for which somebody acts is out, or back
-  pub respared : (p : ℕ) (x : Content) (homes' : List (maybe.Option S)) → p < sizes.participants → get_or words (claim_word p) 0 ≡ 0 → Lying IsIn (all_homes sizes) (all_extras sizes) book.what (put book.extra (book.spare (sizes.cells + p)) x) homes'
+  pub respared : (p : ℕ) (x : Content) (homes' : List (maybe.Option S)) → p < sizes.participants → get_or words (claim_word p) 0 ≡ 0 → Lying IsIn (all_homes sizes) (all_spares sizes) book.what (put book.extra (book.spare (sizes.cells + p)) x) homes'
       → Items IsIn sizes state (record book { extra = put book.extra (book.spare (sizes.cells + p)) x }) words homes' views
   respared p x homes' low claimed lies = let v = sizes.cells + p in refitted (book.spare v) x homes' (refilled r.spares v x (omega arith) (omega arith))
       (λ q lq some_. let other : q ≢ p = (λ e. some_ (ap (λ z. get_or words (claim_word z) 0) e ∙ claimed)) in
-      ((λ e. let u : sizes.cells + q ≡ v = sym (r.spares.users (sizes.cells + q) (omega arith)) ∙ (ap book.user e ∙ r.spares.users v (omega arith)) in other (omega arith)), λ e. let in_ = r.spares.range v (omega arith) in omega arith)) lies
-
-  -- its bag is out, or back
-  pub rebagged : (p : ℕ) (x : Content) (homes' : List (maybe.Option S)) → get_or words (claim_word p) 0 ≡ 0 → Lying IsIn (all_homes sizes) (all_extras sizes) book.what (put book.extra (bag_place sizes p) x) homes'
-      → Items IsIn sizes state (record book { extra = put book.extra (bag_place sizes p) x }) words homes' views
-  rebagged p x homes' claimed lies = refitted (bag_place sizes p) x homes' (beside r.spares (bag_place sizes p) x (omega arith))
-      (λ q lq some_. let other : q ≢ p = (λ e. some_ (ap (λ z. get_or words (claim_word z) 0) e ∙ claimed)) in ((λ e. let in_ = r.spares.range (sizes.cells + q) (omega arith) in omega arith), λ e. other (omega arith))) lies
+      λ e. let u : sizes.cells + q ≡ v = sym (r.spares.users (sizes.cells + q) (omega arith)) ∙ (ap book.user e ∙ r.spares.users v (omega arith)) in other (omega arith)) lies
 
   -- one view changes, and what it and the others have retired
   pub waits_set : (items' : List Item) (id : ℕ) (d' : Acting) → ((w : Garbage) → d'.kind ≡ 1 → Has d'.waits w → IsWaiting items' book.slot_of d'.number w) → ((j : ℕ) (e : Acting) (w : Garbage) → j ≢ id → At views j e → e.kind ≡ 1 → Has e.waits w → IsWaiting items' book.slot_of e.number w)
@@ -284,7 +305,7 @@ module _ {S : Type 0} {IsIn : Content → S → Type 0} {sizes : Sizes} {state :
 
     pub record Leases : Type 0 where
       pub parts : Parts sizes.participants sizes.slots state.items (Why core_of (Grip (set views id d'))) book_of
-      pub lying : Lying IsIn (all_homes sizes) (all_extras sizes) what' book.extra homes'
+      pub lying : Lying IsIn (all_homes sizes) (all_spares sizes) what' book.extra homes'
       pub mine : out' d.number ≡ d'.leases
       pub others : (q : ℕ) → q ≢ d.number → out' q ≡ book.out q
       pub same : d' ≡ record d { known = d'.known; leases = d'.leases; releasing = d'.releasing }
@@ -306,14 +327,16 @@ module _ {S : Type 0} {IsIn : Content → S → Type 0} {sizes : Sizes} {state :
       vacancies = λ k lk none. r.vacancies k lk (sym (w.high (slot_word sizes k) (omega arith)) ∙ none);
       alone = r.alone;
       free = λ p low some_. let t = ⊎_elim (λ (z : get_or words' (claim_word p) 0 ≡ get_or words (claim_word p) 0). rests_on words' p low z some_) (λ (z : Rests sizes book words' p). z) (w.freed p low some_) in
-          (l.others p (λ e. some_ (ap (λ z. get_or words' (claim_word z) 0) e ∙ l.claimed)) ∙ t.0, t.1, t.2, t.3);
+          (l.others p (λ e. some_ (ap (λ z. get_or words' (claim_word z) 0) e ∙ l.claimed)) ∙ t.0, t.1, t.2);
       hands = λ i it at_i. let h = owned_set owners_in_hand i views id d d' at in let e = ap (λ (os : List Owner). steps.times i (items_of os)) hand in let g = r.hands i it at_i in omega arith;
       owners = λ j e o at_j has. set_all (λ j' e'. Has e'.hand o → Owns state.items book.slot_of o) views id d' (λ h. r.owners id d o at (subst (λ (os : List Owner). Has os o) hand h)) (λ j' e' _ here h. r.owners j' e' o here h) j e at_j has;
       given = r.given;
       waiting = waits_stay id d' (λ w k has. subst (λ (z : Acting). Has z.waits w → IsWaiting state.items book.slot_of z.number w) (sym l.same) (r.waiting id d w at kind) has);
       leftovers = r.leftovers;
       private = private_set r.private (λ _ h. h) id d d' at (ap (λ (z : Acting). z.collected) l.same);
+      links = links_set words' book.left id d' w.high (λ v k has. subst (λ (z : Acting). Has z.waits v → IsLinked sizes words v) (sym l.same) (λ h. r.links.waits id d v at kind h) has)
+          (λ v has. r.links.notes id d v at (subst (λ (ws : List Garbage). Has ws v) (ap (λ (z : Acting). z.collected) l.same) has)) r.links.lefts;
       seats = λ j e at_j k. set_all (λ _ e'. e'.kind ≡ 1 → Carries sizes book_of e') views id d'
-          (λ _. record { sizes_are = ap (λ (z : Acting). z.sizes) l.same ∙ c.sizes_are; leases = ap (λ (z : Acting). out' z.number) l.same ∙ l.mine; spare = ap (λ (z : Acting). book.spare (sizes.cells + z.number)) l.same ∙ (c.spare ∙ sym (ap (λ (z : Acting). z.spare) l.same)); fills = subst (IsFilling sizes book_of) (sym l.same) c.fills; distinct = subst (λ (z : Acting). Distinct z.waits) (sym l.same) c.distinct; left = ap (λ (z : Acting). book.left z.number) l.same ∙ (c.left ∙ sym (ap (λ (z : Acting). z.left) l.same)) })
+          (λ _. record { sizes_are = ap (λ (z : Acting). z.sizes) l.same ∙ c.sizes_are; leases = ap (λ (z : Acting). out' z.number) l.same ∙ l.mine; spare = ap (λ (z : Acting). book.spare (sizes.cells + z.number)) l.same ∙ (c.spare ∙ sym (ap (λ (z : Acting). z.spare) l.same)); fills = subst (IsFilling sizes book_of) (sym l.same) c.fills; distinct = subst (λ (z : Acting). Distinct z.waits) (sym l.same) c.distinct; left = λ one. ap (λ (z : Acting). book.left z.number) l.same ∙ c.left (sym (ap (λ (z : Acting). z.left) l.same) ∙ one) })
           (λ j' e' other here k'. let x = r.seats j' e' here k' in record { sizes_are = x.sizes_are; leases = l.others e'.number (l.apart j' e' other here k') ∙ x.leases; spare = x.spare; fills = x.fills; distinct = x.distinct; left = x.left }) j e at_j k;
     }

@@ -34,7 +34,7 @@ use Rattle.sdd_homes.proofs.PartLemmas as parts
 use Rattle.sdd_homes.proofs.SwapLemmas.{Handy, handy_swapped, handy_back, hand_swapped, names_swapped, alone_swapped}
 use Rattle.sdd_homes.proofs.SpareLemmas.{Was, exchanged, spare_of_user, spare_of_cell, spare_of_others, extra_of_others, swapped}
 use Rattle.sdd_homes.proofs.HandLemmas.{owned_set, owned_some, mine_some}
-use Rattle.domain_table.specs.Layout.{cell_word, slot_word, claim_word, state_word, all_homes, all_extras, bag_place, packed, Tells}
+use Rattle.domain_table.specs.Layout.{cell_word, slot_word, link_word, claim_word, state_word, all_homes, all_spares, packed, Tells}
 use Rattle.domain_table.specs.Items.{owners_in_hand, code, Grip, Owns, HasState, IsWaiting, Carries, Items}
 use Rattle.domain_table.specs.Owners.{item_of, slot_code, part_of, besides}
 use Rattle.domain_table.specs.Rule.{Runs, Shows}
@@ -42,9 +42,10 @@ use Rattle.domain_table.specs.declared.board.Acting.{Acting}
 use Rattle.domain_table.specs.declared.board.Plan.{Plan}
 use Rattle.domain_table.proofs.Privates.{private_set}
 use Rattle.domain_table.proofs.Moves.{moved, own_inside}
-use Rattle.domain_table.proofs.Stirred.{rests_on, still_left, grip_set, waits_set}
+use Rattle.domain_table.proofs.Stirred.{rests_on, still_left, grip_set, waits_set, links_at}
 use Rattle.domain_table.proofs.Taken as taken
 use Rattle.domain_table.proofs.Taken.{and_true, or_left}
+use Rattle.domain_table.proofs.LeftWords.{lefts_behind}
 
 pub besides_times : (i : ℕ) (x : Option Owner) (os : List Owner) → times i (items_of (besides x os)) ≡ points i (item_of x) + times i (items_of os)
 besides_times i None os = omega arith
@@ -184,8 +185,8 @@ module _ (S : Type 0) (IsIn : Content → S → Type 0) (plan : Plan) (s : State
   abbrev homes' : List (maybe.Option S)
   homes' = set (set s.homes (all_homes plan.sizes + d.spare) (some u)) (all_homes plan.sizes + r.book.spare c) none
 
-  lies : Lying IsIn (all_homes plan.sizes) (all_extras plan.sizes) r.book.what book'.extra homes'
-  lies = let b = r.items.seats id d at kind in takes_high (subst (λ z. Lying IsIn (all_homes plan.sizes) (all_extras plan.sizes) r.book.what (put r.book.extra (r.book.spare v) (part_of new)) (set s.homes (all_homes plan.sizes + z) (some u))) b.spare
+  lies : Lying IsIn (all_homes plan.sizes) (all_spares plan.sizes) r.book.what book'.extra homes'
+  lies = let b = r.items.seats id d at kind in takes_high (subst (λ z. Lying IsIn (all_homes plan.sizes) (all_spares plan.sizes) r.book.what (put r.book.extra (r.book.spare v) (part_of new)) (set s.homes (all_homes plan.sizes + z) (some u))) b.spare
       (gives_high r.items.lying (r.book.spare v) (part_of new) u (let in_ = r.items.spares.range v lv in omega arith) is_in)) (r.book.spare c) (let in_ = r.items.spares.range c (omega arith) in omega arith)
 
   cells_now : (e : ℕ) (x : Option ℕ) → At (names_of t.cells) e x → Tells (get_or words' (cell_word plan.sizes e) 0) (book'.spare e) (code r.book.slot_of x)
@@ -242,13 +243,14 @@ module _ (S : Type 0) (IsIn : Content → S → Type 0) (plan : Plan) (s : State
     alone = alone_swapped r.state c (item_of new) r.items.alone;
     free = λ p low_p some_. let same = get_or-set_other s.words cw (claim_word p) value 0 (λ z. omega arith) in let t = rests_on r.items words' p low_p same some_ in
         let other : p ≢ d.number = (λ e. some_ (same ∙ (ap (λ z. get_or s.words (claim_word z) 0) e ∙ (r.epochs.seats id d at kind).claimed))) in
-        (t.0, t.1 ∙ ap suc (sym (spare_of_others r.items.spares c v (part_of new) lc lv ne (plan.sizes.cells + p) (λ z. omega arith) (λ z. other (omega arith)))), extra_of_others r.items.spares c v (part_of new) lc lv ne (plan.sizes.cells + p) (omega arith) (λ z. omega arith) (λ z. other (omega arith)) ∙ t.2, put_else (put r.book.extra (r.book.spare v) (part_of new)) (r.book.spare c) away (bag_place plan.sizes p) (λ z. let in_ = r.items.spares.range c (omega arith) in omega arith) ∙ (put_else r.book.extra (r.book.spare v) (part_of new) (bag_place plan.sizes p) (λ z. let in_ = r.items.spares.range v lv in omega arith) ∙ t.3));
+        (t.0, t.1 ∙ ap suc (sym (spare_of_others r.items.spares c v (part_of new) lc lv ne (plan.sizes.cells + p) (λ z. omega arith) (λ z. other (omega arith)))), extra_of_others r.items.spares c v (part_of new) lc lv ne (plan.sizes.cells + p) (omega arith) (λ z. omega arith) (λ z. other (omega arith)) ∙ t.2);
     hands = hands_now;
     owners = owners_now;
     given = λ i it' at_i alive. let w = back i it' at_i in let g = r.items.given i w.0 w.1 (λ q e. alive q (ap (λ (z : Item). z.state) w.2 ∙ e)) in (g.0 ∙ sym (ap (λ (z : Item). z.holds) w.2), λ o h. owns_on o (g.1 o h));
     waiting = waits_now;
     leftovers = still_left r.items.leftovers (waits_on Waiting);
     private = private_set r.items.private (λ w h. waits_on (Collected w.age) w h) id d d' at refl;
+    links = links_at r.items words' r.book.left id d' (λ m. get_or-set_other s.words cw (link_word plan.sizes m) value 0 (λ z. omega arith)) (λ w _ h. r.items.links.waits id d w at kind h) (λ w h. r.items.links.notes id d w at h) r.items.links.lefts;
     seats = seats_now;
   }
     where
@@ -276,4 +278,4 @@ module _ (S : Type 0) (IsIn : Content → S → Type 0) (plan : Plan) (s : State
     claims = λ q small. get_or-set_other s.words cw (claim_word q) value 0 (λ z. omega arith);
     others = λ q small _. get_or-set_other s.words cw (state_word q) value 0 (λ z. omega arith);
     mine = get_or-set_other s.words cw (state_word d.number) value 0 (λ z. omega arith) ∙ r.epochs.states d.number d.known a.is;
-  }) items_now
+  }) (lefts_behind r.lefts cw value (omega arith)) items_now

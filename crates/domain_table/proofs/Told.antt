@@ -5,7 +5,7 @@ use Rattle.domain_table.specs.Contents.{IsIn, is_blank, blanks}
 use Rattle.domain_table.specs.Plays.{AreTold}
 use Rattle.domain_table.specs.Leases.{has_all}
 use Rattle.domain_table.specs.declared.board.Home.{Home}
-use Rattle.domain_table.specs.declared.board.Home.TheVariants.{Blank, Room, Deed, Part, Left, Announced}
+use Rattle.domain_table.specs.declared.board.Home.TheVariants.{Blank, Room, Deed, Part, Announced}
 
 -- what lies in a slot is of one round, and so many parts
 pub are_told : {T : Type 0} (holds : T → List (ℕ × ℕ)) → AreTold (IsIn holds)
@@ -17,7 +17,6 @@ blank_there Blank e = refl
 blank_there (Room b) e = absurd (cc)
 blank_there (Deed d) e = absurd (cc)
 blank_there (Part p c) e = absurd (cc)
-blank_there (Left v) e = absurd (cc)
 blank_there (Announced z) e = absurd (cc)
 
 -- just these slots are out with a seat, and empty

@@ -6,11 +6,11 @@ use Rattle.parted.specs.declared.part.Part as parted
 use Rattle.sdd_base.specs.declared.sizes.Sizes.{Sizes}
 use Rattle.sdd_steps.specs.State.{At}
 use Rattle.sdd_homes.specs.declared.Garbage.{Garbage}
-use Rattle.sdd_homes.specs.Book.{Content, away, blank, room, deed, part, bag}
+use Rattle.sdd_homes.specs.Book.{Content, away, blank, room, deed, part}
 use Rattle.domain_table.specs.Owners.{told}
 use Rattle.domain_table.specs.Layout.{all_homes, own_homes, all_spares}
 use Rattle.domain_table.specs.declared.board.Home.{Home}
-use Rattle.domain_table.specs.declared.board.Home.TheVariants.{Blank, Room, Deed, Part, Left, Announced}
+use Rattle.domain_table.specs.declared.board.Home.TheVariants.{Blank, Room, Deed, Part, Announced}
 
 -- the slots of these items, in their order
 abbrev pub garbage_slots : List Garbage → List ℕ
@@ -28,20 +28,14 @@ module _ {T : Type 0} (holds : T → List (ℕ × ℕ)) where
   IsIn room y = (b : _) × (y ≡ Room b)
   IsIn (deed r hs) y = (d : _) × (y ≡ Deed d) × (d.life ≡ r) × IsSomeAnd d.value (λ m. holds (manually_drop_value m) ≡ map told hs)
   IsIn (part r c) y = (p : _) × (y ≡ Part p c) × (p.life.id ≡ r) × (p.life.count ≡ c) × (0 < c) × IsSome p.seen.value
-  IsIn (bag n ws) y = (v : _) × (y ≡ Left v) × (v.items ≡ garbage_slots ws) × (n ≤ vec_capacity v) × (length ws ≤ n)
 
   -- these are the homes of free slots, where those from `deeds` on are of deeds
   abbrev pub AreResting : ℕ → List (Home T) → Type 0
   AreResting deeds homes = (i : ℕ) (y : Home T) → At homes i y → IsIn (first_in_home deeds i) y
 
-  -- these are empty bags, with room for n slots
-  abbrev pub AreBags : ℕ → List (Home T) → Type 0
-  AreBags n homes = (i : ℕ) (y : Home T) → At homes i y → IsIn (bag n []) y
-
-  -- the slots of a new place: the homes of free slots, spare ones with nothing in them, and empty bags
+  -- the slots of a new place: the homes of free slots, and spare ones with nothing in them
   abbrev pub AreNewHomes : Sizes → List (Home T) → Type 0
-  AreNewHomes sizes homes = (own : List (Home T)) × (bags : List (Home T)) × (length own ≡ all_homes sizes) × AreResting (own_homes sizes) own
-      × (length bags ≡ sizes.participants) × AreBags sizes.slots bags × (homes ≡ (own ++ replicate (all_spares sizes) Blank) ++ bags)
+  AreNewHomes sizes homes = (own : List (Home T)) × (length own ≡ all_homes sizes) × AreResting (own_homes sizes) own × (homes ≡ own ++ replicate (all_spares sizes) Blank)
 
 module _ {T : Type 0} where
   -- these parts lie there, so many of them
@@ -54,7 +48,6 @@ module _ {T : Type 0} where
   is_blank (Room b) = false
   is_blank (Deed d) = false
   is_blank (Part p c) = false
-  is_blank (Left v) = false
   is_blank (Announced z) = false
 
   -- these slots, each with nothing in it

@@ -12,13 +12,13 @@ use Rattle.sdd_steps.specs.Invariant.{names_of}
 use Rattle.sdd_homes.specs.declared.Owner.{Owner}
 use Rattle.sdd_homes.specs.declared.Filling.{Filling}
 use Rattle.sdd_homes.specs.declared.Garbage.{Garbage}
-use Rattle.sdd_homes.specs.Book.{Content, blank, bag, vacant, partly, full, Book}
+use Rattle.sdd_homes.specs.Book.{Content, blank, vacant, partly, full, Book}
 use Rattle.sdd_homes.specs.Parts.{Parts}
 use Rattle.sdd_homes.specs.Spares.{Spares}
 use Rattle.sdd_homes.specs.Reasons.{Why}
 use Rattle.sdd_homes.specs.Lying.{Lying}
 use Rattle.sdd_homes.specs.Hands.{items_of, owned}
-use Rattle.domain_table.specs.Layout.{claim_word, cell_word, slot_word, Tells, all_words, all_homes, all_extras, bag_place}
+use Rattle.domain_table.specs.Layout.{claim_word, cell_word, slot_word, link_word, Tells, all_words, all_homes, all_spares}
 use Rattle.domain_table.specs.declared.board.Acting.{Acting}
 
 abbrev pub owners_in_hand : Acting → List Owner
@@ -81,9 +81,19 @@ pub record Private (items : List Item) (slot_of : ℕ → ℕ) (views : List Act
   pub once : (j : ℕ) (d : Acting) → At views j d → Distinct d.collected
   pub apart : (j k : ℕ) (d e : Acting) (v w : Garbage) → At views j d → At views k e → Has d.collected v → Has e.collected w → v.item ≡ w.item → j ≡ k
 
--- nobody acts for p: none of its homes is out, its spare slot, which its claim word tells, is empty, and its bag has what it left
+-- the link word of what waits is what is known of it
+abbrev pub IsLinked : Sizes → List ℕ → Garbage → Type 0
+IsLinked sizes words w = w.next ≢ 0 → slice_index words (link_word sizes w.slot) ≡ w.next
+
+-- so it is of all that is in a bag: of a participant, in a private bag, or left
+pub record Links (sizes : Sizes) (words : List ℕ) (left : ℕ → List Garbage) (views : List Acting) : Type 0 where
+  pub waits : (j : ℕ) (d : Acting) (w : Garbage) → At views j d → d.kind ≡ 1 → Has d.waits w → IsLinked sizes words w
+  pub notes : (j : ℕ) (d : Acting) (w : Garbage) → At views j d → Has d.collected w → IsLinked sizes words w
+  pub lefts : (p : ℕ) (w : Garbage) → Has (left p) w → IsLinked sizes words w
+
+-- nobody acts for p: none of its homes is out, its spare slot, which its claim word tells, is empty
 abbrev pub Rests : Sizes → Book → List ℕ → ℕ → Type 0
-Rests sizes book words p = (book.out p ≡ []) × (slice_index words (claim_word p) ≡ suc (book.spare (sizes.cells + p))) × (book.extra (book.spare (sizes.cells + p)) ≡ blank) × (book.extra (bag_place sizes p) ≡ bag sizes.slots (book.left p))
+Rests sizes book words p = (book.out p ≡ []) × (slice_index words (claim_word p) ≡ suc (book.spare (sizes.cells + p))) × (book.extra (book.spare (sizes.cells + p)) ≡ blank)
 
 -- what stands of a view that acts for a participant
 pub record Carries (sizes : Sizes) (book : Book) (d : Acting) : Type 0 where
@@ -92,12 +102,12 @@ pub record Carries (sizes : Sizes) (book : Book) (d : Acting) : Type 0 where
   pub spare : book.spare (sizes.cells + d.number) ≡ d.spare
   pub fills : IsFilling sizes book d
   pub distinct : Distinct d.waits
-  pub left : book.left d.number ≡ d.left
+  pub left : d.left ≡ 1 → book.left d.number ≡ []
 
 pub record Items {S : Type 0} (IsIn : Content → S → Type 0) (sizes : Sizes) (state : steps.State) (book : Book) (words : List ℕ) (homes : List (maybe.Option S)) (views : List Acting) : Type 0 where
   pub parts : Parts sizes.participants sizes.slots state.items (Why state (Grip views)) book
   pub spares : Spares sizes.cells sizes.participants (names_of state.cells) state.items book
-  pub lying : Lying IsIn (all_homes sizes) (all_extras sizes) book.what book.extra homes
+  pub lying : Lying IsIn (all_homes sizes) (all_spares sizes) book.what book.extra homes
   pub standing : (i : ℕ) (it : Item) → At state.items i it → ((q : ℕ) → it.state ≢ Reclaimed q) → (book.slot_of i < sizes.slots) × (book.stage (book.slot_of i) ≡ full i)
   pub settled : (i : ℕ) (it : Item) (q : ℕ) → At state.items i it → it.state ≢ Due q
   pub many : length state.cells ≡ sizes.cells
@@ -113,4 +123,5 @@ pub record Items {S : Type 0} (IsIn : Content → S → Type 0) (sizes : Sizes) 
   pub waiting : (j : ℕ) (d : Acting) (w : Garbage) → At views j d → d.kind ≡ 1 → Has d.waits w → IsWaiting state.items book.slot_of d.number w
   pub leftovers : Leftovers state.items book.slot_of book.left
   pub private : Private state.items book.slot_of views
+  pub links : Links sizes words book.left views
   pub seats : (j : ℕ) (d : Acting) → At views j d → d.kind ≡ 1 → Carries sizes book d

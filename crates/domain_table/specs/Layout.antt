@@ -18,6 +18,10 @@ state_word p = 8 * p + 16
 abbrev pub claim_word : ℕ → ℕ
 claim_word p = 8 * p + 17
 
+-- where what a participant left when it ended begins and ends
+abbrev pub left_word : ℕ → ℕ
+left_word p = 8 * p + 18
+
 -- how many words the epochs of n participants take
 abbrev pub epoch_words : ℕ → ℕ
 epoch_words n = 8 * n + 16
@@ -29,10 +33,14 @@ cell_word sizes c = epoch_words sizes.participants + c
 abbrev pub slot_word : Sizes → ℕ → ℕ
 slot_word sizes k = epoch_words sizes.participants + sizes.cells + k
 
-abbrev pub all_words : Sizes → ℕ
-all_words sizes = epoch_words sizes.participants + sizes.cells + sizes.slots
+-- and behind these the link words of slots
+abbrev pub link_word : Sizes → ℕ → ℕ
+link_word sizes k = epoch_words sizes.participants + sizes.cells + sizes.slots + k
 
--- The slots of the table: homes, those of each participant together, one for each slot for items, and behind them one more for each slot, that of its deed; then spare ones, one for each cell and participant; then a bag of each participant.
+abbrev pub all_words : Sizes → ℕ
+all_words sizes = epoch_words sizes.participants + sizes.cells + sizes.slots + sizes.slots
+
+-- The slots of the table: homes, those of each participant together, one for each slot for items, and behind them one more for each slot, that of its deed; then spare ones, one for each cell and participant.
 abbrev pub all_homes : Sizes → ℕ
 all_homes sizes = sizes.slots * suc sizes.participants
 
@@ -42,13 +50,6 @@ own_homes sizes = sizes.participants * sizes.slots
 
 abbrev pub all_spares : Sizes → ℕ
 all_spares sizes = sizes.cells + sizes.participants
-
--- where the bag of p lies among the slots behind the homes, and how many these are
-abbrev pub bag_place : Sizes → ℕ → ℕ
-bag_place sizes p = all_spares sizes + p
-
-abbrev pub all_extras : Sizes → ℕ
-all_extras sizes = all_spares sizes + sizes.participants
 
 -- the word of a cell: its spare slot, its tag, and the code of what it names
 abbrev pub packed : ℕ → ℕ → ℕ → ℕ

@@ -1,19 +1,23 @@
--- the ledger of a participant that has just registered, and what waits in its bags
-use Rattle.std.specs.Prelude.{◌≡◌, ℕ, ◌≤◌, ◌++◌, ◌∷◌, List, []}
-use Rattle.sdd_homes.specs.declared.Garbage.{Garbage}
-use Rattle.domain_table.specs.declared.bags.Bags.{Bags}
+-- what waits in the bags of a participant, and the ledger of one that has just registered
+use Rattle.std.specs.Prelude.{◌≡◌, true, ℕ, ◌≤◌, ◌++◌, ◌∷◌, List, [], length}
+use Rattle.atomic_table.specs.Table.{Me}
 use Rattle.std.specs.VecDeque.{deque_capacity}
-use Rattle.domain_table.specs.Bags.{ages, Waits}
+use Rattle.sdd_homes.specs.declared.Garbage.{Garbage}
+use Rattle.domain_table.specs.Bags.{IsBag, aged, by_age}
+use Rattle.domain_table.specs.Contents.{garbage_slots}
+use Rattle.domain_table.specs.Leases.{all_below}
+use Rattle.domain_table.specs.declared.bags.Bags.{Bags}
+use Rattle.domain_table.specs.declared.board.Acting.{Acting}
 use Rattle.domain_table.specs.declared.ledger.Ledger.{Ledger}
 
--- this waits, as the bags tell
-abbrev pub WaitsIn : List Garbage → Bags → Type 0
-WaitsIn ws b = Waits ws b.slots.items (ages b.current b.previous b.next b.due)
+-- this waits in slots below n, as the bags tell: it lies by age, and each bag has what is of its age
+abbrev pub WaitsIn : ℕ → List Garbage → Bags → Type 0
+WaitsIn n ws b = (by_age ws ≡ ws) × (all_below n (garbage_slots ws) ≡ true) × IsBag (aged 0 ws) b.current × IsBag (aged 1 ws) b.previous × IsBag (aged 2 ws) b.next × IsBag (aged 3 ws) b.due
 
--- what has waited longest, in this slot, was taken out: it was due
-abbrev pub TakesLongest : ℕ → Bags → Bags → Type 0
-TakesLongest slot old new = (ws : List Garbage) → WaitsIn ws old → (vs : List Garbage) × (w : Garbage) × (ws ≡ vs ++ w ∷ []) × (w.slot ≡ slot) × (w.age ≡ 3) × WaitsIn vs new
+-- what waits may be linked otherwise, and the bags tell it
+abbrev pub Rearranges : {S : Type 0} → ℕ → Me S Acting → Bags → Me S Acting → Type 0
+Rearranges n m b m' = (ws : List Garbage) × (length ws ≡ length m.0.waits) × WaitsIn n ws b × (m' ≡ (record m.0 { waits = ws }, m.1))
 
--- nothing waits and nothing is leased, and there is room for so many items
+-- nothing is leased, and there is room for so many leases
 abbrev pub IsEmpty : {T : Type 0} → ℕ → Ledger T → Type 0
-IsEmpty n l = WaitsIn [] l.bags × (l.bags.due ≡ 0) × (deque_capacity l.bags.slots ≡ n) × (l.rows.items ≡ []) × (n ≤ deque_capacity l.rows)
+IsEmpty n l = (l.rows.items ≡ []) × (n ≤ deque_capacity l.rows)

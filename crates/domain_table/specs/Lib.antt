@@ -4,6 +4,7 @@ pub mod Fitting
 pub mod Items
 pub mod Owners
 pub mod Contents
+pub mod Chains
 pub mod Bags
 pub mod Ledgers
 pub mod Rule

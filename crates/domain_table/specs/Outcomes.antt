@@ -9,11 +9,11 @@ use Rattle.sdd_homes.specs.declared.Lease.{Lease}
 use Rattle.sdd_homes.specs.declared.Owner.{Owner}
 use Rattle.sdd_homes.specs.declared.Filling.{Filling}
 use Rattle.sdd_homes.specs.declared.Garbage.{Garbage}
-use Rattle.sdd_homes.specs.Book.{Content, part, home, deed, bag}
-use Rattle.domain_table.specs.Contents.{blanks, garbage_slots, is_blank}
+use Rattle.sdd_homes.specs.Book.{Content, part, home, deed}
+use Rattle.domain_table.specs.Contents.{blanks, is_blank}
 use Rattle.domain_table.specs.Owners.{told, besides}
 use Rattle.domain_table.specs.Leases.{leased_homes, has_all, HasEmptied}
-use Rattle.domain_table.specs.Plays.{with_step, owning, own_spare, own_bag, Brings, GetsBack, CanKeep, CanEnd, ended_release, Refilled, CanFill, CanEmpty, filling_at, next_filled, gathered, emptying, reclaiming, deed_home}
+use Rattle.domain_table.specs.Plays.{with_step, owning, own_spare, Brings, GetsBack, CanKeep, CanEnd, ended_release, Refilled, CanFill, CanEmpty, filling_at, next_filled, gathered, emptying, reclaiming, deed_home}
 use Rattle.domain_table.specs.Views.{publishing, rotated}
 use Rattle.domain_table.specs.declared.board.Acting.{Acting}
 use Rattle.domain_table.specs.declared.board.Home.{Home}
@@ -60,9 +60,9 @@ module _ {T : Type 0} (IsIn : Content → Home T → Type 0) where
   abbrev pub PutsBack : Me (Home T) Acting → ℕ → Home T → Me (Home T) Acting → Type 0
   PutsBack m at parts after = (l : Lease) (ls : List Lease) (tail : List (ℕ × Home T)) → HasEmptied m at l ls tail → IsIn (part l.round l.count) parts → after ≡ (record m.0 { leases = ls; releasing = 0 }, tail)
 
-  -- all homes of what is leased, behind two others, are refilled, and in front then
+  -- all homes of what is leased, behind another one, are refilled, and in front then
   abbrev pub RefillsBehind : Me (Home T) Acting → Me (Home T) Acting → Type 0
-  RefillsBehind m after = (k l : ℕ) → m.1 ≡ blanks (k ∷ l ∷ leased_homes m.0 m.0.leases) → (xs : List (ℕ × Home T)) × Refilled IsIn m.0 m.0.leases xs (blanks (k ∷ l ∷ [])) × (after ≡ (m.0, xs))
+  RefillsBehind m after = (k : ℕ) → m.1 ≡ blanks (k ∷ leased_homes m.0 m.0.leases) → (xs : List (ℕ × Home T)) × Refilled IsIn m.0 m.0.leases xs (blanks (k ∷ [])) × (after ≡ (m.0, xs))
 
   -- the part of an owner, or none, is in the spare slot, and this is the word for it
   abbrev pub BringsOne : Me (Home T) Acting → ℕ → ℕ → Me (Home T) Acting → Type 0
@@ -88,10 +88,6 @@ module _ {T : Type 0} (IsIn : Content → Home T → Type 0) where
   abbrev pub GivesHome : Me (Home T) Acting → Me (Home T) Acting → Type 0
   GivesHome m after = (f : Filling) (tail : List (ℕ × Home T)) → CanEmpty IsIn m f tail → after ≡ (filling_at m.0.slot (record f { out = m.0.sizes.participants }) m.0, tail)
 
-  -- these slots were in the bag that is out behind another home, with at least its room
-  abbrev pub HasLeft : Me (Home T) Acting → List ℕ → ℕ → Type 0
-  HasLeft m slots room = (k : ℕ) (u : Home T) (n : ℕ) (ws : List Garbage) (b : Home T) → IsIn (bag n ws) b → m.1 ≡ (k, u) ∷ (own_bag m.0, b) ∷ [] → (slots ≡ garbage_slots ws) × (n ≤ room) × (length ws ≤ n)
-
 module _ {T : Type 0} where
   -- the spare slot is another one, empty, and all else with the seat is as it was
   abbrev pub HasSwapped : Me (Home T) Acting → ℕ → ℕ → Me (Home T) Acting → Type 0
@@ -109,10 +105,6 @@ module _ {T : Type 0} where
   abbrev pub ReclaimsLast : Me (Home T) Acting → ℕ → List (ℕ × ℕ) → Me (Home T) Acting → Type 0
   ReclaimsLast m slot held after = (w : Garbage) (ws : List Garbage) → m.0.waits ≡ ws ++ w ∷ [] → (hs : List Owner) × (held ≡ map told hs) × (after ≡ (record m.0 { hand = hs ++ m.0.hand; slot = slot; waits = ws }, m.1))
 
-  -- the bag that is out behind another home is taken
-  abbrev pub TakesBag : Me (Home T) Acting → Me (Home T) Acting → Type 0
-  TakesBag m after = (k : ℕ) (u b : Home T) → m.1 ≡ (k, u) ∷ (own_bag m.0, b) ∷ [] → after ≡ (m.0, (k, u) ∷ (own_bag m.0, Blank) ∷ [])
-
   -- all homes of the item have their parts, and one part is left
   abbrev pub FillsAll : Me (Home T) Acting → ℕ → ℕ → ℕ → Me (Home T) Acting → Type 0
   FillsAll m slot participants round after = (f : Filling) × (f.filled ≡ participants) × (f.out ≡ participants) × (f.left ≡ 1) × (f.round ≡ round) × (after ≡ (filling_at slot f m.0, m.1))
@@ -121,6 +113,6 @@ module _ {T : Type 0} where
   abbrev pub FillsAt : Me (Home T) Acting → ℕ → ℕ → ℕ → ℕ → Type 0
   FillsAt m at participants count round = (f : Filling) × (m.0.filling ≡ Some f) × (f.filled ≡ at) × (at < participants) × (f.out ≡ participants) × (f.left ≡ count) × ((at ≡ 0) ⊎ (round ≡ f.round))
 
-  -- where two slots and the homes of what is leased were out, empty, they are so now
+  -- where a slot and the homes of what is leased were out, empty, they are so now
   abbrev pub KeepsOut : Me (Home T) Acting → Me (Home T) Acting → Type 0
-  KeepsOut m after = (k l : ℕ) → has_all is_blank (k ∷ l ∷ leased_homes m.0 m.0.leases) m.1 ≡ true → has_all is_blank (k ∷ l ∷ leased_homes after.0 after.0.leases) after.1 ≡ true
+  KeepsOut m after = (k : ℕ) → has_all is_blank (k ∷ leased_homes m.0 m.0.leases) m.1 ≡ true → has_all is_blank (k ∷ leased_homes after.0 after.0.leases) after.1 ≡ true

@@ -13,9 +13,10 @@ use Rattle.sdd_homes.specs.declared.Lease.{Lease}
 use Rattle.sdd_homes.specs.declared.Owner.{Owner}
 use Rattle.sdd_homes.specs.declared.Filling.{Filling}
 use Rattle.sdd_homes.specs.declared.Garbage.{Garbage}
-use Rattle.sdd_homes.specs.Book.{Content, part, home, lease, Lends, Apart, recounted, blank, room, deed, bag}
+use Rattle.sdd_homes.specs.Book.{Content, part, home, lease, Lends, Apart, recounted, blank, room, deed}
 use Rattle.domain_table.specs.Views.{spent, gathering, registered, reading, rereading, publishing, rotated, looking, closing}
-use Rattle.domain_table.specs.Layout.{state_word, claim_word, slot_word, all_homes, bag_place, Tells, shown}
+use Rattle.domain_table.specs.Layout.{state_word, claim_word, slot_word, link_word, all_homes, Tells, shown}
+use Rattle.domain_table.specs.Chains.{is_threaded, left_code, AllBelow}
 use Rattle.domain_table.specs.Owners.{slot_code, part_of, besides}
 use Rattle.domain_table.specs.declared.board.Acting.{Acting}
 use Rattle.domain_table.specs.declared.board.CellStep.{CellStep}
@@ -64,9 +65,9 @@ module _ {S : Type 0} where
   abbrev pub sit_then : Step S → Me S Acting → ℕ → Me S Acting → Type 0
   sit_then t m n m' = m'.0 ≡ spent
 
-  -- the two slots that were in front of what was out with the seat are back
+  -- the slot that was in front of what was out with the seat is back
   abbrev pub end_then : Step S → Me S Acting → ℕ → Me S Acting → Type 0
-  end_then t m n m' = m' ≡ (spent, rest (rest m.1))
+  end_then t m n m' = m' ≡ (spent, rest m.1)
 
 -- what is announced with the step, how large the place is, is so
 abbrev pub learn_then : {S : Type 0} → (S → Sizes → Type 0) → Step S → Me S Acting → ℕ → Me S Acting → Type 0
@@ -77,6 +78,10 @@ abbrev pub Steady : {S : Type 0} → Me S Acting → Me S Acting → Type 0
 Steady m m' = (m'.0.kind ≡ m.0.kind) × (m'.0.number ≡ m.0.number) × (m'.0.born ≡ m.0.born) × (m'.0.sizes ≡ m.0.sizes) × (m'.0.spare ≡ m.0.spare) × (m'.0.hand ≡ m.0.hand) × (m'.0.leases ≡ m.0.leases) × (m'.0.releasing ≡ m.0.releasing) × (m'.0.slot ≡ m.0.slot)
     × (m'.0.filling ≡ m.0.filling) × (m'.0.waits ≡ m.0.waits) × (m'.0.left ≡ m.0.left) × (m'.1 ≡ m.1)
     × (m'.0.cell_steps ≡ m.0.cell_steps)
+
+-- and but for what it takes over
+abbrev pub SteadyButWaits : {S : Type 0} → Me S Acting → Me S Acting → Type 0
+SteadyButWaits m m' = Steady (record m.0 { waits = m'.0.waits }, m.1) m'
 
 -- the seat acts for p, whose guard is open with the count e, at this stage of a scan
 abbrev pub Scans : {S : Type 0} → Seat S Acting → ℕ → ℕ → ℕ → Type 0
@@ -134,26 +139,14 @@ end_all_then t m n m' = m' ≡ (ending m.0, drop (length m.0.leases) m.1)
 abbrev pub own_spare : Acting → ℕ → ℕ
 own_spare d y = all_homes d.sizes + y
 
--- where the participant's bag lies
-abbrev pub own_bag : Acting → ℕ
-own_bag d = all_homes d.sizes + bag_place d.sizes d.number
-
 module _ {S : Type 0} (IsIn : Content → S → Type 0) where
   -- the participant's spare slot is in front of what is out with the seat, and is empty
   abbrev pub HasSpare : Me S Acting → List (ℕ × S) → Type 0
   HasSpare m tail = (u : S) × IsIn blank u × (m.1 ≡ (own_spare m.0 m.0.spare, u) ∷ tail)
 
-  -- behind it is the participant's bag, with these items
-  abbrev pub HasBag : Me S Acting → List Garbage → List (ℕ × S) → Type 0
-  HasBag m ws tail = (b : S) × IsIn (bag m.0.sizes.slots ws) b × HasSpare m ((own_bag m.0, b) ∷ tail)
-
-  -- the seat has come to act for the participant q, whose spare slot y came out, and whose bag
+  -- the seat has come to act for the participant q, whose spare slot y came out
   abbrev pub HasRegistered : Me S Acting → ℕ → ℕ → Me S Acting → Type 0
-  HasRegistered m q y m' = (sizes : Sizes) × (ws : List Garbage) × (m'.0 ≡ registered sizes y ws q) × HasBag m' ws m.1
-
-  -- the participant leaves what it retired, behind what it hasn't taken over
-  abbrev pub CanLeave : Me S Acting → List (ℕ × S) → Type 0
-  CanLeave m tail = HasBag m (m.0.left ++ m.0.waits) tail
+  HasRegistered m q y m' = (sizes : Sizes) × (m'.0 ≡ registered sizes y q) × HasSpare m' m.1
 
   -- a participant for which nobody acts is claimed: its word tells its spare slot
   abbrev pub claim_then : Step S → Me S Acting → ℕ → Me S Acting → Type 0
@@ -188,12 +181,12 @@ clone_then t m n m' = (l : Lease) → Has m.0.leases l → t.word ≡ slot_word 
 
 -- with the last owner the item waits, with age 0, or it is put into the private bag with a note, where there is one; 3 is the word of an item with one owner
 abbrev pub retiring : Option ℕ → ℕ → Lease → List Garbage → List Garbage
-retiring None n l ws = cond (n == 3) (record { item = l.item; slot = l.slot; round = l.round; age = 0 } ∷ ws) ws
+retiring None n l ws = cond (n == 3) (record { item = l.item; slot = l.slot; round = l.round; age = 0; next = 0 } ∷ ws) ws
 retiring (Some note) n l ws = ws
 
 abbrev pub collecting : Option ℕ → ℕ → Lease → List Garbage → List Garbage
 collecting None n l ws = ws
-collecting (Some note) n l ws = cond (n == 3) (record { item = l.item; slot = l.slot; round = l.round; age = note } ∷ ws) ws
+collecting (Some note) n l ws = cond (n == 3) (record { item = l.item; slot = l.slot; round = l.round; age = note; next = 0 } ∷ ws) ws
 
 -- a note is the count that was read again under the open guard
 abbrev pub MayNote : Option ℕ → Participant → Type 0
@@ -341,21 +334,36 @@ module _ {S : Type 0} (IsIn : Content → S → Type 0) where
   abbrev pub place_then : Step S → Me S Acting → ℕ → Me S Acting → Type 0
   place_then t m n m' = (f : Filling) (tail : List (ℕ × S)) → CanPlace m f tail → (i : ℕ) × (m' ≡ (placing i f m.0, tail))
 
--- the item w, which was left, is retired by the participant now, with age 0; the others are still left
-abbrev pub taking_over : Garbage → List Garbage → Acting → Acting
-taking_over w ws d = record d { left = ws; waits = record w { age = 0 } ∷ d.waits }
+-- all these are retired by the participant now, with age 0
+abbrev pub taken_all : List Garbage → List Garbage → List Garbage
+taken_all [] vs = vs
+taken_all (w ∷ ws) vs = record w { age = 0 } ∷ taken_all ws vs
 
--- the last of what was left is taken over
-abbrev pub take_over_then : {S : Type 0} → Step S → Me S Acting → ℕ → Me S Acting → Type 0
-take_over_then t m n m' = (w : Garbage) (ws : List Garbage) → m.0.left ≡ ws ++ w ∷ [] → m' ≡ (taking_over w ws m.0, m.1)
+-- what the word of an ended participant told is taken over, with age 0, in its order
+abbrev pub HasTakenLeft : {S : Type 0} → Me S Acting → ℕ → ℕ → Me S Acting → Type 0
+HasTakenLeft m n own m' = (ws : List Garbage) × (n ≡ left_code ws) × (is_threaded ws ≡ true) × AllBelow m.0.sizes.slots ws × (m' ≡ (record m.0 { waits = taken_all ws m.0.waits; left = own }, m.1))
+
+abbrev pub take_left_then : {S : Type 0} → Step S → Me S Acting → ℕ → Me S Acting → Type 0
+take_left_then t m n m' = HasTakenLeft m n m.0.left m'
+
+-- the same of the seat's own participant: nothing of it is left then
+abbrev pub take_own_then : {S : Type 0} → Step S → Me S Acting → ℕ → Me S Acting → Type 0
+take_own_then t m n m' = HasTakenLeft m n 1 m'
+
+-- the participant leaves all that it retired, and is a newcomer
+abbrev pub leaving : Acting → Acting
+leaving d = record d { known = record d.known { found = 0 }; waits = []; left = 0 }
+
+abbrev pub leave_then : {S : Type 0} → Step S → Me S Acting → ℕ → Me S Acting → Type 0
+leave_then t m n m' = m' ≡ (leaving m.0, m.1)
 
 -- the item w, which is in a private bag, is retired by the participant now, with age 0; the others are in it still
 abbrev pub handing_over : Garbage → List Garbage → Acting → Acting
 handing_over w ws d = record d { collected = ws; waits = record w { age = 0 } ∷ d.waits }
 
--- what is in the private bag the longest is retired, for which there is room
+-- what is in the private bag the longest is retired
 abbrev pub hand_over_then : {S : Type 0} → Step S → Me S Acting → ℕ → Me S Acting → Type 0
-hand_over_then t m n m' = (w : Garbage) (ws : List Garbage) → m.0.collected ≡ ws ++ w ∷ [] → (length m.0.waits < m.0.sizes.slots) × (m' ≡ (handing_over w ws m.0, m.1))
+hand_over_then t m n m' = (w : Garbage) (ws : List Garbage) → m.0.collected ≡ ws ++ w ∷ [] → (w.slot < m.0.sizes.slots) × (m' ≡ (handing_over w ws m.0, m.1))
 
 -- the item w is being reclaimed, and has given up the owners hs; the others still wait
 abbrev pub reclaiming : Garbage → List Owner → List Garbage → Acting → Acting
@@ -399,3 +407,34 @@ module _ {S : Type 0} (IsIn : Content → S → Type 0) where
 
   abbrev pub vacates_then : Step S → Me S Acting → ℕ → Me S Acting → Type 0
   vacates_then t m n m' = (f : Filling) (tail : List (ℕ × S)) → CanVacate m f tail → m' ≡ (record m.0 { filling = None }, tail)
+
+-- what is in slot k is followed by what n tells
+abbrev pub linked_to : ℕ → ℕ → List Garbage → List Garbage
+linked_to k n [] = []
+linked_to k n (w ∷ ws) = record w { next = cond (w.slot == k) n w.next } ∷ linked_to k n ws
+
+abbrev pub linking : ℕ → ℕ → Acting → Acting
+linking k n d = record d { waits = linked_to k n d.waits; collected = linked_to k n d.collected }
+
+-- a bag of the acting participant holds what is in slot k: its own, or the private one at its seat
+abbrev pub HoldsSlot : Acting → ℕ → Type 0
+HoldsSlot d k = (w : Garbage) × (Has d.waits w ⊎ Has d.collected w) × (w.slot ≡ k)
+
+-- no two of these are in one slot
+abbrev pub SlotsApart : List Garbage → Type 0
+SlotsApart [] = Unit {0}
+SlotsApart (w ∷ ws) = ((v : Garbage) → Has ws v → v.slot ≢ w.slot) × SlotsApart ws
+
+-- n is what is known of the link word of slot k
+abbrev pub TellsLink : Acting → ℕ → ℕ → Type 0
+TellsLink d k n = (w : Garbage) → Has d.waits w ⊎ Has d.collected w → w.slot ≡ k → w.next ≢ 0 → n ≡ w.next
+
+module _ {S : Type 0} where
+  -- what waits is in slots of its own, and so is what is in the private bag
+  abbrev pub load_link_then : Step S → Me S Acting → ℕ → Me S Acting → Type 0
+  load_link_then t m n m' = (m' ≡ m) × SlotsApart m.0.waits × SlotsApart m.0.collected × ((k : ℕ) → t.word ≡ link_word m.0.sizes k → TellsLink m.0 k n)
+
+-- what came into the bag before w is followed by it
+abbrev pub follow_then : {S : Type 0} → Step S → Me S Acting → ℕ → Me S Acting → Type 0
+follow_then t m n m' = (xs : List Garbage) (w v : Garbage) (ys : List Garbage) → m.0.waits ≡ xs ++ (w ∷ v ∷ ys) → t.word ≡ link_word m.0.sizes v.slot → t.first ≡ suc w.slot
+    → m' ≡ (record m.0 { waits = xs ++ (w ∷ record v { next = suc w.slot } ∷ ys) }, m.1)

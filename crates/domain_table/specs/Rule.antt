@@ -1,5 +1,5 @@
 -- The rule of the table of a shared place: its words and views show a state of the single steps that meets their invariant.
-use Rattle.std.specs.Prelude.{◌≡◌, ◌≢◌, ℕ, zero, suc, ◌+◌, ◌<◌, ◌≤◌, List, [], ◌∷◌, ◌++◌, length, replicate, slice_index}
+use Rattle.std.specs.Prelude.{◌≡◌, ◌≢◌, true, ℕ, zero, suc, ◌+◌, ◌<◌, ◌≤◌, List, [], ◌∷◌, ◌++◌, length, replicate, slice_index}
 use mathlib.Core.Option.{some}
 use lib.ListN.{get_elem?}
 use Rattle.atomic_table.specs.Table.{State}
@@ -11,9 +11,11 @@ use Rattle.sdd_steps.specs.Steps.{Schedule}
 use Rattle.sdd_steps.specs.declared.step.Step.{Step}
 use Rattle.sdd_steps.specs.Invariant.{Inv}
 use Rattle.sdd_homes.specs.Book.{Content, Book}
+use Rattle.sdd_homes.specs.declared.Garbage.{Garbage}
 use Rattle.domain_table.specs.Views.{rested}
 use Rattle.domain_table.specs.Items.{Items}
-use Rattle.domain_table.specs.Layout.{count_word, lock_word, state_word, claim_word, epoch_words, shown}
+use Rattle.domain_table.specs.Layout.{count_word, lock_word, state_word, claim_word, left_word, epoch_words, shown}
+use Rattle.domain_table.specs.Chains.{is_threaded, left_code}
 use Rattle.domain_table.specs.declared.board.Acting.{Acting}
 use Rattle.domain_table.specs.declared.board.Plan.{Plan}
 
@@ -66,9 +68,14 @@ abbrev pub first_eights : ℕ → ℕ → List ℕ
 first_eights cells zero = []
 first_eights cells (suc n) = first_eights cells n ++ first_eight (cells + n)
 
--- the words of a new place: the count, 15 of 0, those of participants, those of cells, each of which has the spare slot of its own number, and 0 for each slot
+-- the words of a new place: the count, 15 of 0, those of participants, those of cells, each of which has the spare slot of its own number, and two words of 0 for each slot
 abbrev pub first_words : Plan → List ℕ
-first_words plan = plan.first ∷ (replicate 15 zero ++ (first_eights plan.sizes.cells plan.sizes.participants ++ (numbers plan.sizes.cells ++ replicate plan.sizes.slots zero)))
+first_words plan = plan.first ∷ (replicate 15 zero ++ (first_eights plan.sizes.cells plan.sizes.participants ++ (numbers plan.sizes.cells ++ replicate (plan.sizes.slots + plan.sizes.slots) zero)))
+
+-- what participants left when they ended, as their words tell
+pub record Lefts (n : ℕ) (words : List ℕ) (left : ℕ → List Garbage) : Type 0 where
+  pub told : (p : ℕ) → p < n → slice_index words (left_word p) ≡ left_code (left p)
+  pub chained : (p : ℕ) → is_threaded (left p) ≡ true
 
 -- Between any two steps: single steps have led from the beginning to a state that meets their invariant, and the words and views show it.
 pub record Shows {S : Type 0} (IsIn : Content → S → Type 0) (plan : Plan) (s : State S Acting) : Type 0 where
@@ -80,3 +87,4 @@ pub record Shows {S : Type 0} (IsIn : Content → S → Type 0) (plan : Plan) (s
   pub epochs : Epochs plan.sizes.participants state born s.words s.views
   pub book : Book
   pub items : Items IsIn plan.sizes state book s.words s.homes s.views
+  pub lefts : Lefts plan.sizes.participants s.words book.left

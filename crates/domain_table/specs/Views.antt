@@ -10,7 +10,7 @@ use Rattle.domain_table.specs.declared.board.Acting.{Acting}
 
 -- nothing: the view of a seat that acts for nobody
 abbrev pub spent : Acting
-spent = record { kind = 0; number = 0; scan = 0; born = 0; known = newcomer; sizes = record { participants = 0; slots = 0; cells = 0; jobs = 0 }; spare = 0; hand = []; leases = []; releasing = 0; slot = 0; filling = None; waits = []; left = []; collected = []; cell_steps = [] }
+spent = record { kind = 0; number = 0; scan = 0; born = 0; known = newcomer; sizes = record { participants = 0; slots = 0; cells = 0; jobs = 0 }; spare = 0; hand = []; leases = []; releasing = 0; slot = 0; filling = None; waits = []; left = 0; collected = []; cell_steps = [] }
 
 -- the view of a seat that has the owner o, and acts for nobody
 abbrev pub holding : Owner → Acting
@@ -20,9 +20,9 @@ holding o = record spent { kind = 3; hand = o ∷ [] }
 abbrev pub gathering : List Garbage → Acting
 gathering ws = record spent { collected = ws }
 
--- the view of a seat that has just come to act for the participant p, which has the spare slot y and left these items when it ended
-abbrev pub registered : Sizes → ℕ → List Garbage → ℕ → Acting
-registered sizes y ws p = record spent { kind = 1; number = p; sizes = sizes; spare = y; left = ws }
+-- the view of a seat that has just come to act for the participant p, which has the spare slot y
+abbrev pub registered : Sizes → ℕ → ℕ → Acting
+registered sizes y p = record spent { kind = 1; number = p; sizes = sizes; spare = y }
 
 -- the seat has no owner, and nothing of the participant's homes
 abbrev pub IsBare : Acting → Type 0

@@ -1,92 +1,214 @@
 //! What a participant has retired, by how often it has rotated since.
+//!
+//! A bag takes no memory of its own: it is where it begins and where it ends. What is between is told by the link words of
+//! the slots (`links`), each of which names what came into the bag next. So to put an item in, to turn the bags, to join two
+//! of them and to take the oldest item out takes one step on one link word at most, whatever the bags hold, and no bag can
+//! be full.
 
-ghost use Rattle.std.specs.Prelude.{◌≡◌, ◌+◌, ◌<◌, ◌∷◌, [], List, IfOk, length, IfSome, IfNone, nat_lt};
-ghost use Rattle.std.specs.VecDeque.{deque_len, deque_capacity};
+ghost use Rattle.std.specs.Prelude.{◌≡◌, ◌∷◌, ◌++◌, ◌<◌, [], List, ℕ, None, IfSome, IfNone, length, nat_lt};
 ghost use Rattle.sdd_homes.specs.declared.Garbage.{Garbage};
+ghost use Rattle.domain_table.specs.Bags.{IsBag, AreAlike, aged};
+ghost use Rattle.domain_table.specs.Chains.{AllBelow};
+ghost use Rattle.domain_table.specs.Fitting.{FitsSizes};
+ghost use Rattle.domain_table.specs.Ledgers.{WaitsIn, Rearranges};
+ghost use Rattle.domain_table.specs.Plays.{taken_all};
 ghost use Rattle.domain_table.specs.Views.{older_waits};
 
-use std::alloc::{AllocError, Global};
-use std::collections::VecDeque;
+use crate::board::{Place, Words};
+use crate::holding::Holding;
+use crate::links::{follow, load_link};
+use sdd_base::sizes::Sizes;
+
+/// Where a bag that isn't empty begins and ends: the slots of its oldest and of its newest item.
+#[derive(Clone, Copy, Drop)]
+pub struct Ends {
+    pub first: usize,
+    pub last: usize,
+}
+
+/// Joins two bags that lie one behind the other: what is in `newer` comes behind all that is in `older`.
+fn join<T, H: Holding<T>>(
+    words: &Words<T, H>,
+    place: &mut Place<T>,
+    sizes: &Sizes,
+    newer: Option<Ends>,
+    older: Option<Ends>,
+) -> Option<Ends>
+    requires table { FitsSizes words.now.table_id words.now.key.sizes place.old.table_id place.old.me.0.sizes sizes.now }
+    requires acts { (place.old.me.0.kind ≡ 1) × AllBelow sizes.now.slots place.old.me.0.waits }
+    requires bags { (fs : List Garbage) × (bs : List Garbage) × (rest : List Garbage) × (place.old.me.0.waits ≡ fs ++ (bs ++ rest)) × IsBag fs newer × IsBag bs older }
+    ensures seat { (place.new.table_id ≡ place.old.table_id) × (place.new.id ≡ place.old.id) }
+    ensures joined { (fs bs rest : List Garbage) → place.old.me.0.waits ≡ fs ++ (bs ++ rest) → IsBag fs newer → IsBag bs older
+        → (cs : List Garbage) × AreAlike bs cs × IsBag (fs ++ cs) result × (place.new.me ≡ (record place.old.me.0 { waits = fs ++ (cs ++ rest) }, place.old.me.1)) }
+{
+    let Some(behind) = newer else {
+        return older;
+    };
+    let Some(front) = older else {
+        return newer;
+    };
+    follow(words, place, sizes, front.last, behind.first);
+    Some(Ends {
+        first: front.first,
+        last: behind.last,
+    })
+}
+
+/// Takes out of the bag what has been in it the longest, which is behind all else that waits. The item waits on.
+fn take_first<T, H: Holding<T>>(
+    words: &Words<T, H>,
+    place: &mut Place<T>,
+    sizes: &Sizes,
+    bag: Option<Ends>,
+) -> (Option<usize>, Option<Ends>)
+    requires table { FitsSizes words.now.table_id words.now.key.sizes place.old.table_id place.old.me.0.sizes sizes.now }
+    requires acts { (place.old.me.0.kind ≡ 1) × AllBelow sizes.now.slots place.old.me.0.waits }
+    requires bag { (ps : List Garbage) × (cs : List Garbage) × (place.old.me.0.waits ≡ ps ++ cs) × IsBag cs bag }
+    ensures seat { (place.new.table_id ≡ place.old.table_id) × (place.new.id ≡ place.old.id) × (place.new.me ≡ place.old.me) }
+    ensures none { IfNone result.0 ((bag ≡ None) × (result.1 ≡ None)) }
+    ensures taken { IfSome result.0 (λ slot. (ps cs : List Garbage) → place.old.me.0.waits ≡ ps ++ cs → IsBag cs bag → (ds : List Garbage) × (w : Garbage) × (cs ≡ ds ++ w ∷ []) × (w.slot ≡ slot) × IsBag ds result.1) }
+{
+    let Some(ends) = bag else {
+        return (None, None);
+    };
+    let found = load_link(words, place, sizes, ends.first);
+    if ends.first == ends.last {
+        return (Some(ends.first), None);
+    }
+    (
+        Some(ends.first),
+        Some(Ends {
+            first: found as usize - 1,
+            last: ends.last,
+        }),
+    )
+}
 
 /// Three bags, by age, and what is due: that was retired three rotations ago.
-#[derive(Drop)]
+#[derive(Clone, Copy, Drop)]
 pub struct Bags {
-    /// The slots of all that waits, what was retired last in front.
-    pub slots: VecDeque<usize>,
-    pub current: usize,
-    pub previous: usize,
-    pub next: usize,
-    pub due: usize,
-    ghost counted: { deque_len slots ≡ current + previous + next + due },
+    pub current: Option<Ends>,
+    pub previous: Option<Ends>,
+    pub next: Option<Ends>,
+    pub due: Option<Ends>,
 }
 
 impl Bags {
-    ghost use Rattle.domain_table.specs.Ledgers.{TakesLongest, WaitsIn};
-
-    /// Empty bags, with room for so many items.
-    pub(crate) fn new(alloc: Global, room: usize) -> Result<Bags, AllocError>
-        ensures { IfOk result (λ b. WaitsIn [] b × (b.due ≡ 0) × (deque_capacity b.slots ≡ room)) }
+    /// Empty bags.
+    pub fn new() -> Bags
+        ensures waits { (n : ℕ) → WaitsIn n [] result }
+        ensures due { result.due ≡ None }
     {
-        let slots = VecDeque::with_capacity(alloc, room)?;
-        Ok(Bags {
-            slots,
-            current: 0,
-            previous: 0,
-            next: 0,
-            due: 0,
-        })
+        Bags {
+            current: None,
+            previous: None,
+            next: None,
+            due: None,
+        }
     }
 
-    /// Puts an item into the current bag, where there is room for it.
-    pub fn retire(&mut self, slot: usize)
-        requires { deque_len self.old.slots < deque_capacity self.old.slots }
-        ensures retired { (ws : List Garbage) (w : Garbage) → WaitsIn ws self.old → w.slot ≡ slot → w.age ≡ 0 → WaitsIn (w ∷ ws) self.new }
-        ensures same { (self.new.due ≡ self.old.due) × (deque_capacity self.new.slots ≡ deque_capacity self.old.slots) }
-        ensures longer { deque_len self.new.slots ≡ deque_len self.old.slots + 1 }
+    /// What the participant has just retired, in `slot`, comes into the current bag.
+    pub fn retire<T, H: Holding<T>>(
+        &mut self,
+        words: &Words<T, H>,
+        place: &mut Place<T>,
+        sizes: &Sizes,
+        slot: usize,
+    )
+        requires table { FitsSizes words.now.table_id words.now.key.sizes place.old.table_id place.old.me.0.sizes sizes.now × (slot < sizes.now.slots) }
+        requires acts { place.old.me.0.kind ≡ 1 }
+        requires retired { (w : Garbage) × (ws : List Garbage) × (place.old.me.0.waits ≡ w ∷ ws) × (w.slot ≡ slot) × (w.age ≡ 0) × WaitsIn sizes.now.slots ws self.old }
+        ensures seat { (place.new.table_id ≡ place.old.table_id) × (place.new.id ≡ place.old.id) }
+        ensures waits { Rearranges sizes.now.slots place.old.me self.new place.new.me }
+        ensures due { (self.new.due ≡ self.old.due) × (aged 3 place.new.me.0.waits ≡ aged 3 place.old.me.0.waits) }
     {
-        let Bags { slots, current, .. } = self;
-        slots.push_front_reserved(slot);
-        *current += 1;
+        let alone = Ends {
+            first: slot,
+            last: slot,
+        };
+        self.current = join(words, place, sizes, Some(alone), self.current);
+    }
+
+    /// What the participant has just taken over comes into the current bag, in its order.
+    pub fn take_over<T, H: Holding<T>>(
+        &mut self,
+        words: &Words<T, H>,
+        place: &mut Place<T>,
+        sizes: &Sizes,
+        chain: Option<Ends>,
+    )
+        requires table { FitsSizes words.now.table_id words.now.key.sizes place.old.table_id place.old.me.0.sizes sizes.now }
+        requires acts { place.old.me.0.kind ≡ 1 }
+        requires taken { (ts : List Garbage) × (ws : List Garbage) × (place.old.me.0.waits ≡ taken_all ts ws) × IsBag ts chain × AllBelow sizes.now.slots ts × WaitsIn sizes.now.slots ws self.old }
+        ensures seat { (place.new.table_id ≡ place.old.table_id) × (place.new.id ≡ place.old.id) }
+        ensures waits { Rearranges sizes.now.slots place.old.me self.new place.new.me }
+        ensures due { self.new.due ≡ self.old.due }
+    {
+        self.current = join(words, place, sizes, chain, self.current);
     }
 
     /// Turns the bags by one, where nothing is due.
     pub fn rotate(&mut self)
-        requires { self.old.due ≡ 0 }
-        ensures rotated { (ws : List Garbage) → WaitsIn ws self.old → WaitsIn (older_waits ws) self.new }
-        ensures same { deque_capacity self.new.slots ≡ deque_capacity self.old.slots }
+        requires { self.old.due ≡ None }
+        ensures { (n : ℕ) (ws : List Garbage) → WaitsIn n ws self.old → WaitsIn n (older_waits ws) self.new }
     {
         let Bags {
-            slots: _,
             current,
             previous,
             next,
-            due,
-        } = self;
-        *due = *next;
-        *next = *previous;
-        *previous = *current;
-        *current = 0;
+            due: _,
+        } = *self;
+        *self = Bags {
+            current: None,
+            previous: current,
+            next: previous,
+            due: next,
+        };
     }
 
     /// Whether anything waits.
     pub fn has_some(&self) -> bool
-        ensures { (ws : List Garbage) → WaitsIn ws self.now → result ≡ nat_lt 0 (length ws) }
+        ensures { (n : ℕ) (ws : List Garbage) → WaitsIn n ws self.now → result ≡ nat_lt 0 (length ws) }
     {
-        self.slots.len() > 0
+        self.current.is_some()
+            || self.previous.is_some()
+            || self.next.is_some()
+            || self.due.is_some()
     }
 
-    /// Takes out what has waited longest, if it is due.
-    pub fn take_due(&mut self) -> Option<usize>
-        ensures taken { IfSome result (λ slot. TakesLongest slot self.old self.new) }
-        ensures less { IfSome result (λ _. self.new.due + 1 ≡ self.old.due) }
-        ensures none { IfNone result ((self.new ≡ self.old) × (self.old.due ≡ 0)) }
-        ensures same { deque_capacity self.new.slots ≡ deque_capacity self.old.slots }
+    /// Takes out what has waited the longest, if it is due. It waits on, until it is reclaimed.
+    pub fn take_due<T, H: Holding<T>>(
+        &mut self,
+        words: &Words<T, H>,
+        place: &mut Place<T>,
+        sizes: &Sizes,
+    ) -> Option<usize>
+        requires table { FitsSizes words.now.table_id words.now.key.sizes place.old.table_id place.old.me.0.sizes sizes.now }
+        requires acts { place.old.me.0.kind ≡ 1 }
+        requires waits { WaitsIn sizes.now.slots place.old.me.0.waits self.old }
+        ensures seat { (place.new.table_id ≡ place.old.table_id) × (place.new.id ≡ place.old.id) × (place.new.me ≡ place.old.me) }
+        ensures none { IfNone result (WaitsIn sizes.now.slots place.old.me.0.waits self.new × (self.new.due ≡ None)) }
+        ensures taken { IfSome result (λ slot. (vs : List Garbage) × (w : Garbage) × (place.old.me.0.waits ≡ vs ++ w ∷ []) × (w.slot ≡ slot) × (w.age ≡ 3) × WaitsIn sizes.now.slots vs self.new) }
     {
-        let Bags { slots, due, .. } = self;
-        if *due == 0 {
-            return None;
-        }
-        *due -= 1;
-        slots.pop_back()
+        let (slot, due) = take_first(words, place, sizes, self.due);
+        self.due = due;
+        slot
+    }
+
+    /// Joins the three bags to one, where nothing is due.
+    pub fn joined<T, H: Holding<T>>(
+        self,
+        words: &Words<T, H>,
+        place: &mut Place<T>,
+        sizes: &Sizes,
+    ) -> Option<Ends>
+        requires table { FitsSizes words.now.table_id words.now.key.sizes place.old.table_id place.old.me.0.sizes sizes.now }
+        requires acts { place.old.me.0.kind ≡ 1 }
+        requires waits { WaitsIn sizes.now.slots place.old.me.0.waits self × (self.due ≡ None) }
+        ensures seat { (place.new.table_id ≡ place.old.table_id) × (place.new.id ≡ place.old.id) }
+        ensures joined { (ws : List Garbage) × IsBag ws result × AllBelow sizes.now.slots ws × (place.new.me ≡ (record place.old.me.0 { waits = ws }, place.old.me.1)) }
+    {
+        let newer = join(words, place, sizes, self.current, self.previous);
+        join(words, place, sizes, newer, self.next)
     }
 }

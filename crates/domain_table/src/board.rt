@@ -41,8 +41,8 @@ pub struct Acting {
     pub filling: Option<Filling>,
     /// What the participant has retired.
     pub waits: Seq<Garbage>,
-    /// What was left when the participant ended before, and isn't taken over yet.
-    pub left: Seq<Garbage>,
+    /// 1 where it is known that nothing is left of where the participant ended before.
+    pub left: u64,
     /// What is in a private bag that is at this seat.
     pub collected: Seq<Garbage>,
     /// Its steps on the words of cells, in their order.
@@ -61,8 +61,6 @@ pub enum Home<T> {
     Deed(Deed<Stored<T>, Global>),
     /// Parts of the right to read the item, and how many they are.
     Part(Part<Stored<T>>, u64),
-    /// A participant's bag: the slots of the items that it left when it ended.
-    Left(Vec<usize>),
     /// How large the place is: this lies in no slot, and is only said to a seat.
     Announced(Sizes),
 }

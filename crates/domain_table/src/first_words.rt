@@ -53,7 +53,7 @@ pub fn words_from(alloc: Global, plan: &Plan) -> Result<Vec<u64>, AllocError>
     push_zeros(&mut words, 15)?;
     push_participants(&mut words, plan.sizes.cells, plan.sizes.participants)?;
     push_numbers(&mut words, plan.sizes.cells)?;
-    push_zeros(&mut words, plan.sizes.slots)?;
+    push_zeros(&mut words, plan.sizes.slots + plan.sizes.slots)?;
     Ok(words)
 }
 

@@ -5,9 +5,9 @@ ghost use Rattle.std.specs.Mem.{manually_drop_value};
 ghost use Rattle.core.specs.Mem.Slots.{IsFull};
 ghost use Rattle.sdd_homes.specs.declared.Garbage.{Garbage};
 ghost use Rattle.sdd_homes.specs.declared.Owner.{Owner};
-ghost use Rattle.sdd_homes.specs.Book.{bag, deed, part, room};
+ghost use Rattle.sdd_homes.specs.Book.{deed, part, room};
 ghost use Rattle.domain_table.specs.Layout.{IsSized};
-ghost use Rattle.domain_table.specs.Contents.{AreIn, IsIn, garbage_slots, first_in_home, AreResting, AreBags, AreNewHomes};
+ghost use Rattle.domain_table.specs.Contents.{AreIn, IsIn, first_in_home, AreResting, AreNewHomes};
 ghost use Rattle.domain_table.specs.Owners.{told};
 ghost use Rattle.domain_table.specs.declared.board.Home.{Home};
 ghost use Rattle.domain_table.specs.declared.board.Home.TheVariants.{Blank};
@@ -35,7 +35,6 @@ pub fn let_go<T>(home: Home<T>) {
         Home::Room(room) => drop(room),
         Home::Deed(deed) => drop(unsafe { ManuallyDrop::new_unchecked(deed) }),
         Home::Part(part, _) => drop(unsafe { ManuallyDrop::new_unchecked(part) }),
-        Home::Left(slots) => drop(slots),
         Home::Announced(_) => {}
     }
 }
@@ -74,20 +73,6 @@ pub fn parts_of<T, H: Holding<T>>(home: Home<T>) -> (Part<Stored<T>>, u64)
 {
     match home {
         Home::Part(part, count) => (part, count),
-        other => {
-            let_go(other);
-            unreachable!()
-        }
-    }
-}
-
-/// The slots that are in a bag.
-pub fn slots_left<T, H: Holding<T>>(home: Home<T>) -> Vec<usize>
-    requires { (n : ℕ) × (ws : List Garbage) × IsIn H.holds (bag n ws) home }
-    ensures { (n : ℕ) (ws : List Garbage) → IsIn H.holds (bag n ws) home → (result.items ≡ garbage_slots ws) × (n ≤ vec_capacity result) × (length ws ≤ n) }
-{
-    match home {
-        Home::Left(slots) => slots,
         other => {
             let_go(other);
             unreachable!()
@@ -175,42 +160,7 @@ fn push_blanks<T>(homes: &mut Vec<Home<T>>, count: usize)
     }
 }
 
-/// Empty bags behind these, so many of them, where there is room for them; each has room for `slots` numbers.
-fn push_bags<T, H: Holding<T>>(
-    homes: &mut Vec<Home<T>>,
-    alloc: Global,
-    slots: usize,
-    count: usize,
-) -> Result<(), AllocError>
-    requires { vec_len homes.old + count ≤ vec_capacity homes.old }
-    ensures { OnOk result ((bags : List (Home T)) × (length bags ≡ count) × AreBags H.holds slots bags × (homes.new.items ≡ homes.old.items ++ bags)) }
-{
-    for _i in 0..count {
-        let bag = Vec::with_capacity(alloc, slots)?;
-        keep(homes, Home::Left(bag));
-    }
-    Ok(())
-}
-
-/// Puts the bags of `count` participants behind the homes, or lets go of these.
-fn with_bags<T, H: Holding<T>>(
-    homes: Vec<Home<T>>,
-    alloc: Global,
-    slots: usize,
-    count: usize,
-) -> Result<Vec<Home<T>>, AllocError>
-    requires { vec_len homes + count ≤ vec_capacity homes }
-    ensures { IfOk result (λ all. (bags : List (Home T)) × (length bags ≡ count) × AreBags H.holds slots bags × (all.items ≡ homes.items ++ bags)) }
-{
-    let mut homes = homes;
-    if push_bags::<T, H>(&mut homes, alloc, slots, count).is_err() {
-        clear(homes);
-        return Err(AllocError);
-    }
-    Ok(homes)
-}
-
-/// The homes and spare slots of a new place, and its bags.
+/// The homes and spare slots of a new place.
 pub fn homes_from<T, H: Holding<T>>(
     alloc: Global,
     sizes: &Sizes,
@@ -220,11 +170,11 @@ pub fn homes_from<T, H: Holding<T>>(
 {
     let own = sizes.slots * (sizes.participants + 1);
     let spares = sizes.cells + sizes.participants;
-    let mut homes = Vec::with_capacity(alloc, own + spares + sizes.participants)?;
+    let mut homes = Vec::with_capacity(alloc, own + spares)?;
     if push_rooms::<T, H>(&mut homes, alloc, sizes.participants * sizes.slots, own).is_err() {
         clear(homes);
         return Err(AllocError);
     }
     push_blanks(&mut homes, spares);
-    with_bags::<T, H>(homes, alloc, sizes.slots, sizes.participants)
+    Ok(homes)
 }

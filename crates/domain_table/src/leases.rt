@@ -77,7 +77,7 @@ fn refill<T, H: Holding<T>>(
 }
 
 /// Gives the parts of all leases back to their homes, once the life that they were lent to is over. The homes are in front
-/// of what is out with the seat then, and behind them the two slots that were in front.
+/// of what is out with the seat then, and behind them the slot that was in front.
 #[inline(never)]
 fn give_rows<T, H: Holding<T>>(
     words: &Words<T, H>,
@@ -89,15 +89,13 @@ fn give_rows<T, H: Holding<T>>(
 )
     requires table { ActsAmong words.now.table_id place.old.table_id place.old.me.0 slots number }
     requires rows { map row_told rows.old.items ≡ map (lease_told ended.now.id) place.old.me.0.leases }
-    requires out { (k : ℕ) × (l : ℕ) × (place.old.me.1 ≡ blanks (k ∷ l ∷ leased_homes place.old.me.0 place.old.me.0.leases)) }
+    requires out { (k : ℕ) × (place.old.me.1 ≡ blanks (k ∷ leased_homes place.old.me.0 place.old.me.0.leases)) }
     ensures seat { (place.new.table_id ≡ place.old.table_id) × (place.new.id ≡ place.old.id) }
     ensures filled { RefillsBehind (IsIn H.holds) place.old.me place.new.me }
     ensures empty { (rows.new.items ≡ []) × (deque_capacity rows.new ≡ deque_capacity rows.old) }
 {
     place.turn();
-    place.turn();
     refill(words, place, slots, number, rows, ended);
-    place.turn();
     place.turn();
 }
 
@@ -113,7 +111,7 @@ pub fn give_home<T, H: Holding<T>>(
 )
     requires table { ActsAmong words.now.table_id place.old.table_id place.old.me.0 slots number }
     requires rows { map row_told rows.old.items ≡ map (lease_told ended.now.id) place.old.me.0.leases }
-    requires out { (k : ℕ) × (l : ℕ) × (place.old.me.1 ≡ blanks (k ∷ l ∷ leased_homes place.old.me.0 place.old.me.0.leases)) }
+    requires out { (k : ℕ) × (place.old.me.1 ≡ blanks (k ∷ leased_homes place.old.me.0 place.old.me.0.leases)) }
     ensures seat { (place.new.table_id ≡ place.old.table_id) × (place.new.id ≡ place.old.id) }
     ensures filled { RefillsBehind (IsIn H.holds) place.old.me place.new.me }
     ensures empty { (rows.new.items ≡ []) × (deque_capacity rows.new ≡ deque_capacity rows.old) }

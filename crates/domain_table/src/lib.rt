@@ -16,6 +16,8 @@ pub mod holding;
 pub mod homes;
 pub mod leases;
 pub mod ledger;
+pub mod left;
+pub mod links;
 pub mod lives;
 pub mod loading;
 pub mod owners;

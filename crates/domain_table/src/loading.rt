@@ -110,7 +110,7 @@ pub fn lease<T, H: Holding<T>>(
     requires table { FitsSizes words.now.table_id words.now.key.sizes place.old.table_id place.old.me.0.sizes sizes.now × (number < sizes.now.participants) × (cell < sizes.now.cells) }
     requires open { (place.old.me.0.kind ≡ 1) × (place.old.me.0.number ≡ number) × (is_inside place.old.me.0.known ≡ true) }
     requires rows { HasRows life.now.id sizes.now.slots place.old.me.0.leases rows.old.items (deque_capacity rows.old) }
-    requires out { (k : ℕ) × (l : ℕ) × (has_all is_blank (k ∷ l ∷ leased_homes place.old.me.0 place.old.me.0.leases) place.old.me.1 ≡ true) }
+    requires out { (k : ℕ) × (has_all is_blank (k ∷ leased_homes place.old.me.0 place.old.me.0.leases) place.old.me.1 ≡ true) }
     ensures seat { (place.new.table_id ≡ place.old.table_id) × (place.new.id ≡ place.old.id) }
     ensures row { IfSome result.0 (λ at. at < deque_len rows.new) }
     ensures loaded { (w : ℕ) × HasLeased (with_step (cell_word sizes.now cell) w w place.old.me) place.new.me × IsFoundAs w (tag_number result.1) rows.new.items result.0 }

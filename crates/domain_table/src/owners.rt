@@ -87,7 +87,7 @@ pub fn release_home<T, H: Holding<T>, A: Aim>(
     requires owner { IsFirst place.old.me.0 slot owner.part.life.id × IsSome owner.part.seen.value }
     requires free { ¬ Lends place.old.me.0.leases slot }
     ensures seat { (place.new.table_id ≡ place.old.table_id) × (place.new.id ≡ place.old.id) }
-    ensures room { length place.old.me.0.waits < sizes.now.slots }
+    ensures low { slot < sizes.now.slots }
     ensures bag_room { length place.old.me.0.collected < sizes.now.slots }
     ensures released { HasReleased A.to slot result place.old.me place.old.me.0.leases place.new.me }
 {
@@ -116,7 +116,7 @@ fn release_leased<T, H: Holding<T>, A: Aim>(
     requires rows { ((life : ℕ) × (map row_told rows.old.items ≡ map (lease_told life) place.old.me.0.leases)) × (all_below sizes.now.slots (row_slots rows.old.items) ≡ true) }
     requires row { (at < deque_len rows.old) × ((d : Row T) → (slice_index_or rows.old.items at d).slot ≡ slot) }
     ensures seat { (place.new.table_id ≡ place.old.table_id) × (place.new.id ≡ place.old.id) }
-    ensures room { length place.old.me.0.waits < sizes.now.slots }
+    ensures low { slot < sizes.now.slots }
     ensures bag_room { length place.old.me.0.collected < sizes.now.slots }
     ensures released { (ls : List Lease) × (map (λ (l : Lease). l.slot) ls ≡ map (λ (l : Lease). l.slot) place.old.me.0.leases) × HasReleased A.to slot result place.old.me ls place.new.me }
     ensures rows { (life : ℕ) → map row_told rows.old.items ≡ map (lease_told life) place.old.me.0.leases → map row_told rows.new.items ≡ map (lease_told life) place.new.me.0.leases }
@@ -147,7 +147,7 @@ pub fn release<T, H: Holding<T>, A: Aim>(
     requires owner { IsFirst place.old.me.0 slot owner.part.life.id × IsSome owner.part.seen.value }
     requires rows { ((life : ℕ) × (map row_told rows.old.items ≡ map (lease_told life) place.old.me.0.leases)) × (all_below sizes.now.slots (row_slots rows.old.items) ≡ true) }
     ensures seat { (place.new.table_id ≡ place.old.table_id) × (place.new.id ≡ place.old.id) }
-    ensures room { length place.old.me.0.waits < sizes.now.slots }
+    ensures low { slot < sizes.now.slots }
     ensures bag_room { length place.old.me.0.collected < sizes.now.slots }
     ensures released { (ls : List Lease) × (map (λ (l : Lease). l.slot) ls ≡ map (λ (l : Lease). l.slot) place.old.me.0.leases) × HasReleased A.to slot result place.old.me ls place.new.me }
     ensures rows { (life : ℕ) → map row_told rows.old.items ≡ map (lease_told life) place.old.me.0.leases → map row_told rows.new.items ≡ map (lease_told life) place.new.me.0.leases }

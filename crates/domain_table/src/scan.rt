@@ -3,12 +3,16 @@
 ghost use Rattle.std.specs.Prelude.{◌≡◌, ◌≢◌, ℕ, ◌-◌, ◌^◌, ◌<◌, IsTrue, cond};
 ghost use Rattle.sdd_base.specs.Steps.{closings_after, scans};
 ghost use Rattle.sdd_steps.specs.State.{Has};
-ghost use Rattle.domain_table.specs.Fitting.{HasEpochs};
-ghost use Rattle.domain_table.specs.Plays.{Steady, Scans};
+ghost use Rattle.domain_table.specs.Fitting.{HasEpochs, FitsSizes};
+ghost use Rattle.domain_table.specs.Ledgers.{WaitsIn};
+ghost use Rattle.domain_table.specs.Plays.{Steady, SteadyButWaits, Scans};
 
+use crate::bags::Bags;
 use crate::board::{Place, Words};
 use crate::holding::Holding;
+use crate::left::take_all_left;
 use crate::steps::{give_lock, is_present, look, raise, take_lock};
+use sdd_base::sizes::Sizes;
 use sdd_base::status::LocalState;
 
 /// Whether each other participant is closed or has published the count `epoch`. It stops at the first that isn't.
@@ -33,11 +37,8 @@ fn all_agree<T, H: Holding<T>>(
     true
 }
 
-/// A scan of participant `number`, whose guard is open with the count `epoch`. It tries once for the scan lock, and
-/// raises the count by one only where that is the present one, and each other participant is closed or has published
-/// it. A count of `2^64 - 1` isn't raised.
-#[inline(never)]
-fn scan<T, H: Holding<T>>(
+/// Raises the count by one where it is `epoch`, and all others are closed or have published it; and gives the lock back.
+fn raise_if_all_agree<T, H: Holding<T>>(
     words: &Words<T, H>,
     place: &mut Place<T>,
     number: usize,
@@ -45,18 +46,42 @@ fn scan<T, H: Holding<T>>(
     epoch: u64,
 )
     requires table { HasEpochs words.now.table_id words.now.key.sizes place.old.table_id participants }
-    requires open { Scans place.old number epoch 0 }
+    requires open { Scans place.old number epoch 1 }
+    requires below { epoch < 2 ^ 64 - 1 }
     ensures { (place.new.table_id ≡ place.old.table_id) × (place.new.id ≡ place.old.id) × Steady place.old.me place.new.me × Scans place.new number epoch 0 }
 {
-    if epoch == u64::MAX || !take_lock(words, place, number, epoch) {
-        return;
-    }
     if is_present(words, place, number, epoch)
         && all_agree(words, place, number, participants, epoch)
     {
         raise(words, place, number, epoch);
     }
     give_lock(words, place, number, epoch);
+}
+
+/// A scan of participant `number`, whose guard is open with the count `epoch`. It tries once for the scan lock, and
+/// raises the count by one only where that is the present one, and each other participant is closed or has published
+/// it. A count of `2^64 - 1` isn't raised. With the lock it first takes over what ended participants left.
+#[inline(never)]
+fn scan<T, H: Holding<T>>(
+    words: &Words<T, H>,
+    place: &mut Place<T>,
+    sizes: &Sizes,
+    number: usize,
+    bags: &mut Bags,
+    epoch: u64,
+)
+    requires table { FitsSizes words.now.table_id words.now.key.sizes place.old.table_id place.old.me.0.sizes sizes.now }
+    requires open { Scans place.old number epoch 0 }
+    requires waits { WaitsIn sizes.now.slots place.old.me.0.waits bags.old }
+    ensures seat { (place.new.table_id ≡ place.old.table_id) × (place.new.id ≡ place.old.id) × SteadyButWaits place.old.me place.new.me × Scans place.new number epoch 0 }
+    ensures waits { WaitsIn sizes.now.slots place.new.me.0.waits bags.new }
+    ensures due { bags.new.due ≡ bags.old.due }
+{
+    if epoch == u64::MAX || !take_lock(words, place, number, epoch) {
+        return;
+    }
+    take_all_left(words, place, sizes, bags);
+    raise_if_all_agree(words, place, number, sizes.participants, epoch);
 }
 
 /// Whether this outermost closing scans, where `closings` counts it.
@@ -71,15 +96,19 @@ fn scans(own: &LocalState, closings: u8) -> bool
 pub fn scan_due<T, H: Holding<T>>(
     words: &Words<T, H>,
     place: &mut Place<T>,
+    sizes: &Sizes,
     number: usize,
-    participants: usize,
+    bags: &mut Bags,
     own: &mut LocalState,
 )
-    requires table { HasEpochs words.now.table_id words.now.key.sizes place.old.table_id participants }
+    requires table { FitsSizes words.now.table_id words.now.key.sizes place.old.table_id place.old.me.0.sizes sizes.now }
     requires open { Scans place.old number own.old.previous 0 }
-    ensures seat { (place.new.table_id ≡ place.old.table_id) × (place.new.id ≡ place.old.id) × Steady place.old.me place.new.me }
+    requires waits { WaitsIn sizes.now.slots place.old.me.0.waits bags.old }
+    ensures seat { (place.new.table_id ≡ place.old.table_id) × (place.new.id ≡ place.old.id) × SteadyButWaits place.old.me place.new.me }
     ensures open { Scans place.new number own.old.previous 0 }
     ensures counted { own.new ≡ record own.old { closings = cond (scans own.old) 0 (closings_after own.old) } }
+    ensures waits { WaitsIn sizes.now.slots place.new.me.0.waits bags.new }
+    ensures due { bags.new.due ≡ bags.old.due }
 {
     let closings = if own.closings < 64 {
         own.closings + 1
@@ -88,7 +117,7 @@ pub fn scan_due<T, H: Holding<T>>(
     };
     if scans(own, closings) {
         let epoch = own.previous;
-        scan(words, place, number, participants, epoch);
+        scan(words, place, sizes, number, bags, epoch);
         own.closings = 0;
     } else {
         own.closings = closings;

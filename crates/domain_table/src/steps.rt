@@ -11,7 +11,7 @@ ghost use Rattle.domain_table.specs.Contents.{IsIn, Announces};
 ghost use Rattle.domain_table.specs.Outcomes.{HasPublished};
 ghost use Rattle.domain_table.specs.Views.{IsBare, spent, reading, rotated, looking};
 ghost use Rattle.domain_table.specs.Layout.{lock_word, claim_word, epoch_words, all_words, IsSized, shown};
-ghost use Rattle.domain_table.specs.Plays.{read_then, publish_then, count_then, look_then, agree_then, raise_then, lock_then, unlock_then, sit_then, HasRegistered, CanLeave, claim_then, learn_then, taking_over, take_over_then, end_then, Steady, Scans};
+ghost use Rattle.domain_table.specs.Plays.{read_then, publish_then, count_then, look_then, agree_then, raise_then, lock_then, unlock_then, sit_then, HasRegistered, HasSpare, claim_then, learn_then, end_then, Steady, Scans};
 ghost use Rattle.domain_table.specs.declared.board.Home.{Home};
 
 use crate::board::{Acting, Home, Place, Words};
@@ -30,8 +30,8 @@ const STILL: usize = 1;
 /// The word of the scan lock.
 const LOCK: usize = 8;
 
-/// Each participant has eight words, of which it uses two, so that what it publishes has a cache line of its own.
-const STRIDE: usize = 8;
+/// Each participant has eight words, of which it uses three, so that what it publishes has a cache line of its own.
+pub(crate) const STRIDE: usize = 8;
 
 /// Where the first participant publishes.
 const STATE: usize = 16;
@@ -106,12 +106,6 @@ impl<T> Play<Home<T>, Acting> for OnLearn {
     ghost then = { learn_then Announces };
 }
 
-struct OnTakeOver;
-
-impl<T> Play<Home<T>, Acting> for OnTakeOver {
-    ghost then = { take_over_then };
-}
-
 struct OnEnd;
 
 impl<T> Play<Home<T>, Acting> for OnEnd {
@@ -134,8 +128,7 @@ pub fn sit<T, H: Holding<T>>(words: &Words<T, H>) -> Place<T>
     place
 }
 
-/// Tries once to act for participant `number`. Where nobody did, its spare slot comes out, empty: which one it is; and
-/// behind that its bag, with what was left when it ended before.
+/// Tries once to act for participant `number`. Where nobody did, its spare slot comes out, empty: which one it is.
 pub fn claim<T, H: Holding<T>>(
     words: &Words<T, H>,
     place: &mut Place<T>,
@@ -182,26 +175,14 @@ pub fn any_claimed<T, H: Holding<T>>(words: &Words<T, H>, sizes: &Sizes) -> bool
     false
 }
 
-/// Takes over the last of the items that were left where the participant ended before: the participant has retired it,
-/// and hasn't rotated since. The bag that is out stays as it is. No word changes.
-pub fn take_over<T, H: Holding<T>>(words: &Words<T, H>, place: &mut Place<T>)
-    requires table { (place.old.table_id ≡ words.now.table_id) × (1 < words.now.table_id.words) }
-    requires ready { (place.old.me.0.kind ≡ 1) × (is_ready place.old.me.0.known ≡ true) }
-    requires left { (w : Garbage) × (ws : List Garbage) × (place.old.me.0.left ≡ ws ++ w ∷ []) }
-    ensures seat { (place.new.table_id ≡ place.old.table_id) × (place.new.id ≡ place.old.id) }
-    ensures taken { (w : Garbage) (ws : List Garbage) → place.old.me.0.left ≡ ws ++ w ∷ [] → place.new.me ≡ (taking_over w ws place.old.me.0, place.old.me.1) }
-{
-    let _ = words.load::<OnTakeOver>(place, STILL);
-}
-
-/// Ends what the seat does for participant `number`, which somebody else may act for from now on. Its spare slot, which
-/// is in front of what is out with the seat, goes back empty, and behind that its bag: there the participant leaves what
-/// it retired, behind what it hasn't taken over.
+/// Ends what the seat does for participant `number`, which has left what it retired, and which somebody else may act for
+/// from now on. Its spare slot, which is in front of what is out with the seat, goes back empty.
 pub fn end<T, H: Holding<T>>(words: &Words<T, H>, place: &mut Place<T>, number: usize, spare: u64)
     requires table { (place.old.table_id ≡ words.now.table_id) × (number < 2 ^ 30) × (claim_word number < words.now.table_id.words) }
-    requires rests { (place.old.me.0.kind ≡ 1) × (place.old.me.0.number ≡ number) × (place.old.me.0.known.phase ≡ Idle) × (place.old.me.0.scan ≡ 0) × IsBare place.old.me.0 }
-    requires spare { (place.old.me.0.spare ≡ spare) × (spare < 2 ^ 31) × ((tail : List (ℕ × Home T)) × CanLeave (IsIn H.holds) place.old.me tail) }
-    ensures { (place.new.table_id ≡ place.old.table_id) × (place.new.id ≡ place.old.id) × (place.new.me ≡ (spent, rest (rest place.old.me.1))) }
+    requires rests { (place.old.me.0.kind ≡ 1) × (place.old.me.0.number ≡ number) × (place.old.me.0.known.phase ≡ Idle) × (place.old.me.0.known.found ≡ 0) × IsBare place.old.me.0 }
+    requires gone { place.old.me.0.waits ≡ [] }
+    requires spare { (place.old.me.0.spare ≡ spare) × (spare < 2 ^ 31) × ((tail : List (ℕ × Home T)) × HasSpare (IsIn H.holds) place.old.me tail) }
+    ensures { (place.new.table_id ≡ place.old.table_id) × (place.new.id ≡ place.old.id) × (place.new.me ≡ (spent, rest place.old.me.1)) }
 {
     words.store::<OnEnd>(place, STRIDE * number + CLAIM, spare + 1);
 }

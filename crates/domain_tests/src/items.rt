@@ -6,7 +6,9 @@ ghost use Rattle.sdd_domain.specs.Tokens.{place_of, home_of, hand_of, own_of, Is
 
 use crate::guard::pass;
 use crate::hands::told;
-use crate::steps::Act::{Alternate, Join, Passes, Place, Read, Release, Second, Sum, Third};
+use crate::steps::Act::{
+    Alternate, Join, Leave, Passes, Place, Read, Release, Second, Slots, Sum, Third,
+};
 use crate::steps::Found::{Is, Nothing, Yes};
 use crate::steps::Part::{Apart, Crowd, Renew};
 use crate::steps::{Found, Table, Task};
@@ -99,8 +101,55 @@ pub(crate) const FULL: Table = Table {
     ])],
 };
 
-/// What an ended participant left is reclaimed by the next one. That begins at the count 0, so its first opening rotates,
-/// and the third one reclaims.
+/// What a participant left when it ended goes to another one, which was registered before.
+pub(crate) const LEFT_TO_ANOTHER: Table = Table {
+    participants: 2,
+    slots: 1,
+    cells: 4,
+    first: 0,
+    parts: &[Apart(&[
+        (Join, Is(1)),
+        (Place(1), Nothing),
+        (Release, Yes),
+        (Alternate, Nothing),
+        (Leave, Nothing),
+        (Passes(true, 3), Nothing),
+        (Place(2), Is(2)),
+        (Passes(true, 1), Nothing),
+        (Place(2), Nothing),
+        (Release, Yes),
+    ])],
+};
+
+/// A participant ends twice before any closing scans: what it left both times goes to the other one together.
+pub(crate) const LEFT_TWICE: Table = Table {
+    participants: 2,
+    slots: 2,
+    cells: 4,
+    first: 0,
+    parts: &[Apart(&[
+        (Join, Is(1)),
+        (Alternate, Nothing),
+        (Place(1), Nothing),
+        (Release, Yes),
+        (Alternate, Nothing),
+        (Leave, Nothing),
+        (Join, Is(1)),
+        (Alternate, Nothing),
+        (Place(2), Nothing),
+        (Release, Yes),
+        (Alternate, Nothing),
+        (Leave, Nothing),
+        (Slots, Is(2)),
+        (Passes(true, 3), Nothing),
+        (Slots, Is(2)),
+        (Passes(true, 1), Nothing),
+        (Slots, Is(0)),
+    ])],
+};
+
+/// What an ended participant left goes to the next one at the first closing that scans, with age 0, so the fourth opening
+/// reclaims it.
 pub(crate) const LEFT_BEHIND: Table = Table {
     participants: 1,
     slots: 2,
@@ -119,7 +168,7 @@ pub(crate) const LEFT_BEHIND: Table = Table {
         ]),
         Renew,
         Apart(&[
-            (Passes(true, 1), Nothing),
+            (Passes(true, 2), Nothing),
             (Place(3), Is(3)),
             (Passes(true, 1), Nothing),
             (Place(3), Is(3)),

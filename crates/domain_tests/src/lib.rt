@@ -20,6 +20,8 @@ mod items;
 #[cfg(test)]
 mod jobs;
 #[cfg(test)]
+mod left;
+#[cfg(test)]
 mod nested;
 #[cfg(test)]
 mod owners;

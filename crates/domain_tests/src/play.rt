@@ -162,6 +162,8 @@ const TABLES: &[Table] = &[
     items::READ_BY_ITS_OWNER,
     items::AFTER_FOUR_GUARDS,
     items::FULL,
+    items::LEFT_TO_ANOTHER,
+    items::LEFT_TWICE,
     items::LEFT_BEHIND,
     items::A_THOUSAND,
     items::BESIDE_EACH_OTHER,

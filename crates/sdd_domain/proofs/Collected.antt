@@ -7,7 +7,7 @@ use Rattle.sdd_homes.specs.declared.Lease.{Lease}
 use Rattle.sdd_homes.specs.declared.Owner.{Owner}
 use Rattle.domain_table.specs.Contents.{is_blank}
 use Rattle.domain_table.specs.Leases.{leased_homes, has_all}
-use Rattle.domain_table.specs.Plays.{own_spare, own_bag}
+use Rattle.domain_table.specs.Plays.{own_spare}
 use Rattle.domain_table.specs.Views.{rereading}
 use Rattle.domain_table.specs.declared.board.Acting.{Acting}
 use Rattle.domain_table.specs.declared.board.Home.{Home}
@@ -47,9 +47,9 @@ module _ {T : Type 0} (l : Local T) (note : ℕ) (ws0 : List Garbage) (m1 m2 : M
       pub at_last : AreAt d.leases ls'
       at_last = at' ∙ (ap (λ (z : Me (Home T) Acting). map (λ (x : Lease). x.slot) z.0.leases) in_hand ∙ same_at)
 
-      pub spare_there : has_all is_blank (own_spare m6.0 l.spare ∷ own_bag m6.0 ∷ leased_homes m6.0 m6.0.leases) m6.1 ≡ true
-      spare_there = subst (λ (z : Me (Home T) Acting). has_all is_blank (own_spare z.0 l.spare ∷ own_bag z.0 ∷ leased_homes z.0 z.0.leases) z.1 ≡ true) (sym all)
-          (ap (λ ks. has_all is_blank (own_spare d l.spare ∷ own_bag d ∷ ks) l.place.me.1) (same_homes d ls' d.leases at_last) ∙ l.has_spare.2)
+      pub spare_there : has_all is_blank (own_spare m6.0 l.spare ∷ leased_homes m6.0 m6.0.leases) m6.1 ≡ true
+      spare_there = subst (λ (z : Me (Home T) Acting). has_all is_blank (own_spare z.0 l.spare ∷ leased_homes z.0 z.0.leases) z.1 ≡ true) (sym all)
+          (ap (λ ks. has_all is_blank (own_spare d l.spare ∷ ks) l.place.me.1) (same_homes d ls' d.leases at_last) ∙ l.has_spare.2)
 
 -- a list whose images end with t ends with what that is the image of
 last_mapped : (ns : List Noted) (ts : List (ℕ × ℕ)) (t : ℕ × ℕ) → map noted_told ns ≡ ts ++ t ∷ [] → (ms : List Noted) × (n : Noted) × (ns ≡ ms ++ n ∷ []) × (noted_told n ≡ t)

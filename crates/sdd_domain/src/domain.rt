@@ -40,7 +40,7 @@ impl<T: Holds> Domain<T> {
     ghost use Rattle.sdd_domain.specs.Tokens.{participants_of, slot_count, cell_count, first_of, place_of, home_of, number_of, own_of, hand_of};
 
     /// A place without items, for as many participants as its sizes name, none of them registered. It takes all memory
-    /// of the place but what `register` takes: homes for slots times participants, a box for the item of each slot, and 48
+    /// of the place but what `register` takes: homes for slots times participants, a box for the item of each slot, and 40
     /// bytes a slot for `close`. Without memory nothing is kept.
     pub fn new(alloc: Global, sizes: Sizes) -> Result<Domain<T>, AllocError>
         requires { IsSized sizes }
@@ -90,8 +90,7 @@ impl<T: Holds> Domain<T> {
     }
 
     /// Registers a participant that nobody acts for: each is tried once, from 0 on. Full where each was taken when it
-    /// was tried, and Memory where there was none to note what it will retire and lease, 48 bytes a slot. What was left
-    /// where the participant ended before is its own from now on.
+    /// was tried, and Memory where there was none to note what it will lease, 40 bytes a slot.
     pub fn register(&self) -> Result<Local<T>, RegisterRefused>
         ensures home { IfOk result (λ l. home_of l ≡ place_of self.now) }
         ensures number { IfOk result (λ l. number_of l < participants_of self.now) }
@@ -124,23 +123,24 @@ impl<T: Holds> Domain<T> {
             return Err(ledger);
         };
         learn(self.words(), &mut place, self.sizes);
-        Ok(Local::registered(self.words(), place, &self.sizes, number, spare, ledger))
+        Ok(Local::registered(place, number, spare, ledger))
     }
 
     /// Opens and closes accelerated guards of a participant until nothing waits for it, four for each slot at most, and
-    /// ends it: what an item held waits only once the item is reclaimed. Its ledger is back, empty.
+    /// ends it: the first one takes over what others left, and what an item held waits only once the item is reclaimed. Its
+    /// ledger is back, empty.
     fn run_out(&self, local: Local<T>) -> Ledger<T>
         requires { (home_of local ≡ place_of self.now) × ((own_of local).nesting ≡ 0) × (hand_of local ≡ []) }
         ensures { IsEmpty self.now.sizes.slots result }
     {
         let mut local = local;
         for _i in 0..4 * self.sizes.slots {
-            if !local.has_waiting() {
-                break;
-            }
             if let Ok(guard) = Guard::new(self, &mut local) {
                 guard.accelerate(&mut local);
                 guard.close(self, &mut local);
+            }
+            if !local.has_waiting() {
+                break;
             }
         }
         local.leave(self)
@@ -151,14 +151,10 @@ impl<T: Holds> Domain<T> {
         requires { IsEmpty self.now.sizes.slots ledger }
         ensures { IsEmpty self.now.sizes.slots result }
     {
-        let mut ledger = ledger;
-        for number in 0..self.sizes.participants {
-            ledger = match self.acting_for(number, ledger) {
-                Ok(local) => self.run_out(local),
-                Err(back) => back,
-            };
+        match self.acting_for(0, ledger) {
+            Ok(local) => self.run_out(local),
+            Err(back) => back,
         }
-        ledger
     }
 
     /// How many slots it has.

@@ -110,8 +110,8 @@ impl Guard {
     }
 
     /// Defers a job: it is run once, where the participant's guards open from now on, when no guard that is open now is open
-    /// any more; by whoever acts for the participant after it has ended; or by `Domain::close`. Where each slot was taken when
-    /// it was tried, the job is back, which is a miss.
+    /// any more; after the participant has ended, by whoever makes the first later scan; or by `Domain::close`. Where each
+    /// slot was taken when it was tried, the job is back, which is a miss.
     ///
     /// A job is an item that nobody is to own: it is placed and retired at once, so that it is reclaimed as other items are,
     /// and its `Holds::end`, which spends it, runs it. Condition: it holds just the owners that are in the participant's hand.

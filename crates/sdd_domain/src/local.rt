@@ -1,29 +1,28 @@
 //! One participant of a place, as the thread that acts for it has it.
 
-ghost use Rattle.std.specs.Prelude.{◌≡◌, ℕ, ◌+◌, ◌-◌, ◌*◌, ◌^◌, ◌<◌, ◌≤◌, ◌==◌, ◌&&◌, true, List, [], ◌∷◌, length, cond, map, nat_lt, vec_capacity, None, IfSome, IsSome};
+ghost use Rattle.std.specs.Prelude.{◌≡◌, ℕ, ◌+◌, ◌-◌, ◌*◌, ◌^◌, ◌<◌, ◌≤◌, ◌==◌, ◌&&◌, true, List, [], ◌∷◌, length, cond, map, nat_lt, None, IfSome, IsSome};
 ghost use Rattle.std.specs.Option.{ForNone, ForSome};
 ghost use Rattle.std.specs.VecDeque.{deque_capacity};
 ghost use Rattle.sdd_base.specs.State.{no_local};
 ghost use Rattle.sdd_steps.specs.declared.participant.Phase.TheVariants.{Idle, Opened};
 ghost use Rattle.sdd_homes.specs.declared.Garbage.{Garbage};
 ghost use Rattle.domain_table.specs.Ledgers.{WaitsIn};
-ghost use Rattle.domain_table.specs.Fitting.{FitsSizes, HasEpochs, FitsNumber};
+ghost use Rattle.domain_table.specs.Fitting.{FitsSizes, HasEpochs};
 ghost use Rattle.domain_table.specs.Contents.{IsIn, is_blank};
-ghost use Rattle.domain_table.specs.Bags.{ages, Waits};
 ghost use Rattle.domain_table.specs.Views.{spent, rotated};
 ghost use Rattle.domain_table.specs.Leases.{life_number, row_told, lease_told, leased_homes, row_slots, all_below, has_all};
-ghost use Rattle.domain_table.specs.Plays.{own_spare, own_bag, HasRegistered, Scans, Steady};
+ghost use Rattle.domain_table.specs.Plays.{own_spare, HasRegistered, Scans, Steady};
 ghost use Rattle.domain_table.specs.Layout.{claim_word};
 
 use crate::board::Words;
 use crate::domain::Domain;
 use crate::holds::Holds;
 use crate::reclaiming::reclaim_due;
-use domain_garbage::left::{bag_in, bag_out, filled, take_left};
 use domain_table::bags::Bags;
 use domain_table::board::{Place, Stored};
 use domain_table::leases::{give_home, seen_at};
 use domain_table::ledger::Ledger;
+use domain_table::left::leave;
 use domain_table::lives::{first_token, last_token, no_token};
 use domain_table::loading::lease;
 use domain_table::row::Row;
@@ -44,8 +43,6 @@ pub struct Local<T> {
     pub(crate) own: LocalState,
     /// What it has retired.
     pub(crate) bags: Bags,
-    /// What it will leave its retired items in.
-    pub(crate) bag: Vec<usize>,
     /// Where to look for a free slot first.
     pub(crate) next: usize,
     /// What its open guards haven't of their life.
@@ -55,16 +52,15 @@ pub struct Local<T> {
     /// How often it was refused for want of a slot, a cell or a part of an item.
     pub(crate) misses: Tally,
     ghost acts: { (place.me.0.kind ≡ 1) × (place.me.0.number ≡ number) × (place.me.0.scan ≡ 0) × (number < 2 ^ 30) × (claim_word number < place.table_id.words) × (place.me.0.releasing ≡ 0) },
-    ghost has_spare: { (place.me.0.spare ≡ spare) × (spare < 2 ^ 31) × (has_all is_blank (own_spare place.me.0 spare ∷ own_bag place.me.0 ∷ leased_homes place.me.0 place.me.0.leases) place.me.1 ≡ true) },
+    ghost has_spare: { (place.me.0.spare ≡ spare) × (spare < 2 ^ 31) × (has_all is_blank (own_spare place.me.0 spare ∷ leased_homes place.me.0 place.me.0.leases) place.me.1 ≡ true) },
     ghost lends: { (map row_told rows.items ≡ map (lease_told (life_number life)) place.me.0.leases) × (place.me.0.sizes.slots ≤ deque_capacity rows) × (all_below place.me.0.sizes.slots (row_slots rows.items) ≡ true) },
     ghost shut: { ForNone life ((own.nesting ≡ 0) × (place.me.0.leases ≡ [])) },
     ghost alive: { ForSome life (λ f. (0 < own.nesting) × (f.count + own.nesting ≡ 2 ^ 63)) },
-    ghost leaves: { (place.me.0.left ≡ []) × (bag.items ≡ []) × (place.me.0.sizes.slots ≤ vec_capacity bag) },
     ghost phase: { place.me.0.known.phase ≡ cond (own.nesting == 0) Idle (Opened own.previous) },
     ghost found: { place.me.0.known.found ≡ own.previous },
     ghost noted: { own.published ≡ own.previous },
     ghost fills: { (place.me.0.filling ≡ None) × (next < 2 ^ 63) × (number < place.me.0.sizes.participants) },
-    ghost waits: { Waits place.me.0.waits bags.slots.items (ages bags.current bags.previous bags.next bags.due) × (bags.due ≡ 0) × (deque_capacity bags.slots ≡ place.me.0.sizes.slots) },
+    ghost waits: { WaitsIn place.me.0.sizes.slots place.me.0.waits bags × (bags.due ≡ None) },
 }
 
 /// Behind a publication: turns the bags if the count isn't the one that was found before, and reclaims what is due then.
@@ -81,12 +77,12 @@ fn turn<T: Holds>(
     requires open { (place.old.me.0.known.phase ≡ Opened epoch) × (place.old.me.0.known.found ≡ epoch) }
     requires rest { (place.old.me.0.kind ≡ 1) × (place.old.me.0.number ≡ number) × (place.old.me.0.releasing ≡ 0) × (place.old.me.0.leases ≡ []) × (place.old.me.0.filling ≡ None) }
     requires noted { own.old.published ≡ own.old.previous }
-    requires waits { (ws : List Garbage) × (place.old.me.0.waits ≡ rotated epoch own.old.previous ws) × WaitsIn ws bags.old }
-    requires done { (bags.old.due ≡ 0) × (deque_capacity bags.old.slots ≡ sizes.now.slots) }
+    requires waits { (ws : List Garbage) × (place.old.me.0.waits ≡ rotated epoch own.old.previous ws) × WaitsIn sizes.now.slots ws bags.old }
+    requires done { bags.old.due ≡ None }
     ensures seat { (place.new.table_id ≡ place.old.table_id) × (place.new.id ≡ place.old.id) }
     ensures reclaimed { (k : ℕ) × (ws : List Garbage) × (place.new.me ≡ (record place.old.me.0 { slot = k; waits = ws }, place.old.me.1)) }
-    ensures waits { WaitsIn place.new.me.0.waits bags.new }
-    ensures bags { (bags.new.due ≡ 0) × (deque_capacity bags.new.slots ≡ deque_capacity bags.old.slots) }
+    ensures waits { WaitsIn sizes.now.slots place.new.me.0.waits bags.new }
+    ensures bags { bags.new.due ≡ None }
     ensures own { own.new ≡ record own.old { garbage = cond (own.old.previous == epoch) own.old.garbage (nat_lt 0 (length place.new.me.0.waits)); published = epoch; previous = epoch } }
 {
     // Most openings find the count of the one before.
@@ -108,23 +104,19 @@ impl<T: Holds> Local<T> {
     ghost use Rattle.sdd_base.specs.Epochs.{tag_number};
     ghost use Rattle.domain_table.specs.Leases.{code_told};
 
-    /// The participant that a seat has just come to act for. What was left where it ended before is taken over.
+    /// The participant that a seat has just come to act for.
     pub(crate) fn registered(
-        words: &Words<T>,
-        mut place: Place<T>,
-        sizes: &Sizes,
+        place: Place<T>,
         number: usize,
         spare: u64,
         ledger: Ledger<T>,
     ) -> Local<T>
         requires acts { HasRegistered (IsIn T.holds) (spent, []) number spare place.me × (spare < 2 ^ 31) }
-        requires table { FitsNumber words.now.table_id words.now.key.sizes place.table_id place.me.0.sizes sizes.now number }
-        requires empty { IsEmpty sizes.now.slots ledger }
+        requires table { (claim_word number < place.table_id.words) × (number < 2 ^ 30) × (number < place.me.0.sizes.participants) }
+        requires empty { IsEmpty place.me.0.sizes.slots ledger }
         ensures { (home_of result ≡ (place.table_id, place.me.0.sizes)) × (number_of result ≡ number) × (own_of result ≡ no_local) × (hand_of result ≡ []) }
     {
-        let Ledger { mut bags, rows } = ledger;
-        let left = bag_out(words, &mut place, sizes, number);
-        let bag = take_left(words, &mut place, left, &mut bags);
+        let Ledger { rows } = ledger;
         Local {
             place,
             number,
@@ -137,8 +129,7 @@ impl<T: Holds> Local<T> {
                 garbage: false,
                 closings: 0,
             },
-            bags,
-            bag,
+            bags: Bags::new(),
             next: 0,
             life: None,
             rows,
@@ -289,18 +280,13 @@ impl<T: Holds> Local<T> {
             place,
             number,
             own,
+            bags,
             life,
             rows,
             ..
         } = self;
         let epoch = own.previous;
-        scan_due(
-            domain.words(),
-            place,
-            *number,
-            domain.sizes.participants,
-            own,
-        );
+        scan_due(domain.words(), place, &domain.sizes, *number, bags, own);
         let ended = last_token(life, token);
         give_home(
             domain.words(),
@@ -314,8 +300,8 @@ impl<T: Holds> Local<T> {
         own.nesting = 0;
     }
 
-    /// Ends the participant, which anybody may register from now on. What it retired and didn't reclaim stays in its bag,
-    /// for whoever acts for it next. Conditions: none of its guards is open, and no owner is in its hand.
+    /// Ends the participant, which anybody may register from now on. What it retired and didn't reclaim
+    /// goes to the first later scan that takes the lock, whoever makes it. Conditions: none of its guards is open, and no owner is in its hand.
     pub fn end(self, domain: &Domain<T>)
         requires home { home_of self ≡ place_of domain.now }
         requires closed { (own_of self).nesting ≡ 0 }
@@ -337,16 +323,14 @@ impl<T: Holds> Local<T> {
             spare,
             own: _,
             bags,
-            bag,
             next: _,
             life,
             rows,
             misses: _,
         } = self;
         no_token(life);
-        let (left, bags) = filled(bag, bags);
-        bag_in(domain.words(), &mut place, &domain.sizes, number, left);
+        leave(domain.words(), &mut place, &domain.sizes, number, bags);
         steps::end(domain.words(), &mut place, number, spare);
-        Ledger { bags, rows }
+        Ledger { rows }
     }
 }

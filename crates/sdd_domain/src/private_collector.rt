@@ -145,7 +145,7 @@ impl PrivateCollector {
             ..
         } = local;
         take_bag(domain.words(), place, seat);
-        hand_all(domain.words(), place, waiting, bags);
+        hand_all(domain.words(), place, &domain.sizes, waiting, bags);
         flag_waiting(own, bags);
     }
 }

@@ -7,6 +7,7 @@ ghost use Rattle.std.specs.VecDeque.{deque_capacity};
 ghost use Rattle.sdd_homes.specs.declared.Garbage.{Garbage};
 ghost use Rattle.sdd_homes.specs.declared.Lease.{Lease};
 ghost use Rattle.sdd_homes.specs.declared.Owner.{Owner};
+ghost use Rattle.domain_table.specs.Bags.{aged};
 ghost use Rattle.domain_table.specs.Outcomes.{HasGivenUp};
 ghost use Rattle.domain_table.specs.Ledgers.{WaitsIn};
 ghost use Rattle.domain_table.specs.Fitting.{FitsSizes};
@@ -42,15 +43,15 @@ fn release_held<T: Holds>(
     requires table { FitsSizes words.now.table_id words.now.key.sizes place.old.table_id place.old.me.0.sizes sizes.now × (number < sizes.now.participants) }
     requires ready { IsAtRest number place.old.me.0 }
     requires owner { IsFirst place.old.me.0 (told_of held).0 (told_of held).1 }
-    requires waits { WaitsIn place.old.me.0.waits bags.old × (deque_capacity bags.old.slots ≡ sizes.now.slots) }
+    requires waits { WaitsIn sizes.now.slots place.old.me.0.waits bags.old }
     ensures seat { (place.new.table_id ≡ place.old.table_id) × (place.new.id ≡ place.old.id) }
     ensures released { (o : Owner) (os : List Owner) → place.old.me.0.hand ≡ o ∷ os → (ws : List Garbage) × (place.new.me ≡ (record place.old.me.0 { hand = os; waits = ws }, place.old.me.1)) }
-    ensures waits { WaitsIn place.new.me.0.waits bags.new }
-    ensures bags { (bags.new.due ≡ bags.old.due) × (deque_capacity bags.new.slots ≡ deque_capacity bags.old.slots) }
+    ensures waits { WaitsIn sizes.now.slots place.new.me.0.waits bags.new }
+    ensures bags { (bags.new.due ≡ bags.old.due) × (aged 3 place.new.me.0.waits ≡ aged 3 place.old.me.0.waits) }
 {
     let Held { slot, part } = held;
     if release_home::<T, Told, Retire>(words, place, sizes, number, slot, part) == 0 {
-        bags.retire(slot);
+        bags.retire(words, place, sizes, slot);
     }
 }
 
@@ -66,11 +67,11 @@ fn give_up<T: Holds>(
     requires table { FitsSizes words.now.table_id words.now.key.sizes place.old.table_id place.old.me.0.sizes sizes.now × (number < sizes.now.participants) }
     requires ready { IsAtRest number place.old.me.0 }
     requires owners { (hs : List Owner) × (os : List Owner) × (T.holds item ≡ map told hs) × (place.old.me.0.hand ≡ hs ++ os) }
-    requires waits { WaitsIn place.old.me.0.waits bags.old × (deque_capacity bags.old.slots ≡ sizes.now.slots) }
+    requires waits { WaitsIn sizes.now.slots place.old.me.0.waits bags.old }
     ensures seat { (place.new.table_id ≡ place.old.table_id) × (place.new.id ≡ place.old.id) }
     ensures released { HasGivenUp T.holds item place.old.me place.new.me }
-    ensures waits { WaitsIn place.new.me.0.waits bags.new }
-    ensures bags { (bags.new.due ≡ bags.old.due) × (deque_capacity bags.new.slots ≡ deque_capacity bags.old.slots) }
+    ensures waits { WaitsIn sizes.now.slots place.new.me.0.waits bags.new }
+    ensures bags { (bags.new.due ≡ bags.old.due) × (aged 3 place.new.me.0.waits ≡ aged 3 place.old.me.0.waits) }
 {
     let mut item = item;
     while let Some(held) = item.give_up() {
@@ -91,13 +92,13 @@ pub(crate) fn reclaim_due<T: Holds>(
 )
     requires table { FitsSizes words.now.table_id words.now.key.sizes place.old.table_id place.old.me.0.sizes sizes.now × (number < sizes.now.participants) }
     requires ready { IsAtRest number place.old.me.0 × (place.old.me.0.filling ≡ None) }
-    requires waits { WaitsIn place.old.me.0.waits bags.old × (deque_capacity bags.old.slots ≡ sizes.now.slots) }
+    requires waits { WaitsIn sizes.now.slots place.old.me.0.waits bags.old }
     ensures seat { (place.new.table_id ≡ place.old.table_id) × (place.new.id ≡ place.old.id) }
     ensures reclaimed { (k : ℕ) × (ws : List Garbage) × (place.new.me ≡ (record place.old.me.0 { slot = k; waits = ws }, place.old.me.1)) }
-    ensures waits { WaitsIn place.new.me.0.waits bags.new }
-    ensures bags { (bags.new.due ≡ 0) × (deque_capacity bags.new.slots ≡ deque_capacity bags.old.slots) }
+    ensures waits { WaitsIn sizes.now.slots place.new.me.0.waits bags.new }
+    ensures bags { bags.new.due ≡ None }
 {
-    while let Some(slot) = bags.take_due() {
+    while let Some(slot) = bags.take_due(words, place, sizes) {
         let item = reclaim(words, place, sizes, slot);
         give_up(words, place, sizes, number, bags, item);
     }
@@ -117,11 +118,11 @@ fn give_up_under<T: Holds>(
     requires ready { CanRelease number place.old.me.0 }
     requires owners { (hs : List Owner) × (os : List Owner) × (T.holds item ≡ map told hs) × (place.old.me.0.hand ≡ hs ++ os) }
     requires rows { ((life : ℕ) × (map row_told rows.old.items ≡ map (lease_told life) place.old.me.0.leases)) × (all_below sizes.now.slots (row_slots rows.old.items) ≡ true) }
-    requires waits { WaitsIn place.old.me.0.waits bags.old × (deque_capacity bags.old.slots ≡ sizes.now.slots) }
+    requires waits { WaitsIn sizes.now.slots place.old.me.0.waits bags.old }
     ensures seat { (place.new.table_id ≡ place.old.table_id) × (place.new.id ≡ place.old.id) }
     ensures released { GivesUpUnder T.holds item place.old.me place.new.me }
     ensures rows { ((life : ℕ) → map row_told rows.old.items ≡ map (lease_told life) place.old.me.0.leases → map row_told rows.new.items ≡ map (lease_told life) place.new.me.0.leases) × (deque_capacity rows.new ≡ deque_capacity rows.old) × (row_slots rows.new.items ≡ row_slots rows.old.items) }
-    ensures waits { WaitsIn place.new.me.0.waits bags.new × (bags.new.due ≡ bags.old.due) × (deque_capacity bags.new.slots ≡ deque_capacity bags.old.slots) }
+    ensures waits { WaitsIn sizes.now.slots place.new.me.0.waits bags.new × (bags.new.due ≡ bags.old.due) }
 {
     let mut item = item;
     while let Some(held) = item.give_up() {
@@ -146,12 +147,12 @@ pub(crate) fn sweep<T: Holds>(
     requires table { FitsSizes words.now.table_id words.now.key.sizes place.old.table_id place.old.me.0.sizes sizes.now × (number < sizes.now.participants) }
     requires ready { CanRelease number place.old.me.0 × (place.old.me.0.filling ≡ None) × (is_inside place.old.me.0.known ≡ true) × (place.old.me.0.known.reread ≡ Some count) }
     requires rows { ((life : ℕ) × (map row_told rows.old.items ≡ map (lease_told life) place.old.me.0.leases)) × (all_below sizes.now.slots (row_slots rows.old.items) ≡ true) }
-    requires waits { WaitsIn place.old.me.0.waits bags.old × (deque_capacity bags.old.slots ≡ sizes.now.slots) }
+    requires waits { WaitsIn sizes.now.slots place.old.me.0.waits bags.old }
     requires noted { Notes place.old.me.0.collected waiting.old.items }
     ensures seat { (place.new.table_id ≡ place.old.table_id) × (place.new.id ≡ place.old.id) }
     ensures swept { (k : ℕ) × (ws : List Garbage) × (ls : List Lease) × (cs : List Garbage) × AreAt place.old.me.0.leases ls × (place.new.me ≡ (record place.old.me.0 { slot = k; leases = ls; waits = ws; collected = cs }, place.old.me.1)) }
     ensures rows { ((life : ℕ) → map row_told rows.old.items ≡ map (lease_told life) place.old.me.0.leases → map row_told rows.new.items ≡ map (lease_told life) place.new.me.0.leases) × (deque_capacity rows.new ≡ deque_capacity rows.old) × (row_slots rows.new.items ≡ row_slots rows.old.items) }
-    ensures waits { WaitsIn place.new.me.0.waits bags.new × (bags.new.due ≡ bags.old.due) × (deque_capacity bags.new.slots ≡ deque_capacity bags.old.slots) }
+    ensures waits { WaitsIn sizes.now.slots place.new.me.0.waits bags.new × (bags.new.due ≡ bags.old.due) }
     ensures noted { Notes place.new.me.0.collected waiting.new.items × (deque_capacity waiting.new ≡ deque_capacity waiting.old) }
     ensures left { IsSweptOf count waiting.old.items waiting.new.items }
 {

@@ -339,7 +339,7 @@ impl<T: Holds> Shared<T> {
         if left > 0 {
             return false;
         }
-        bags.retire(slot);
+        bags.retire(domain.words(), place, &domain.sizes, slot);
         own.garbage = true;
         true
     }

@@ -5,14 +5,13 @@ use Rattle.sdd_homes.specs.declared.Filling.{Filling}
 use Rattle.sdd_homes.specs.declared.Owner.{Owner}
 use Rattle.sdd_homes.specs.declared.Garbage.{Garbage}
 
--- What lies in a slot of the table: nothing is known of it (it is out), an empty value, the room for an item, the deed of a round, with the owners that its item holds, so many parts of a round, or a bag that has room for so many slots, with the slots of these items
+-- What lies in a slot of the table: nothing is known of it (it is out), an empty value, the room for an item, the deed of a round, with the owners that its item holds, or so many parts of a round
 pub data Content : Type 0 where
   away : Content
   blank : Content
   room : Content
   deed : ℕ → List Owner → Content
   part : ℕ → ℕ → Content
-  bag : ℕ → List Garbage → Content
 
 -- What a slot for items is: free, being filled or emptied, or with the item i in it
 pub data Stage : Type 0 where
@@ -20,8 +19,8 @@ pub data Stage : Type 0 where
   partly : Filling → Stage
   full : ℕ → Stage
 
--- Of each slot its stage, and how many parts each participant has of it; of each item its slot, and of each slot the owners that its item holds; of each participant its leases, and the items in its bag: it left them when it ended. What lies in the homes.
--- Of each cell and each participant the spare slot that is its own, of each spare slot whose it is, and what lies in it and in the bags' slots behind the spare ones.
+-- Of each slot its stage, and how many parts each participant has of it; of each item its slot, and of each slot the owners that its item holds; of each participant its leases, and the items that it left when it ended, the newest in front. What lies in the homes.
+-- Of each cell and each participant the spare slot that is its own, of each spare slot whose it is, and what lies in it.
 pub record Book : Type 0 where
   pub stage : ℕ → Stage
   pub share : ℕ → ℕ → ℕ

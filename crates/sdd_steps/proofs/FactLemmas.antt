@@ -69,7 +69,7 @@ pub items_step : (s : State) (born since since' : ℕ → ℕ) (holding : Holdin
     → ((k : ℕ) (it : Item) → At s.items k it → (it' : Item) × At items' k it' × Becomes s.count (since k) (since' k) it it')
     → ((i : ℕ) → since' i ≤ s.count)
     → ((i : ℕ) (it : Item) (r a : ℕ) (x : Participant) → At items' i it → it.state ≡ Retired r a → At s.participants r x → Ageing (since' i) a x.found x.phase)
-    → ((i : ℕ) (it : Item) (n : ℕ) → At items' i it → it.state ≡ Collected n → since' i ≤ n + 1)
+    → ((i : ℕ) (it : Item) (n : ℕ) → At items' i it → it.state ≡ Collected n → (since' i ≤ n + 1) × (n ≤ s.count))
     → Facts (record s { cells = cells'; items = items' }) born since'
 items_step s born since since' holding f items' cells' each dated ageing noted = record {
   fits = f.fits;
@@ -90,7 +90,7 @@ module _ (s : State) (born since : ℕ → ℕ) (holding : Holding s.items) (f :
   -- one item changes, and the count of its retirement becomes n
   pub item_step : (i : ℕ) (it it' : Item) (cells' : List Cell) (n : ℕ) → At s.items i it → Becomes s.count (since i) n it it' → n ≤ s.count
       → ((r a : ℕ) (y : Participant) → it'.state ≡ Retired r a → At s.participants r y → Ageing n a y.found y.phase)
-      → ((m : ℕ) → it'.state ≡ Collected m → n ≤ m + 1)
+      → ((m : ℕ) → it'.state ≡ Collected m → (n ≤ m + 1) × (m ≤ s.count))
       → Facts (record s { cells = cells'; items = set s.items i it' }) born (put since i n)
   item_step i it it' cells' n at becomes dated ageing noted = items_step s born since (put since i n) holding f (set s.items i it') cells'
       (each_set (λ j z z'. Becomes s.count (since j) (put since i n j) z z') s.items i it it' at (subst (λ m. Becomes s.count (since i) m it it') (sym (put_here since i n)) becomes)
@@ -99,9 +99,9 @@ module _ (s : State) (born since : ℕ → ℕ) (holding : Holding s.items) (f :
       (λ j z r a y at_j is at_r. set_all (λ j' z'. z'.state ≡ Retired r a → Ageing (put since i n j') a y.found y.phase) s.items i it'
       (λ is'. subst (λ k. Ageing k a y.found y.phase) (sym (put_here since i n)) (ageing r a y is' at_r))
       (λ j' z' other here is'. subst (λ k. Ageing k a y.found y.phase) (sym (put_else since i n j' other)) (f.ageing j' z' r a y here is' at_r)) j z at_j is)
-      (λ j z m at_j is. set_all (λ j' z'. z'.state ≡ Collected m → put since i n j' ≤ m + 1) s.items i it'
-      (λ is'. subst (λ k. k ≤ m + 1) (sym (put_here since i n)) (noted m is'))
-      (λ j' z' other here is'. subst (λ k. k ≤ m + 1) (sym (put_else since i n j' other)) (f.noted j' z' m here is')) j z at_j is)
+      (λ j z m at_j is. set_all (λ j' z'. z'.state ≡ Collected m → (put since i n j' ≤ m + 1) × (m ≤ s.count)) s.items i it'
+      (λ is'. let t = noted m is' in (subst (λ k. k ≤ m + 1) (sym (put_here since i n)) t.0, t.1))
+      (λ j' z' other here is'. let t = f.noted j' z' m here is' in (subst (λ k. k ≤ m + 1) (sym (put_else since i n j' other)) t.0, t.1)) j z at_j is)
 
   -- one item changes, but not its state
   pub same_state : (i : ℕ) (it it' : Item) (cells' : List Cell) → At s.items i it → it'.value ≡ it.value → it'.state ≡ it.state → ((b : ℕ) → Standing b (since i) it.state → it'.holds ≡ it.holds)

@@ -163,7 +163,7 @@ module _ (s : State) (k : AllOwnersCounted (names_of s.cells) s.items) (born sin
       };
       looks = λ q y r z e at_q h has at_r h'. let g = (f.guards q y at_q).inside (s.count + 1) h in let g1 = g.1 in let g2 = g.2 in absurd (omega arith);
       ageing = f.ageing;
-      noted = f.noted;
+      noted = λ i it m at_i is_m. let t = f.noted i it m at_i is_m in let low = t.1 in (t.0, omega arith);
       kept = f.kept;
     },
   )
@@ -171,7 +171,7 @@ module _ (s : State) (k : AllOwnersCounted (names_of s.cells) s.items) (born sin
   -- an item without owners has another state from now on
   becomes : (i : ℕ) (it : Item) (state' : ItemState) → At s.items i it → it.state ≢ Live → state' ≢ Live → ((b : ℕ) → b ≤ s.count → s.count ≤ b + 1 → Standing b (since i) it.state → Standing b s.count state')
       → ((r a : ℕ) (y : Participant) → state' ≡ Retired r a → At s.participants r y → Ageing s.count a y.found y.phase)
-      → ((m : ℕ) → state' ≡ Collected m → s.count ≤ m + 1)
+      → ((m : ℕ) → state' ≡ Collected m → (s.count ≤ m + 1) × (m ≤ s.count))
       → Inv (with_item s i (record it { state = state' }))
   becomes i it state' at dead dead' stands ageing noted = let w = k.owned i it at in (
     counted_step (names_of s.cells) (names_of s.cells) s.items k i it (record it { state = state' }) at refl (λ j other. refl) (w.counted, (λ e. absurd (dead' e)), (λ more. absurd (dead (w.is_live more))), w.limit) k.named,
@@ -192,7 +192,7 @@ module _ (s : State) (k : AllOwnersCounted (names_of s.cells) s.items) (born sin
 
   pub collects : (p i : ℕ) (x : Participant) (it : Item) (e n : ℕ) → At s.participants p x → Inside x e → x.reread ≡ Some n → At s.items i it → it.state ≢ Live → Inv (with_item s i (record it { state = noted x.reread }))
   collects p i x it e n at is again at_i dead = let g = f.guards p x at in let a = g.again e n is.0 again in let late = (g.inside e is.0).3 in let a0 = a.0 in
-      subst (λ o. Inv (with_item s i (record it { state = noted o }))) (sym again) (becomes i it (Collected n) at_i dead (λ e. cc) (λ b less _ _. less) (λ r a y e at_r. absurd (cc)) (λ m e. let j : n ≡ m = cc in omega arith))
+      subst (λ o. Inv (with_item s i (record it { state = noted o }))) (sym again) (becomes i it (Collected n) at_i dead (λ e. cc) (λ b less _ _. less) (λ r a y e at_r. absurd (cc)) (λ m e. let j : n ≡ m = cc in let a1 = a.1 in (omega arith, omega arith)))
 
   pub reclaims : (p i : ℕ) (x : Participant) (it : Item) → At s.participants p x → At s.items i it → Reclaimable p x it.state → Inv (with_item s i (record it { state = Reclaimed p }))
   reclaims p i x it at at_i reclaimable = becomes i it (Reclaimed p) at_i
@@ -200,7 +200,7 @@ module _ (s : State) (k : AllOwnersCounted (names_of s.cells) s.items) (born sin
       (λ e. cc)
       (λ b less late st. ⊎_elim
       (λ (t : it.state ≡ Retired p 3). let o = f.ageing i it p 3 x at_i t at in let behind = o.behind (omega arith) in let past = (f.guards p x at).past in let standing : b ≤ since i = subst (Standing b (since i)) t st in absurd (omega arith))
-      (λ (t : (n m : ℕ) × (it.state ≡ Collected n) × Inside x (count_of x.phase) × (x.reread ≡ Some m) × (n + 3 ≤ m)). let note = f.noted i it t.0 at_i t.2 in let a = (f.guards p x at).again (count_of x.phase) t.1 t.3.0 t.4 in let a1 = a.1 in
+      (λ (t : (n m : ℕ) × (it.state ≡ Collected n) × Inside x (count_of x.phase) × (x.reread ≡ Some m) × (n + 3 ≤ m)). let note = (f.noted i it t.0 at_i t.2).0 in let a = (f.guards p x at).again (count_of x.phase) t.1 t.3.0 t.4 in let a1 = a.1 in
       let above = t.5 in let standing : b ≤ since i = subst (Standing b (since i)) t.2 st in absurd (omega arith)) reclaimable)
       (λ r a y e at_r. absurd (cc)) (λ m e. absurd (cc))
 
@@ -258,7 +258,7 @@ module _ (s : State) (k : AllOwnersCounted (names_of s.cells) s.items) (born sin
           (λ m it at. (record it { hand = it.hand - times m hs }, at_longer (paid hs s.items) (new_item v hs ∷ []) m (record it { hand = it.hand - times m hs }) (paid_at hs s.items m it at), record { value = refl; holds = λ _ _. refl; stands = λ _ _ _ st. st }))
           f.dated
           (λ j z r a y here is at_r. placed_all v hs s.items (λ j' z'. z'.state ≡ Retired r a → Ageing (since j') a y.found y.phase) (λ e. absurd (cc)) (λ j' it at' e. f.ageing j' it r a y at' e at_r) j z here is)
-          (λ j z m here is. placed_all v hs s.items (λ j' z'. z'.state ≡ Collected m → since j' ≤ m + 1) (λ e. absurd (cc)) (λ j' it at' e. f.noted j' it m at' e) j z here is),
+          (λ j z m here is. placed_all v hs s.items (λ j' z'. z'.state ≡ Collected m → (since j' ≤ m + 1) × (m ≤ s.count)) (λ e. absurd (cc)) (λ j' it at' e. f.noted j' it m at' e) j z here is),
     ),
   )
 

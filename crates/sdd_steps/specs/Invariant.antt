@@ -75,7 +75,7 @@ pub record Facts (s : State) (born since : ℕ → ℕ) : Type 0 where
   pub guards : (p : ℕ) (x : Participant) → At s.participants p x → Guarded s.count (born p) x.found x.phase x.reread
   pub looks : (q : ℕ) (x : Participant) (p : ℕ) (y : Participant) (e : ℕ) → At s.participants q x → x.phase ≡ Opened s.count → Has x.looked p → At s.participants p y → y.phase ≡ Opened e → s.count ≤ born p
   pub ageing : (i : ℕ) (it : Item) (r a : ℕ) (x : Participant) → At s.items i it → it.state ≡ Retired r a → At s.participants r x → Ageing (since i) a x.found x.phase
-  pub noted : (i : ℕ) (it : Item) (n : ℕ) → At s.items i it → it.state ≡ Collected n → since i ≤ n + 1
+  pub noted : (i : ℕ) (it : Item) (n : ℕ) → At s.items i it → it.state ≡ Collected n → (since i ≤ n + 1) × (n ≤ s.count)
   pub kept : (p : ℕ) (x : Participant) (e : ℕ) (h : Loaded) → At s.participants p x → x.phase ≡ Opened e → Has x.loaded h → (it : Item) × At s.items h.item it × Same s.items h it × Standing (born p) (since h.item) it.state
 
 -- The invariant: owners are counted, and counts can be told for publications and retirements that meet the rest

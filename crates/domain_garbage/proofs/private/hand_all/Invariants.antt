@@ -1,7 +1,7 @@
 use Rattle.std.proofs.Common.{◌≡◌, ◌+◌, List, length}
-use Rattle.std.specs.VecDeque.{deque_len, deque_capacity}
+use Rattle.std.specs.VecDeque.{deque_len}
 use Rattle.sdd_homes.specs.declared.Garbage.{Garbage}
-use Rattle.domain_table.specs.Bags.{ages, Waits}
+use Rattle.domain_table.specs.Ledgers.{WaitsIn}
 use Rattle.domain_garbage.specs.Bag.{Notes}
 use Rattle.domain_garbage.proofs.private.hand_all.Given as goal
 
@@ -11,8 +11,8 @@ invariant-loop-noted g l = record {
   taken : (cs : List Garbage) × (ws : List Garbage) × (l.place.me ≡ (record l.fn.place.me.0 { collected = cs; waits = ws }, l.fn.place.me.1));
   many : length l.place.me.0.waits + length l.place.me.0.collected ≡ length l.fn.place.me.0.waits + length l.fn.place.me.0.collected;
   noted : Notes l.place.me.0.collected l.waiting.items;
-  waits : Waits l.place.me.0.waits l.bags.slots.items (ages l.bags.current l.bags.previous l.bags.next l.bags.due);
-  bags : (l.bags.due ≡ l.fn.bags.due) × (deque_capacity l.bags.slots ≡ deque_capacity l.fn.bags.slots);
+  waits : WaitsIn l.sizes.slots l.place.me.0.waits l.bags;
+  bags : l.bags.due ≡ l.fn.bags.due;
 }
 
 abbrev pub decreases-loop-noted : goal.decreases-loop-noted

@@ -80,10 +80,8 @@ returns-clause-released g c = λ o' os' first'. let m = c.args.place.now.me in l
       (λ none. (gone (g.A.Aim.to m.0.known) (lease o.slot o.item 0 o.round), q.3, refl, now ∙ λ j. (one_goes (g.A.Aim.to m.0.known) c.end_release.result (lease o.slot o.item 0 o.round) (record m.0 { hand = others j }) none j, m.1))),
     )
 
-pub returns-clause-room : goal.returns-clause-room
-returns-clause-room g c = let m = c.args.place.now.me in let q = c.requires.owner.0 in let o = q.0 in let b = c.begin_release.ensures.begun o q.1 q.2 in let i : ℕ = c.args.number * c.args.sizes.now.slots + c.args.slot in let e = c.exchange.ensures in let e' = c.exchange-2.ensures in
-    let is = joined g.H.Holding.holds m c.begin_release.new.place.me o b i c.exchange.result e.2 c.exchange.new.seat.me c.exchange-2.new.seat.me i c.exchange-2.result Blank _ e.3 e'.2 e'.3 in
-    subst (λ (z : Sizes). length m.0.waits < z.slots) c.requires.table.0.2 (subst (λ (t : Me _ Acting). length t.0.waits < t.0.sizes.slots) is c.end_release.ensures.room.0)
+pub returns-clause-low : goal.returns-clause-low
+returns-clause-low g c = let q = c.requires.owner.0 in let b = c.begin_release.ensures.begun q.0 q.1 q.2 in let low = b.4 in let at = q.3 in let slots = ap (λ (z : Sizes). z.slots) c.requires.table.0.2 in omega arith
 
 pub returns-clause-bag_room : goal.returns-clause-bag_room
 returns-clause-bag_room g c = let m = c.args.place.now.me in let q = c.requires.owner.0 in let o = q.0 in let b = c.begin_release.ensures.begun o q.1 q.2 in let i : ℕ = c.args.number * c.args.sizes.now.slots + c.args.slot in let e = c.exchange.ensures in let e' = c.exchange-2.ensures in

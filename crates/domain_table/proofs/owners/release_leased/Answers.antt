@@ -24,10 +24,9 @@ take_in-requires g c = let r = c.requires.rows in let rows = c.args.rows.now.ite
     let row : c.in-Some.row.now ≡ f.row = c.in-Some.ensures.value ∙ f.is c.in-Some.row.now in let told = ap row_told row ∙ f.told in
     (sym q.4 ∙ (few.3 ∙ sym (ap (λ (t : ℕ × ℕ × ℕ × ℕ). t.1) told)), subst (λ n. n < 9223372036854775808) (sym (ap (λ (t : ℕ × ℕ × ℕ × ℕ). t.2) told)) few.0, c.requires.owner.1)
 
-pub returns-clause-room : goal.returns-clause-room
-returns-clause-room g c = let r = c.requires.rows in let rows = c.args.rows.now.items in let ls = c.args.place.now.me.0.leases in let low = c.requires.row.0 in let long = c.args.rows.now.ok.0 in let f = row_at r.0.0 rows ls c.args.at r.0.1 (omega arith) in
-    let at = at_slot r.0.0 rows ls c.args.at c.args.slot f c.requires.row.1 in let q = c.requires.owner.0 in let few = c.release_owner-left.ensures.few f.lease q.0 q.1 f.has (q.3 ∙ sym at) q.2 in
-    subst (λ (z : Sizes). length c.args.place.now.me.0.waits < z.slots) c.requires.table.2 few.1.0
+pub returns-clause-low : goal.returns-clause-low
+returns-clause-low g c = let r = c.requires.rows in let rows = c.args.rows.now.items in let ls = c.args.place.now.me.0.leases in let low = c.requires.row.0 in let long = c.args.rows.now.ok.0 in let f = row_at r.0.0 rows ls c.args.at r.0.1 (omega arith) in
+    let below = inside r.0.0 rows ls c.args.at c.args.slot f c.requires.row.1 r.0.1 c.args.sizes.now.slots r.1 in omega arith
 
 pub returns-clause-bag_room : goal.returns-clause-bag_room
 returns-clause-bag_room g c = let r = c.requires.rows in let rows = c.args.rows.now.items in let ls = c.args.place.now.me.0.leases in let low = c.requires.row.0 in let long = c.args.rows.now.ok.0 in let f = row_at r.0.0 rows ls c.args.at r.0.1 (omega arith) in

@@ -1,17 +1,17 @@
-use Rattle.std.proofs.Common.{◌≡◌, ◌<◌, ◌≤◌, true, ℕ, List, ◌∷◌, ◌++◌, length, map, vec_capacity, IfOk, IfErr, [], IfSome, sym, refl, ap, ◌∙◌, subst}
+use Rattle.std.proofs.Common.{◌≡◌, ◌<◌, ◌≤◌, true, ℕ, List, ◌∷◌, ◌++◌, length, map, IfOk, IfErr, [], IfSome, sym, refl, ap, ◌∙◌, subst}
 use Rattle.std.specs.VecDeque.{deque_capacity}
 use Rattle.atomic_table.specs.Seated.{TableId}
 use Rattle.atomic_table.specs.Table.{Me}
 use Rattle.sdd_base.specs.declared.sizes.Sizes.{Sizes}
 use Rattle.sdd_homes.specs.declared.Lease.{Lease}
-use Rattle.domain_table.specs.Bags.{ages, Waits}
+use Rattle.domain_table.specs.Ledgers.{WaitsIn}
 use Rattle.domain_table.specs.Contents.{blanks}
 use Rattle.domain_table.specs.Owners.{told}
 use Rattle.domain_table.specs.Layout.{claim_word, all_words, cell_word, packed}
 use Rattle.sdd_base.specs.Epochs.{tag_number}
 use Rattle.sdd_domain.specs.Comparing.{owner_code}
 use Rattle.domain_table.specs.Leases.{IsFoundAs, life_number, row_told, lease_told, leased_homes, row_slots, all_below}
-use Rattle.domain_table.specs.Plays.{own_spare, own_bag}
+use Rattle.domain_table.specs.Plays.{own_spare}
 use Rattle.domain_table.specs.declared.board.Acting.{Acting}
 use Rattle.domain_table.specs.declared.board.Home.{Home}
 use Rattle.domain_table.specs.declared.board.Home.TheVariants.{Blank}
@@ -23,20 +23,20 @@ use Rattle.domain_table.proofs.Noted.{homes_both, blanks_both}
 use Rattle.domain_table.proofs.Told.{all_there}
 use Rattle.sdd_domain.proofs.comparing.try_exchange.Goals as goal
 
--- the bag and the leased homes are behind the spare slot
+-- the leased homes are behind the spare slot
 module _ {T : Type 0} (l : Local T) where
   abbrev d : Acting
   d = l.place.me.0
 
   abbrev behind : List (ℕ × Home T)
-  behind = blanks (own_bag d ∷ leased_homes d d.leases)
+  behind = blanks (leased_homes d d.leases)
 
   out : l.place.me.1 ≡ (own_spare d l.spare, Blank) ∷ behind
-  out = all_there (own_spare d l.spare ∷ own_bag d ∷ leased_homes d d.leases) l.place.me.1 l.has_spare.2
+  out = all_there (own_spare d l.spare ∷ leased_homes d d.leases) l.place.me.1 l.has_spare.2
 
   -- and those of what is leased besides behind these
-  all_behind : (ls : List Lease) → behind ++ blanks (leased_homes d ls) ≡ blanks (own_bag d ∷ leased_homes d (d.leases ++ ls))
-  all_behind ls = sym (ap (λ (ks : List ℕ). blanks {T = T} (own_bag d ∷ ks)) (homes_both d d.leases ls) ∙ blanks_both (own_bag d ∷ leased_homes d d.leases) (leased_homes d ls))
+  all_behind : (ls : List Lease) → behind ++ blanks (leased_homes d ls) ≡ blanks (leased_homes d (d.leases ++ ls))
+  all_behind ls = sym (ap (λ (ks : List ℕ). blanks {T = T} (ks)) (homes_both d d.leases ls) ∙ blanks_both (leased_homes d d.leases) (leased_homes d ls))
 
 pub exchange_owner-free-requires-clause-out : goal.exchange_owner-free-requires-clause-out
 exchange_owner-free-requires-clause-out g c = let l = c.args.local.now in (behind l, out l)
@@ -56,7 +56,7 @@ invariant_of-local g c = let l = c.args.local.now in let d = l.place.me.0 in let
       has_spare = (
         ap (λ (z : Me _ Acting). z.0.spare) all,
         c.exchange_owner-free.ensures.spare,
-        are_out m (own_spare m.0 y) (own_bag m.0) ks (ap (λ (z : Me _ Acting). leased_homes z.0 z.0.leases) all) (ap (λ (z : Me _ Acting). z.1) all ∙ (ap (λ xs. (own_spare d y, Blank) ∷ xs) (all_behind l t.1) ∙ sym (ap (λ (z : Me _ Acting). blanks (own_spare z.0 y ∷ own_bag z.0 ∷ ks)) all))),
+        are_out m (own_spare m.0 y) ks (ap (λ (z : Me _ Acting). leased_homes z.0 z.0.leases) all) (ap (λ (z : Me _ Acting). z.1) all ∙ (ap (λ xs. (own_spare d y, Blank) ∷ xs) (all_behind l t.1) ∙ sym (ap (λ (z : Me _ Acting). blanks (own_spare z.0 y ∷ ks)) all))),
       );
       lends = (
         told.0,
@@ -65,12 +65,11 @@ invariant_of-local g c = let l = c.args.local.now in let d = l.place.me.0 in let
       );
       shut = λ x. absurd (cc);
       alive = λ f x. l.alive f (c.in-Some.is ∙ x);
-      leaves = (ap (λ (z : Me _ Acting). z.0.left) all ∙ l.leaves.0, l.leaves.1, subst (λ (z : Sizes). z.slots ≤ vec_capacity l.bag) (sym sizes) l.leaves.2);
       phase = ap (λ (z : Me _ Acting). z.0.known.phase) all ∙ l.phase;
       found = ap (λ (z : Me _ Acting). z.0.known.found) all ∙ l.found;
       noted = l.noted;
       fills = (ap (λ (z : Me _ Acting). z.0.filling) all ∙ l.fills.0, l.fills.1, subst (λ (z : Sizes). l.number < z.participants) (sym sizes) l.fills.2);
-      waits = (subst (λ (z : Me _ Acting). Waits z.0.waits l.bags.slots.items (ages l.bags.current l.bags.previous l.bags.next l.bags.due)) (sym all) l.waits.0, l.waits.1, l.waits.2 ∙ sym (ap (λ (z : Sizes). z.slots) sizes));
+      waits = (subst (λ (z : Me _ Acting). WaitsIn z.0.sizes.slots z.0.waits l.bags) (sym all) l.waits.0, l.waits.1);
     }
 
 pub returns-in-Ok-clause-same : goal.returns-in-Ok-clause-same

@@ -1,12 +1,12 @@
-use Rattle.std.proofs.Common.{◌≡◌, ◌<◌, ◌≤◌, true, false, Bool, ℕ, IsTrue, IsFalse, [], ◌∷◌, ◌++◌, map, length, vec_capacity, refl, sym, ap, ◌∙◌, subst}
+use Rattle.std.proofs.Common.{◌≡◌, ◌<◌, ◌≤◌, true, false, Bool, ℕ, IsTrue, IsFalse, [], ◌∷◌, ◌++◌, map, length, refl, sym, ap, ◌∙◌, subst}
 use Rattle.std.specs.VecDeque.{deque_capacity}
 use Rattle.atomic_table.specs.Seated.{TableId}
 use Rattle.atomic_table.specs.Table.{Me}
-use Rattle.domain_table.specs.Bags.{ages, Waits}
+use Rattle.domain_table.specs.Ledgers.{WaitsIn}
 use Rattle.domain_table.specs.Contents.{is_blank}
 use Rattle.domain_table.specs.Layout.{claim_word}
 use Rattle.domain_table.specs.Leases.{lease_told, life_number, leased_homes, has_all, row_slots, all_below}
-use Rattle.domain_table.specs.Plays.{with_step, own_spare, own_bag}
+use Rattle.domain_table.specs.Plays.{with_step, own_spare}
 use Rattle.domain_table.specs.Owners.{told}
 use Rattle.domain_table.specs.Layout.{cell_word}
 use Rattle.domain_table.specs.declared.board.Plan.{Plan}
@@ -30,7 +30,7 @@ invariant_of-local g c = let l = c.args.local.now in let all = (stepped (cell_wo
     subst (λ (z : TableId). claim_word l.number < z.words) (sym table) l.acts.4,
     ap (λ (z : Me _ _). z.0.releasing) all ∙ l.acts.5,
   );
-  has_spare = (ap (λ (z : Me _ _). z.0.spare) all ∙ l.has_spare.0, l.has_spare.1, ap (λ (z : Me _ _). has_all is_blank (own_spare z.0 l.spare ∷ own_bag z.0 ∷ leased_homes z.0 z.0.leases) z.1) all ∙ l.has_spare.2);
+  has_spare = (ap (λ (z : Me _ _). z.0.spare) all ∙ l.has_spare.0, l.has_spare.1, ap (λ (z : Me _ _). has_all is_blank (own_spare z.0 l.spare ∷ leased_homes z.0 z.0.leases) z.1) all ∙ l.has_spare.2);
   lends = (
     l.lends.0 ∙ sym (ap (λ (z : Me _ _). map (lease_told (life_number l.life)) z.0.leases) all),
     subst (λ (z : Me _ _). z.0.sizes.slots ≤ deque_capacity l.rows) (sym all) l.lends.1,
@@ -38,12 +38,11 @@ invariant_of-local g c = let l = c.args.local.now in let all = (stepped (cell_wo
   );
   shut = λ e. ((l.shut e).0, ap (λ (z : Me _ _). z.0.leases) all ∙ (l.shut e).1);
   alive = l.alive;
-  leaves = (ap (λ (z : Me _ _). z.0.left) all ∙ l.leaves.0, l.leaves.1, subst (λ (z : Me _ _). z.0.sizes.slots ≤ vec_capacity l.bag) (sym all) l.leaves.2);
   phase = ap (λ (z : Me _ _). z.0.known.phase) all ∙ l.phase;
   found = ap (λ (z : Me _ _). z.0.known.found) all ∙ l.found;
   noted = l.noted;
   fills = (ap (λ (z : Me _ _). z.0.filling) all ∙ l.fills.0, l.fills.1, subst (λ (z : Me _ _). l.number < z.0.sizes.participants) (sym all) l.fills.2);
-  waits = (subst (λ (z : Me _ _). Waits z.0.waits l.bags.slots.items (ages l.bags.current l.bags.previous l.bags.next l.bags.due)) (sym all) l.waits.0, l.waits.1, l.waits.2 ∙ sym (ap (λ (z : Me _ _). z.0.sizes.slots) all));
+  waits = (subst (λ (z : Me _ _). WaitsIn z.0.sizes.slots z.0.waits l.bags) (sym all) l.waits.0, l.waits.1);
 }
 
 pub returns-clause-set : goal.returns-clause-set

@@ -21,7 +21,7 @@ module _ {T : Type 0} (m m' : Me (Home T) Acting) (os : List Owner) where
   none ts h e = (h.1, h.3 ∙ ap (λ (xs : List Owner). (record m.0 { hand = xs ++ os; waits = h.1 }, m.1)) (none_held h.0 (sym h.2 ∙ e)))
 
 pub loop-held-init : goal.loop-held-init
-loop-held-init g c = let m = c.args.place.now.me in record { seat = (refl, refl); owners = λ hs os h e. (hs, m.0.waits, h, λ j. (record m.0 { hand = e j }, m.1)); waits = c.requires.waits.0; room = (refl, refl) }
+loop-held-init g c = let m = c.args.place.now.me in record { seat = (refl, refl); owners = λ hs os h e. (hs, m.0.waits, h, λ j. (record m.0 { hand = e j }, m.1)); waits = c.requires.waits; due = (refl, refl) }
 
 pub release_held-requires-clause-owner : goal.release_held-requires-clause-owner
 release_held-requires-clause-owner g c = let q = c.requires.owners in let f = first c.args.place.now.me c.loop-held.place.me q.1 _ _ _ (c.loop-held.invariant.owners q.0 q.1 q.2 q.3) c.in-Some.ensures in
@@ -37,7 +37,7 @@ loop-held-preserved g c = let m = c.args.place.now.me in let m1 = c.loop-held.pl
     t.1 ∙ ap (λ (z : Me _ Acting). (record z.0 { hand = f.1 ++ os; waits = t.0 }, z.1)) i.3,
   );
   waits = r.waits;
-  room = (r.bags.1 ∙ inv.room.0, r.bags.0 ∙ inv.room.1);
+  due = (r.bags.1 ∙ inv.due.0, r.bags.0 ∙ inv.due.1);
 }
 
 pub returns-clause-released : goal.returns-clause-released

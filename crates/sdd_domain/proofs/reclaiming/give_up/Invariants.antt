@@ -1,8 +1,8 @@
 use Rattle.std.proofs.Common.{◌≡◌, ◌++◌, List, map, length}
-use Rattle.std.specs.VecDeque.{deque_capacity}
 use Rattle.sdd_homes.specs.declared.Garbage.{Garbage}
 use Rattle.sdd_homes.specs.declared.Owner.{Owner}
-use Rattle.domain_table.specs.Bags.{ages, Waits}
+use Rattle.domain_table.specs.Bags.{aged}
+use Rattle.domain_table.specs.Ledgers.{WaitsIn}
 use Rattle.domain_table.specs.Owners.{told}
 use Rattle.sdd_domain.proofs.reclaiming.give_up.Given as goal
 
@@ -10,8 +10,8 @@ abbrev pub invariant-loop-held : goal.invariant-loop-held
 invariant-loop-held g l = record {
   seat : (l.place.table_id ≡ l.fn.place.table_id) × (l.place.id ≡ l.fn.place.id);
   owners : (hs os : List Owner) → g.T.Holds.holds l.fn.item ≡ map told hs → l.fn.place.me.0.hand ≡ hs ++ os → (ks : List Owner) × (ws : List Garbage) × (g.T.Holds.holds l.item ≡ map told ks) × (l.place.me ≡ (record l.fn.place.me.0 { hand = ks ++ os; waits = ws }, l.fn.place.me.1));
-  waits : Waits l.place.me.0.waits l.bags.slots.items (ages l.bags.current l.bags.previous l.bags.next l.bags.due);
-  room : (deque_capacity l.bags.slots ≡ deque_capacity l.fn.bags.slots) × (l.bags.due ≡ l.fn.bags.due);
+  waits : WaitsIn l.sizes.slots l.place.me.0.waits l.bags;
+  due : (aged 3 l.place.me.0.waits ≡ aged 3 l.fn.place.me.0.waits) × (l.bags.due ≡ l.fn.bags.due);
 }
 
 abbrev pub decreases-loop-held : goal.decreases-loop-held

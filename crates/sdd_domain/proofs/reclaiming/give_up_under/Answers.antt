@@ -24,7 +24,7 @@ module _ {T : Type 0} (m m' : Me (Home T) Acting) (os : List Owner) where
   none ts h e = (h.1, h.2, h.4, h.5 ∙ ap (λ (xs : List Owner). (record m.0 { hand = xs ++ os; leases = h.2; waits = h.1 }, m.1)) (none_held h.0 (sym h.3 ∙ e)))
 
 pub loop-held-init : goal.loop-held-init
-loop-held-init g c = let m = c.args.place.now.me in record { seat = (refl, refl); owners = λ hs os h e. (hs, m.0.waits, m.0.leases, h, refl, λ j. (record m.0 { hand = e j }, m.1)); rows = λ life told. told; same = (refl, refl); waits = c.requires.waits.0; room = (refl, refl) }
+loop-held-init g c = let m = c.args.place.now.me in record { seat = (refl, refl); owners = λ hs os h e. (hs, m.0.waits, m.0.leases, h, refl, λ j. (record m.0 { hand = e j }, m.1)); rows = λ life told. told; same = (refl, refl); waits = c.requires.waits; due = refl }
 
 pub give_back-requires-clause-owner : goal.give_back-requires-clause-owner
 give_back-requires-clause-owner g c = let q = c.requires.owners in let f = first c.args.place.now.me c.loop-held.place.me q.1 _ _ _ (c.loop-held.invariant.owners q.0 q.1 q.2 q.3) c.in-Some.ensures in
@@ -47,7 +47,7 @@ loop-held-preserved g c = let m = c.args.place.now.me in let m1 = c.loop-held.pl
   rows = λ life told. r.rows life (inv.rows life told);
   same = (r.same.0 ∙ inv.same.0, r.same.1 ∙ inv.same.1);
   waits = r.waits;
-  room = (r.bags.1 ∙ inv.room.0, r.bags.0 ∙ inv.room.1);
+  due = r.bags ∙ inv.due;
 }
 
 pub returns-clause-released : goal.returns-clause-released

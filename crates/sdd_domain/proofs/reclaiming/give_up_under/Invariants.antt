@@ -3,7 +3,7 @@ use Rattle.std.specs.VecDeque.{deque_capacity}
 use Rattle.sdd_homes.specs.declared.Garbage.{Garbage}
 use Rattle.sdd_homes.specs.declared.Lease.{Lease}
 use Rattle.sdd_homes.specs.declared.Owner.{Owner}
-use Rattle.domain_table.specs.Bags.{ages, Waits}
+use Rattle.domain_table.specs.Ledgers.{WaitsIn}
 use Rattle.domain_table.specs.Leases.{row_told, lease_told, row_slots}
 use Rattle.domain_table.specs.Owners.{told}
 use Rattle.domain_garbage.specs.Bag.{AreAt}
@@ -15,8 +15,8 @@ invariant-loop-held g l = record {
   owners : (hs os : List Owner) → g.T.Holds.holds l.fn.item ≡ map told hs → l.fn.place.me.0.hand ≡ hs ++ os → (ks : List Owner) × (ws : List Garbage) × (ls : List Lease) × (g.T.Holds.holds l.item ≡ map told ks) × AreAt l.fn.place.me.0.leases ls × (l.place.me ≡ (record l.fn.place.me.0 { hand = ks ++ os; leases = ls; waits = ws }, l.fn.place.me.1));
   rows : (life : ℕ) → map row_told l.fn.rows.items ≡ map (lease_told life) l.fn.place.me.0.leases → map row_told l.rows.items ≡ map (lease_told life) l.place.me.0.leases;
   same : (deque_capacity l.rows ≡ deque_capacity l.fn.rows) × (row_slots l.rows.items ≡ row_slots l.fn.rows.items);
-  waits : Waits l.place.me.0.waits l.bags.slots.items (ages l.bags.current l.bags.previous l.bags.next l.bags.due);
-  room : (deque_capacity l.bags.slots ≡ deque_capacity l.fn.bags.slots) × (l.bags.due ≡ l.fn.bags.due);
+  waits : WaitsIn l.sizes.slots l.place.me.0.waits l.bags;
+  due : l.bags.due ≡ l.fn.bags.due;
 }
 
 abbrev pub decreases-loop-held : goal.decreases-loop-held

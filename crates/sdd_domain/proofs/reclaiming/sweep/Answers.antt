@@ -3,7 +3,7 @@ use Rattle.atomic_table.specs.Table.{Me}
 use Rattle.sdd_steps.specs.State.{Has}
 use Rattle.sdd_steps.specs.Steps.{is_ready, is_past}
 use Rattle.sdd_homes.specs.declared.Lease.{Lease}
-use Rattle.domain_table.specs.Bags.{ages, Waits}
+use Rattle.domain_table.specs.Ledgers.{WaitsIn}
 use Rattle.domain_table.specs.Leases.{lease_told, all_below}
 use Rattle.domain_table.specs.declared.board.Acting.{Acting}
 use Rattle.domain_garbage.specs.Bag.{noted_told, Notes, NoneDue}
@@ -16,7 +16,7 @@ past : (note count : ℕ) (reread : Rattle.std.specs.Prelude.Option ℕ) → rer
 past note count reread is le = ap (is_past note) is ∙ le-leb (note + 3) count le
 
 pub loop-noted-init : goal.loop-noted-init
-loop-noted-init g c = let m = c.args.place.now.me in record { seat = (refl, refl); swept = (m.0.slot, m.0.waits, m.0.leases, m.0.collected, refl, refl); rows = λ life told. told; same = (refl, refl); waits = c.requires.waits.0; room = (refl, refl); noted = (c.requires.noted, refl); gone = ([], sym (append-nil c.args.waiting.now.items), λ n h. absurd h) }
+loop-noted-init g c = let m = c.args.place.now.me in record { seat = (refl, refl); swept = (m.0.slot, m.0.waits, m.0.leases, m.0.collected, refl, refl); rows = λ life told. told; same = (refl, refl); waits = c.requires.waits; due = refl; noted = (c.requires.noted, refl); gone = ([], sym (append-nil c.args.waiting.now.items), λ n h. absurd h) }
 
 pub reclaim_noted-item-requires-clause-noted : goal.reclaim_noted-item-requires-clause-noted
 reclaim_noted-item-requires-clause-noted g c = let inv = c.loop-noted.invariant in let m1 = c.loop-noted.place.me in let t = c.in-Some.ensures.taken in let f = last_noted m1.0.collected c.loop-noted.waiting.items c.take_due.new.waiting.items c.in-Some.noted inv.noted.0 t.0 in
@@ -45,7 +45,7 @@ give_up_under-requires-clause-ready g c = let inv = c.loop-noted.invariant in le
 
 pub give_up_under-requires-clause-waits : goal.give_up_under-requires-clause-waits
 give_up_under-requires-clause-waits g c = let inv = c.loop-noted.invariant in let bags = c.loop-noted.bags in let m1 = c.loop-noted.place.me in let t = c.in-Some.ensures.taken in let f = last_noted m1.0.collected c.loop-noted.waiting.items c.take_due.new.waiting.items c.in-Some.noted inv.noted.0 t.0 in
-    let r = c.reclaim_noted-item.ensures.reclaimed f.1 f.0 f.2 in (subst (λ (z : Me _ Acting). Waits z.0.waits bags.slots.items (ages bags.current bags.previous bags.next bags.due)) (sym r.2) inv.waits, inv.room.0 ∙ c.requires.waits.1)
+    let r = c.reclaim_noted-item.ensures.reclaimed f.1 f.0 f.2 in subst (λ (z : Me _ Acting). WaitsIn c.args.sizes.now.slots z.0.waits bags) (sym r.2) inv.waits
 
 pub loop-noted-preserved : goal.loop-noted-preserved
 loop-noted-preserved g c = let inv = c.loop-noted.invariant in let m0 = c.args.place.now.me in let m1 = c.loop-noted.place.me in let n = c.in-Some.noted in let t = c.in-Some.ensures.taken in let f = last_noted m1.0.collected c.loop-noted.waiting.items c.take_due.new.waiting.items n inv.noted.0 t.0 in
@@ -56,7 +56,7 @@ loop-noted-preserved g c = let inv = c.loop-noted.invariant in let m0 = c.args.p
       rows = λ life told. e.rows.0 life (inv.rows life told ∙ sym (ap (λ (z : Me _ Acting). map (lease_told life) z.0.leases) r.2));
       same = (e.rows.1 ∙ inv.same.0, e.rows.2 ∙ inv.same.1);
       waits = e.waits.0;
-      room = (e.waits.2 ∙ inv.room.0, e.waits.1 ∙ inv.room.1);
+      due = e.waits.1 ∙ inv.due;
       noted = (subst (λ (z : Me _ Acting). Notes z.0.collected c.take_due.new.waiting.items) (sym all) f.3, c.take_due.ensures.same ∙ inv.noted.1);
       gone = (
         n ∷ inv.gone.0,

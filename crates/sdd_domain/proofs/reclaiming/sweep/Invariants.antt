@@ -3,7 +3,7 @@ use Rattle.std.specs.VecDeque.{deque_len, deque_capacity}
 use Rattle.sdd_steps.specs.State.{Has}
 use Rattle.sdd_homes.specs.declared.Garbage.{Garbage}
 use Rattle.sdd_homes.specs.declared.Lease.{Lease}
-use Rattle.domain_table.specs.Bags.{ages, Waits}
+use Rattle.domain_table.specs.Ledgers.{WaitsIn}
 use Rattle.domain_table.specs.Leases.{row_told, lease_told, row_slots}
 use Rattle.domain_garbage.specs.Bag.{Notes, AreAt}
 use Rattle.domain_garbage.specs.declared.private.Noted.{Noted}
@@ -15,8 +15,8 @@ invariant-loop-noted g l = record {
   swept : (k : ℕ) × (ws : List Garbage) × (ls : List Lease) × (cs : List Garbage) × AreAt l.fn.place.me.0.leases ls × (l.place.me ≡ (record l.fn.place.me.0 { slot = k; leases = ls; waits = ws; collected = cs }, l.fn.place.me.1));
   rows : (life : ℕ) → map row_told l.fn.rows.items ≡ map (lease_told life) l.fn.place.me.0.leases → map row_told l.rows.items ≡ map (lease_told life) l.place.me.0.leases;
   same : (deque_capacity l.rows ≡ deque_capacity l.fn.rows) × (row_slots l.rows.items ≡ row_slots l.fn.rows.items);
-  waits : Waits l.place.me.0.waits l.bags.slots.items (ages l.bags.current l.bags.previous l.bags.next l.bags.due);
-  room : (deque_capacity l.bags.slots ≡ deque_capacity l.fn.bags.slots) × (l.bags.due ≡ l.fn.bags.due);
+  waits : WaitsIn l.sizes.slots l.place.me.0.waits l.bags;
+  due : l.bags.due ≡ l.fn.bags.due;
   noted : Notes l.place.me.0.collected l.waiting.items × (deque_capacity l.waiting ≡ deque_capacity l.fn.waiting);
   gone : (gone : List Noted) × (l.fn.waiting.items ≡ l.waiting.items ++ gone) × ((n : Noted) → Has gone n → n.note + 3 ≤ l.count);
 }

@@ -1,10 +1,12 @@
-use Rattle.std.proofs.Common.{◌≡◌, suc, ◌-◌, ◌++◌, ◌∷◌, List, [], IfSome, subst, arith}
-use Rattle.sdd_homes.specs.declared.Garbage.{Garbage}
-use Rattle.domain_table.specs.Bags.{ages, Waits}
-use Rattle.domain_table.proofs.Aged.{takes_oldest}
+use Rattle.std.proofs.Common.{◌≡◌, ◌++◌}
+use Rattle.domain_table.proofs.WaitLemmas.{lists_of, due_behind, due_taken}
 use Rattle.domain_table.proofs.bags.Bags.take_due.Goals as goal
 
+pub take_first-slot-requires-clause-bag : goal.take_first-slot-requires-clause-bag
+take_first-slot-requires-clause-bag g c = let n = c.args.sizes.now.slots in let ws = c.args.place.now.me.0.waits in let t = lists_of n ws c.args.self.now c.requires.waits in (t.cs ++ (t.ps ++ t.ns), t.ds, due_behind n c.args.self.now ws t, t.due)
+
+pub take_first-slot-requires-clause-acts : goal.take_first-slot-requires-clause-acts
+take_first-slot-requires-clause-acts g c = (c.requires.acts, (lists_of c.args.sizes.now.slots c.args.place.now.me.0.waits c.args.self.now c.requires.waits).below)
+
 pub returns-clause-taken : goal.returns-clause-taken
-returns-clause-taken c = let s = c.args.self.now in let some = c.if-due-eq0.false in let is : suc (s.due - 1) ≡ s.due = omega arith in
-    subst (λ d. IfSome c.pop_back.result (λ slot. (ws : List Garbage) → Waits ws s.slots.items (ages s.current s.previous s.next d) → (vs : List Garbage) × (w : Garbage) × (ws ≡ vs ++ w ∷ []) × (w.slot ≡ slot) × (w.age ≡ 3) × Waits vs c.pop_back.new.self.items (ages s.current s.previous s.next (s.due - 1)))) is
-    (takes_oldest c.pop_back.result s.slots.items c.pop_back.new.self.items s.current s.previous s.next (s.due - 1) c.pop_back.ensures.items)
+returns-clause-taken g c = let n = c.args.sizes.now.slots in let ws = c.args.place.now.me.0.waits in due_taken n c.args.self.now ws c.take_first-slot.result.1 (lists_of n ws c.args.self.now c.requires.waits) c.take_first-slot.result.0 c.take_first-slot.ensures.taken

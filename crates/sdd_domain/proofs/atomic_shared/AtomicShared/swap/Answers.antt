@@ -1,14 +1,14 @@
-use Rattle.std.proofs.Common.{◌≡◌, ◌<◌, ◌≤◌, true, ℕ, List, [], ◌∷◌, ◌++◌, length, map, vec_capacity, sym, refl, ap, ◌∙◌, subst}
+use Rattle.std.proofs.Common.{◌≡◌, ◌<◌, ◌≤◌, true, ℕ, List, [], ◌∷◌, ◌++◌, length, map, sym, refl, ap, ◌∙◌, subst}
 use Rattle.std.specs.VecDeque.{deque_capacity}
 use Rattle.atomic_table.specs.Seated.{TableId}
 use Rattle.atomic_table.specs.Table.{Me}
-use Rattle.domain_table.specs.Bags.{ages, Waits}
+use Rattle.domain_table.specs.Ledgers.{WaitsIn}
 use Rattle.domain_table.specs.Contents.{blanks}
 use Rattle.domain_table.specs.Owners.{told}
 use Rattle.domain_table.specs.Layout.{claim_word, cell_word}
 use Rattle.sdd_base.specs.declared.sizes.Sizes.{Sizes}
 use Rattle.domain_table.specs.Leases.{lease_told, life_number, leased_homes, row_slots, all_below}
-use Rattle.domain_table.specs.Plays.{own_spare, own_bag}
+use Rattle.domain_table.specs.Plays.{own_spare}
 use Rattle.domain_table.specs.declared.board.Acting.{Acting}
 use Rattle.domain_table.specs.declared.board.Home.{Home}
 use Rattle.domain_table.specs.declared.board.Home.TheVariants.{Blank}
@@ -17,16 +17,16 @@ use Rattle.sdd_domain.proofs.Bagged.{are_out}
 use Rattle.domain_table.proofs.Told.{all_there}
 use Rattle.sdd_domain.proofs.atomic_shared.AtomicShared.swap.Goals as goal
 
--- the bag and the leased homes are behind the spare slot
+-- the leased homes are behind the spare slot
 module _ {T : Type 0} (l : Local T) where
   abbrev d : Acting
   d = l.place.me.0
 
   abbrev behind : List (ℕ × Home T)
-  behind = blanks (own_bag d ∷ leased_homes d d.leases)
+  behind = blanks (leased_homes d d.leases)
 
   out : l.place.me.1 ≡ (own_spare d l.spare, Blank) ∷ behind
-  out = all_there (own_spare d l.spare ∷ own_bag d ∷ leased_homes d d.leases) l.place.me.1 l.has_spare.2
+  out = all_there (own_spare d l.spare ∷ leased_homes d d.leases) l.place.me.1 l.has_spare.2
 
 pub swap_owner-free-requires-clause-out : goal.swap_owner-free-requires-clause-out
 swap_owner-free-requires-clause-out g c = let l = c.args.local.now in (behind l, out l)
@@ -44,7 +44,7 @@ invariant_of-local g c = let l = c.args.local.now in let d = l.place.me.0 in let
   has_spare = (
     ap (λ (z : Me _ Acting). z.0.spare) all,
     c.swap_owner-free.ensures.spare,
-    are_out m (own_spare m.0 y) (own_bag m.0) (leased_homes d d.leases) (ap (λ (z : Me _ Acting). leased_homes z.0 z.0.leases) all) (ap (λ (z : Me _ Acting). z.1) all ∙ sym (ap (λ (z : Me _ Acting). blanks (own_spare z.0 y ∷ own_bag z.0 ∷ leased_homes d d.leases)) all)),
+    are_out m (own_spare m.0 y) (leased_homes d d.leases) (ap (λ (z : Me _ Acting). leased_homes z.0 z.0.leases) all) (ap (λ (z : Me _ Acting). z.1) all ∙ sym (ap (λ (z : Me _ Acting). blanks (own_spare z.0 y ∷ leased_homes d d.leases)) all)),
   );
   lends = (
     l.lends.0 ∙ sym (ap (λ (z : Me _ Acting). map (lease_told (life_number l.life)) z.0.leases) all),
@@ -53,12 +53,11 @@ invariant_of-local g c = let l = c.args.local.now in let d = l.place.me.0 in let
   );
   shut = λ e. ((l.shut e).0, ap (λ (z : Me _ Acting). z.0.leases) all ∙ (l.shut e).1);
   alive = l.alive;
-  leaves = (ap (λ (z : Me _ Acting). z.0.left) all ∙ l.leaves.0, l.leaves.1, subst (λ (z : Me _ Acting). z.0.sizes.slots ≤ vec_capacity l.bag) (sym all) l.leaves.2);
   phase = ap (λ (z : Me _ Acting). z.0.known.phase) all ∙ l.phase;
   found = ap (λ (z : Me _ Acting). z.0.known.found) all ∙ l.found;
   noted = l.noted;
   fills = (ap (λ (z : Me _ Acting). z.0.filling) all ∙ l.fills.0, l.fills.1, subst (λ (z : Me _ Acting). l.number < z.0.sizes.participants) (sym all) l.fills.2);
-  waits = (subst (λ (z : Me _ Acting). Waits z.0.waits l.bags.slots.items (ages l.bags.current l.bags.previous l.bags.next l.bags.due)) (sym all) l.waits.0, l.waits.1, l.waits.2 ∙ sym (ap (λ (z : Me _ Acting). z.0.sizes.slots) all));
+  waits = (subst (λ (z : Me _ Acting). WaitsIn z.0.sizes.slots z.0.waits l.bags) (sym all) l.waits.0, l.waits.1);
 }
 
 pub returns-clause-same : goal.returns-clause-same

@@ -2,7 +2,7 @@ use Rattle.std.proofs.Common.{◌≡◌, ℕ, ◌+◌, ◌++◌, ap, sym, ◌∙
 use Rattle.sdd_steps.specs.State.{At}
 use Rattle.sdd_steps.proofs.ListLemmas.{at_replicate}
 use Rattle.domain_table.specs.Ledgers.{IsEmpty}
-use Rattle.domain_table.specs.Layout.{all_homes, all_spares, bag_place}
+use Rattle.domain_table.specs.Layout.{all_homes, all_spares}
 use Rattle.domain_table.specs.declared.board.Home.{Home}
 use Rattle.domain_table.specs.declared.board.Home.TheVariants.{Blank}
 use Rattle.domain_table.specs.declared.board.Plan.{Plan}
@@ -11,13 +11,12 @@ use Rattle.domain_table.proofs.Seats.{begins}
 use Rattle.sdd_domain.proofs.domain.Domain.with_count.Goals as goal
 
 pub new-requires : goal.new-requires
-new-requires g c = let sizes = c.args.sizes in let homes = c.in_ok-homes.ensures in let own = homes.0 in let bags = homes.1 in let spares : List (Home g.row.T.Denot) = replicate (all_spares sizes) Blank in
-    let long_own = homes.2 in let long_bags = homes.4 in let long_spares : length spares ≡ all_spares sizes = many_of (all_spares sizes) Blank in let long_both = length-append own spares in let all = homes.6 in
+new-requires g c = let sizes = c.args.sizes in let homes = c.in_ok-homes.ensures in let own = homes.0 in let spares : List (Home g.row.T.Denot) = replicate (all_spares sizes) Blank in
+    let long_own = homes.1 in let long_spares : length spares ≡ all_spares sizes = many_of (all_spares sizes) Blank in let long_both = length-append own spares in let all = homes.3 in
     begins _ _ (record { sizes = sizes; first = c.args.count }) c.deref.result.now c.in_ok-homes.homes.items (omega (arith, c.ranges.count)) (c.deref.ensures.value ∙ c.in_ok-words.ensures) (record {
-      long = ap length all ∙ (length-append (own ++ spares) bags ∙ omega arith);
-      low = λ i y lt at. homes.3 i y (at_low own spares i y (omega arith) (at_low (own ++ spares) bags i y (omega arith) (subst (λ l. At l i y) all at)));
-      high = λ i y lt at. sym (at_replicate (all_spares sizes) i Blank y (at_high own spares i (all_homes sizes + i) y (omega arith) (at_low (own ++ spares) bags (all_homes sizes + i) y (omega arith) (subst (λ l. At l (all_homes sizes + i) y) all at))));
-      bags = λ p y lt at. homes.5 p y (at_high (own ++ spares) bags p (all_homes sizes + bag_place sizes p) y (omega arith) (subst (λ l. At l (all_homes sizes + bag_place sizes p) y) all at));
+      long = ap length all ∙ omega arith;
+      low = λ i y lt at. homes.2 i y (at_low own spares i y (omega arith) (subst (λ l. At l i y) all at));
+      high = λ i y lt at. sym (at_replicate (all_spares sizes) i Blank y (at_high own spares i (all_homes sizes + i) y (omega arith) (subst (λ l. At l (all_homes sizes + i) y) all at)));
     })
 
 pub invariant_of-result : goal.invariant_of-result

@@ -1,12 +1,12 @@
-use Rattle.std.proofs.Common.{◌≡◌, ◌<◌, ◌≤◌, true, ℕ, List, [], ◌∷◌, ◌++◌, map, vec_capacity, IfSome, IsSome, Some, None, sym, refl, ap, ◌∙◌, subst}
+use Rattle.std.proofs.Common.{◌≡◌, ◌<◌, ◌≤◌, true, ℕ, List, [], ◌∷◌, ◌++◌, map, IfSome, IsSome, Some, None, sym, refl, ap, ◌∙◌, subst}
 use Rattle.std.specs.VecDeque.{deque_capacity}
 use Rattle.atomic_table.specs.Seated.{TableId}
 use Rattle.sdd_base.specs.declared.sizes.Sizes.{Sizes}
-use Rattle.domain_table.specs.Bags.{ages, Waits}
+use Rattle.domain_table.specs.Ledgers.{WaitsIn}
 use Rattle.domain_table.specs.Contents.{is_blank}
 use Rattle.domain_table.specs.Layout.{claim_word, cell_word, packed}
 use Rattle.domain_table.specs.Leases.{code_told, row_told, lease_told, life_number, leased_homes, has_all, row_slots, all_below}
-use Rattle.domain_table.specs.Plays.{own_spare, own_bag}
+use Rattle.domain_table.specs.Plays.{own_spare}
 use Rattle.sdd_homes.specs.declared.Lease.{Lease}
 use Rattle.sdd_domain.specs.Tokens.{number_of, nest_in}
 use Rattle.sdd_base.specs.Epochs.{tag_number}
@@ -24,7 +24,7 @@ invariant_of-self g c = let l = c.args.self.now in let d = l.place.me.0 in let m
         subst (λ (z : TableId). claim_word l.number < z.words) (sym table) l.acts.4,
         ap (λ (z : Acting). z.releasing) e ∙ l.acts.5,
       );
-      has_spare = (ap (λ (z : Acting). z.spare) e ∙ l.has_spare.0, l.has_spare.1, ap (λ (z : Acting). has_all is_blank (own_spare z l.spare ∷ own_bag z ∷ leased_homes m.0 m.0.leases) m.1) e ∙ c.lease-at.ensures.out (own_spare d l.spare) (own_bag d) l.has_spare.2);
+      has_spare = (ap (λ (z : Acting). z.spare) e ∙ l.has_spare.0, l.has_spare.1, ap (λ (z : Acting). has_all is_blank (own_spare z l.spare ∷ leased_homes m.0 m.0.leases) m.1) e ∙ c.lease-at.ensures.out (own_spare d l.spare) l.has_spare.2);
       lends = (
         told.0,
         subst (λ (z : Sizes). z.slots ≤ deque_capacity rows) (sym sizes) (subst (λ n. d.sizes.slots ≤ n) (sym told.2) l.lends.1),
@@ -32,12 +32,11 @@ invariant_of-self g c = let l = c.args.self.now in let d = l.place.me.0 in let m
       );
       shut = λ x. absurd (cc);
       alive = λ f x. l.alive f (c.in-Some.is ∙ x);
-      leaves = (ap (λ (z : Acting). z.left) e ∙ l.leaves.0, l.leaves.1, subst (λ (z : Sizes). z.slots ≤ vec_capacity l.bag) (sym sizes) l.leaves.2);
       phase = ap (λ (z : Acting). z.known.phase) e ∙ l.phase;
       found = ap (λ (z : Acting). z.known.found) e ∙ l.found;
       noted = l.noted;
       fills = (ap (λ (z : Acting). z.filling) e ∙ l.fills.0, l.fills.1, subst (λ (z : Sizes). l.number < z.participants) (sym sizes) l.fills.2);
-      waits = (subst (λ (z : Acting). Waits z.waits l.bags.slots.items (ages l.bags.current l.bags.previous l.bags.next l.bags.due)) (sym e) l.waits.0, l.waits.1, l.waits.2 ∙ sym (ap (λ (z : Sizes). z.slots) sizes));
+      waits = (subst (λ (z : Acting). WaitsIn z.sizes.slots z.waits l.bags) (sym e) l.waits.0, l.waits.1);
     }
 
 pub returns-clause-seen : goal.returns-clause-seen

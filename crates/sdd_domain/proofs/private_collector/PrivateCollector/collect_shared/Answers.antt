@@ -1,12 +1,13 @@
-use Rattle.std.proofs.Common.{◌≡◌, ◌<◌, ◌≤◌, ◌==◌, ◌+◌, ◌^◌, cond, true, map, vec_capacity, ap, sym, ◌∙◌, subst, arith}
+use Rattle.std.proofs.Common.{◌≡◌, ◌<◌, ◌≤◌, ◌==◌, ◌+◌, ◌^◌, cond, true, List, map, ap, sym, ◌∙◌, subst, arith}
 use Rattle.std.specs.VecDeque.{deque_capacity}
 use Rattle.atomic_table.specs.Seated.{TableId}
 use Rattle.atomic_table.specs.Table.{Me}
 use Rattle.sdd_base.specs.declared.sizes.Sizes.{Sizes}
 use Rattle.sdd_base.specs.declared.status.LocalState.{LocalState}
 use Rattle.sdd_steps.specs.declared.participant.Phase.TheVariants.{Idle, Opened}
+use Rattle.sdd_homes.specs.declared.Garbage.{Garbage}
 use Rattle.sdd_homes.specs.declared.Lease.{Lease}
-use Rattle.domain_table.specs.Bags.{ages, Waits}
+use Rattle.domain_table.specs.Ledgers.{WaitsIn}
 use Rattle.domain_table.specs.Layout.{claim_word}
 use Rattle.domain_table.specs.Leases.{life_number, lease_told, row_slots, all_below}
 use Rattle.domain_table.specs.declared.board.Acting.{Acting}
@@ -26,7 +27,7 @@ invariant_of-local g c = let l = c.args.local.now in let d = l.place.me.0 in let
     let s = c.sweep.ensures.swept in let taken = c.take_bag.ensures.taken ws0 c.args.self.at in let came = c.take_in.ensures.taken o c.args.shared.owns in let p = c.put_in-last.ensures.given o m3.0.hand (ap (λ (z : Me _ Acting). z.0.hand) came) in
     let is = all l c.reread-note.result ws0 m1 m2 taken c.reread-note.ensures.noted m3 s.0 s.1 s.2 s.3 s.4 s.5 o m4 m5 m6 came p.0 p.1 p.2 p.3 c.part_bag-seat.ensures.seat.2 in
     let same = at_last l c.reread-note.result ws0 m1 m2 taken c.reread-note.ensures.noted m3 s.0 s.1 s.2 s.3 s.4 s.5 o m4 m5 m6 came p.0 p.1 p.2 p.3 c.part_bag-seat.ensures.seat.2 in
-    let rows = c.put_in-last.new.rows in let bags = c.sweep.new.bags in let own = c.flag_waiting.ensures m3.0.waits c.sweep.ensures.waits.0 in
+    let rows = c.put_in-last.new.rows in let bags = c.sweep.new.bags in let own = c.flag_waiting.ensures c.args.domain.now.sizes.slots m3.0.waits c.sweep.ensures.waits.0 in
     let table = c.part_bag-seat.ensures.seat.0 ∙ (c.put_in-last.ensures.seat.0 ∙ (c.take_in.ensures.seat.0 ∙ (c.sweep.ensures.seat.0 ∙ (c.reread-note.ensures.seat.0 ∙ c.take_bag.ensures.seat.0)))) in record {
       acts = (
         ap (λ (z : Me _ Acting). z.0.kind) is ∙ l.acts.0,
@@ -45,16 +46,11 @@ invariant_of-local g c = let l = c.args.local.now in let d = l.place.me.0 in let
       );
       shut = λ e. (ap (λ (z : LocalState). z.nesting) own ∙ (l.shut e).0, ap (λ (z : Me _ Acting). z.0.leases) is ∙ none_same p.1 (same ∙ ap (map (λ (x : Lease). x.slot)) (l.shut e).1));
       alive = λ f e. subst (λ (z : LocalState). (0 < z.nesting) × (f.count + z.nesting ≡ 2 ^ 63)) (sym own) (l.alive f e);
-      leaves = (ap (λ (z : Me _ Acting). z.0.left) is ∙ l.leaves.0, l.leaves.1, subst (λ (z : Me _ Acting). z.0.sizes.slots ≤ vec_capacity l.bag) (sym is) l.leaves.2);
       phase = ap (λ (z : Me _ Acting). z.0.known.phase) is ∙ (l.phase ∙ ap (λ (z : LocalState). cond (z.nesting == 0) Idle (Opened z.previous)) (sym own));
       found = ap (λ (z : Me _ Acting). z.0.known.found) is ∙ (l.found ∙ sym (ap (λ (z : LocalState). z.previous) own));
       noted = ap (λ (z : LocalState). z.published) own ∙ (l.noted ∙ sym (ap (λ (z : LocalState). z.previous) own));
       fills = (ap (λ (z : Me _ Acting). z.0.filling) is ∙ l.fills.0, l.fills.1, subst (λ (z : Me _ Acting). l.number < z.0.sizes.participants) (sym is) l.fills.2);
-      waits = (
-        subst (λ zs. Waits zs bags.slots.items (ages bags.current bags.previous bags.next bags.due)) (ap (λ (z : Me _ Acting). z.0.waits) s.5 ∙ sym (ap (λ (z : Me _ Acting). z.0.waits) is)) c.sweep.ensures.waits.0,
-        c.sweep.ensures.waits.1 ∙ l.waits.1,
-        c.sweep.ensures.waits.2 ∙ (l.waits.2 ∙ sym (ap (λ (z : Me _ Acting). z.0.sizes.slots) is)),
-      );
+      waits = (subst (λ (z : Me _ Acting). WaitsIn z.0.sizes.slots z.0.waits bags) (sym is) (subst (λ (z : Sizes). WaitsIn z.slots s.1 bags) (sym (ap (λ (t : TableId × Sizes). t.1) c.requires.home ∙ sym c.args.domain.now.sized.0)) (subst (λ (zs : List Garbage). WaitsIn c.args.domain.now.sizes.slots zs bags) (ap (λ (z : Me _ Acting). z.0.waits) s.5) c.sweep.ensures.waits.0)), c.sweep.ensures.waits.1 ∙ l.waits.1);
     }
 
 pub returns-clause-held : goal.returns-clause-held

@@ -1,13 +1,13 @@
-use Rattle.std.proofs.Common.{◌≡◌, ◌<◌, ◌≤◌, true, List, ◌∷◌, map, drop, vec_capacity, ap, sym, ◌∙◌, subst}
+use Rattle.std.proofs.Common.{◌≡◌, ◌<◌, ◌≤◌, true, List, ◌∷◌, map, drop, ap, sym, ◌∙◌, subst}
 use Rattle.std.specs.VecDeque.{deque_capacity}
 use Rattle.atomic_table.specs.Seated.{TableId}
 use Rattle.atomic_table.specs.Table.{Me}
 use Rattle.sdd_homes.specs.declared.Lease.{Lease}
-use Rattle.domain_table.specs.Bags.{ages, Waits}
+use Rattle.domain_table.specs.Ledgers.{WaitsIn}
 use Rattle.domain_table.specs.Contents.{is_blank}
 use Rattle.domain_table.specs.Layout.{claim_word}
 use Rattle.domain_table.specs.Leases.{lease_told, life_number, leased_homes, has_all, row_slots, all_below}
-use Rattle.domain_table.specs.Plays.{own_spare, own_bag, others_in}
+use Rattle.domain_table.specs.Plays.{own_spare, others_in}
 use Rattle.domain_table.specs.declared.board.Acting.{Acting}
 use Rattle.sdd_domain.proofs.Handed.{owner, mine, first, told, same_slots}
 use Rattle.domain_table.proofs.Rows.{same_homes, none_same}
@@ -39,8 +39,8 @@ invariant_of-local g c = let l = c.args.local.now in let d = l.place.me.0 in let
       has_spare = (
         ap (λ (z : Me _ Acting). z.0.spare) all ∙ l.has_spare.0,
         l.has_spare.1,
-        subst (λ (z : Me _ Acting). has_all is_blank (own_spare z.0 l.spare ∷ own_bag z.0 ∷ leased_homes z.0 z.0.leases) z.1 ≡ true) (sym all)
-            (ap (λ ks. has_all is_blank (own_spare d l.spare ∷ own_bag d ∷ ks) l.place.me.1) (same_homes d ls d.leases slots) ∙ l.has_spare.2),
+        subst (λ (z : Me _ Acting). has_all is_blank (own_spare z.0 l.spare ∷ leased_homes z.0 z.0.leases) z.1 ≡ true) (sym all)
+            (ap (λ ks. has_all is_blank (own_spare d l.spare ∷ ks) l.place.me.1) (same_homes d ls d.leases slots) ∙ l.has_spare.2),
       );
       lends = (
         c.in-Some.ensures.rows (life_number l.life) (told l s m1 taken (life_number l.life) l.lends.0) ∙ (ap (λ (z : Me _ Acting). map (lease_told (life_number l.life)) z.0.leases) twice ∙ sym (ap (λ (z : Me _ Acting). map (lease_told (life_number l.life)) z.0.leases) all)),
@@ -49,12 +49,11 @@ invariant_of-local g c = let l = c.args.local.now in let d = l.place.me.0 in let
       );
       shut = λ e. ((l.shut e).0, ap (λ (z : Me _ Acting). z.0.leases) all ∙ none_same ls (slots ∙ ap (map (λ (x : Lease). x.slot)) (l.shut e).1));
       alive = l.alive;
-      leaves = (ap (λ (z : Me _ Acting). z.0.left) all ∙ l.leaves.0, l.leaves.1, subst (λ (z : Me _ Acting). z.0.sizes.slots ≤ vec_capacity l.bag) (sym all) l.leaves.2);
       phase = ap (λ (z : Me _ Acting). z.0.known.phase) all ∙ l.phase;
       found = ap (λ (z : Me _ Acting). z.0.known.found) all ∙ l.found;
       noted = l.noted;
       fills = (ap (λ (z : Me _ Acting). z.0.filling) all ∙ l.fills.0, l.fills.1, subst (λ (z : Me _ Acting). l.number < z.0.sizes.participants) (sym all) l.fills.2);
-      waits = (subst (λ (z : Me _ Acting). Waits z.0.waits l.bags.slots.items (ages l.bags.current l.bags.previous l.bags.next l.bags.due)) (sym all) l.waits.0, l.waits.1, l.waits.2 ∙ sym (ap (λ (z : Me _ Acting). z.0.sizes.slots) all));
+      waits = (subst (λ (z : Me _ Acting). WaitsIn z.0.sizes.slots z.0.waits l.bags) (sym all) l.waits.0, l.waits.1);
     }
 
 -- where it wasn't raised the owner leaves the hand again
@@ -79,7 +78,7 @@ invariant_of-local-in-None g c =
       has_spare = (
         ap (λ (z : Me _ Acting). z.0.spare) all ∙ l.has_spare.0,
         l.has_spare.1,
-        subst (λ (z : Me _ Acting). has_all is_blank (own_spare z.0 l.spare ∷ own_bag z.0 ∷ leased_homes z.0 z.0.leases) z.1 ≡ true) (sym all) l.has_spare.2,
+        subst (λ (z : Me _ Acting). has_all is_blank (own_spare z.0 l.spare ∷ leased_homes z.0 z.0.leases) z.1 ≡ true) (sym all) l.has_spare.2,
       );
       lends = (
         c.clone.ensures.rows (life_number l.life) (told l s c.take_in.new.place.me taken (life_number l.life) l.lends.0) ∙ sym (ap (λ (z : Me _ Acting). map (lease_told (life_number l.life)) z.0.leases) parted.2),
@@ -88,10 +87,9 @@ invariant_of-local-in-None g c =
       );
       shut = λ e. ((l.shut e).0, ap (λ (z : Me _ Acting). z.0.leases) all ∙ (l.shut e).1);
       alive = l.alive;
-      leaves = (ap (λ (z : Me _ Acting). z.0.left) all ∙ l.leaves.0, l.leaves.1, subst (λ (z : Me _ Acting). z.0.sizes.slots ≤ vec_capacity l.bag) (sym all) l.leaves.2);
       phase = ap (λ (z : Me _ Acting). z.0.known.phase) all ∙ l.phase;
       found = ap (λ (z : Me _ Acting). z.0.known.found) all ∙ l.found;
       noted = l.noted;
       fills = (ap (λ (z : Me _ Acting). z.0.filling) all ∙ l.fills.0, l.fills.1, subst (λ (z : Me _ Acting). l.number < z.0.sizes.participants) (sym all) l.fills.2);
-      waits = (subst (λ (z : Me _ Acting). Waits z.0.waits l.bags.slots.items (ages l.bags.current l.bags.previous l.bags.next l.bags.due)) (sym all) l.waits.0, l.waits.1, l.waits.2 ∙ sym (ap (λ (z : Me _ Acting). z.0.sizes.slots) all));
+      waits = (subst (λ (z : Me _ Acting). WaitsIn z.0.sizes.slots z.0.waits l.bags) (sym all) l.waits.0, l.waits.1);
     }

@@ -1,13 +1,13 @@
-use Rattle.std.proofs.Common.{◌≡◌, ◌<◌, ◌≤◌, true, ◌∷◌, map, vec_capacity, sym, ap, ◌∙◌, subst}
+use Rattle.std.proofs.Common.{◌≡◌, ◌<◌, ◌≤◌, true, ◌∷◌, map, sym, ap, ◌∙◌, subst}
 use Rattle.std.specs.VecDeque.{deque_capacity}
 use Rattle.atomic_table.specs.Seated.{TableId}
 use Rattle.atomic_table.specs.Table.{Me}
 use Rattle.sdd_base.specs.declared.sizes.Sizes.{Sizes}
-use Rattle.domain_table.specs.Bags.{ages, Waits}
+use Rattle.domain_table.specs.Ledgers.{WaitsIn}
 use Rattle.domain_table.specs.Contents.{is_blank}
 use Rattle.domain_table.specs.Layout.{claim_word}
 use Rattle.domain_table.specs.Leases.{lease_told, life_number, row_slots, all_below, leased_homes, has_all}
-use Rattle.domain_table.specs.Plays.{own_spare, own_bag, others_in}
+use Rattle.domain_table.specs.Plays.{own_spare, others_in}
 use Rattle.domain_table.specs.declared.board.Acting.{Acting}
 use Rattle.sdd_domain.proofs.Handed.{owner, mine, first}
 use Rattle.sdd_domain.proofs.shared.Shared.loaded.Goals as goal
@@ -24,7 +24,7 @@ invariant_of-local g c = let l = c.args.local.now in let d = l.place.me.0 in let
     ∙ (ap others_in made.2 ∙ ap (λ (z : Me _ Acting). others_in (record z.0 { known = record z.0.known { loaded = made.0 }; leases = made.1 })) in_hand) in
     let table = c.part_with-seat.ensures.seat.0 ∙ (c.lease_own-at.ensures.seat.0 ∙ c.take_in.ensures.seat.0) in let sizes : m2.0.sizes ≡ d.sizes = ap (λ (z : Acting). z.sizes) e in
     let home : d.sizes ≡ c.args.domain.now.sizes = ap (λ (t : TableId × Sizes). t.1) c.requires.home ∙ sym c.args.domain.now.sized.0 in
-    let out = c.lease_own-at.ensures.out (own_spare d l.spare) (own_bag d) (subst (λ (z : Me _ Acting). has_all is_blank (own_spare d l.spare ∷ own_bag d ∷ leased_homes z.0 z.0.leases) z.1 ≡ true) (sym in_hand) l.has_spare.2) in record {
+    let out = c.lease_own-at.ensures.out (own_spare d l.spare) (subst (λ (z : Me _ Acting). has_all is_blank (own_spare d l.spare ∷ leased_homes z.0 z.0.leases) z.1 ≡ true) (sym in_hand) l.has_spare.2) in record {
       acts = (
         ap (λ (z : Acting). z.kind) e ∙ l.acts.0,
         ap (λ (z : Acting). z.number) e ∙ l.acts.1,
@@ -36,7 +36,7 @@ invariant_of-local g c = let l = c.args.local.now in let d = l.place.me.0 in let
       has_spare = (
         ap (λ (z : Acting). z.spare) e ∙ l.has_spare.0,
         l.has_spare.1,
-        ap (λ (z : Acting). has_all is_blank (own_spare z l.spare ∷ own_bag z ∷ leased_homes m2.0 m2.0.leases) m2.1) e ∙ (ap (λ (z : Me _ Acting). has_all is_blank (own_spare d l.spare ∷ own_bag d ∷ leased_homes z.0 z.0.leases) z.1) back ∙ out),
+        ap (λ (z : Acting). has_all is_blank (own_spare z l.spare ∷ leased_homes m2.0 m2.0.leases) m2.1) e ∙ (ap (λ (z : Me _ Acting). has_all is_blank (own_spare d l.spare ∷ leased_homes z.0 z.0.leases) z.1) back ∙ out),
       );
       lends = (
         told.0 ∙ sym (ap (λ (z : Me _ Acting). map (lease_told c.in-Some.life.id) z.0.leases) back),
@@ -45,12 +45,11 @@ invariant_of-local g c = let l = c.args.local.now in let d = l.place.me.0 in let
       );
       shut = λ x. absurd (cc);
       alive = λ f x. l.alive f (c.in-Some.is ∙ x);
-      leaves = (ap (λ (z : Acting). z.left) e ∙ l.leaves.0, l.leaves.1, subst (λ (z : Sizes). z.slots ≤ vec_capacity l.bag) (sym sizes) l.leaves.2);
       phase = ap (λ (z : Acting). z.known.phase) e ∙ l.phase;
       found = ap (λ (z : Acting). z.known.found) e ∙ l.found;
       noted = l.noted;
       fills = (ap (λ (z : Acting). z.filling) e ∙ l.fills.0, l.fills.1, subst (λ (z : Sizes). l.number < z.participants) (sym sizes) l.fills.2);
-      waits = (subst (λ (z : Acting). Waits z.waits l.bags.slots.items (ages l.bags.current l.bags.previous l.bags.next l.bags.due)) (sym e) l.waits.0, l.waits.1, l.waits.2 ∙ sym (ap (λ (z : Sizes). z.slots) sizes));
+      waits = (subst (λ (z : Acting). WaitsIn z.sizes.slots z.waits l.bags) (sym e) l.waits.0, l.waits.1);
     }
 
 pub returns-clause-seen : goal.returns-clause-seen

@@ -1,13 +1,13 @@
-use Rattle.std.proofs.Common.{◌≡◌, ◌<◌, ◌≤◌, true, List, ◌∷◌, map, vec_capacity, ap, sym, ◌∙◌, subst}
+use Rattle.std.proofs.Common.{◌≡◌, ◌<◌, ◌≤◌, true, List, ◌∷◌, map, ap, sym, ◌∙◌, subst}
 use Rattle.std.specs.VecDeque.{deque_capacity}
 use Rattle.atomic_table.specs.Seated.{TableId}
 use Rattle.atomic_table.specs.Table.{Me}
 use Rattle.sdd_homes.specs.declared.Lease.{Lease}
-use Rattle.domain_table.specs.Bags.{ages, Waits}
+use Rattle.domain_table.specs.Ledgers.{WaitsIn}
 use Rattle.domain_table.specs.Contents.{is_blank}
 use Rattle.domain_table.specs.Layout.{claim_word}
 use Rattle.domain_table.specs.Leases.{lease_told, life_number, leased_homes, has_all, row_slots, all_below}
-use Rattle.domain_table.specs.Plays.{own_spare, own_bag, others_in}
+use Rattle.domain_table.specs.Plays.{own_spare, others_in}
 use Rattle.domain_table.specs.declared.board.Acting.{Acting}
 use Rattle.domain_table.proofs.Rows.{same_homes, none_same}
 use Rattle.sdd_domain.proofs.shared.Shared.of_leased.Goals as goal
@@ -31,8 +31,8 @@ invariant_of-local-2 g c = let l = c.args.local.now in let d = l.place.me.0 in l
       has_spare = (
         ap (λ (z : Me _ Acting). z.0.spare) all ∙ l.has_spare.0,
         l.has_spare.1,
-        subst (λ (z : Me _ Acting). has_all is_blank (own_spare z.0 l.spare ∷ own_bag z.0 ∷ leased_homes z.0 z.0.leases) z.1 ≡ true) (sym all)
-            (ap (λ ks. has_all is_blank (own_spare d l.spare ∷ own_bag d ∷ ks) l.place.me.1) (same_homes d ls d.leases slots) ∙ l.has_spare.2),
+        subst (λ (z : Me _ Acting). has_all is_blank (own_spare z.0 l.spare ∷ leased_homes z.0 z.0.leases) z.1 ≡ true) (sym all)
+            (ap (λ ks. has_all is_blank (own_spare d l.spare ∷ ks) l.place.me.1) (same_homes d ls d.leases slots) ∙ l.has_spare.2),
       );
       lends = (
         c.in_ok-part.ensures.rows (life_number l.life) l.lends.0 ∙ (ap (λ (z : Me _ Acting). map (lease_told (life_number l.life)) z.0.leases) made.5 ∙ sym (ap (λ (z : Me _ Acting). map (lease_told (life_number l.life)) z.0.leases) all)),
@@ -41,10 +41,9 @@ invariant_of-local-2 g c = let l = c.args.local.now in let d = l.place.me.0 in l
       );
       shut = λ e. ((l.shut e).0, ap (λ (z : Me _ Acting). z.0.leases) all ∙ none_same ls (slots ∙ ap (map (λ (x : Lease). x.slot)) (l.shut e).1));
       alive = l.alive;
-      leaves = (ap (λ (z : Me _ Acting). z.0.left) all ∙ l.leaves.0, l.leaves.1, subst (λ (z : Me _ Acting). z.0.sizes.slots ≤ vec_capacity l.bag) (sym all) l.leaves.2);
       phase = ap (λ (z : Me _ Acting). z.0.known.phase) all ∙ l.phase;
       found = ap (λ (z : Me _ Acting). z.0.known.found) all ∙ l.found;
       noted = l.noted;
       fills = (ap (λ (z : Me _ Acting). z.0.filling) all ∙ l.fills.0, l.fills.1, subst (λ (z : Me _ Acting). l.number < z.0.sizes.participants) (sym all) l.fills.2);
-      waits = (subst (λ (z : Me _ Acting). Waits z.0.waits l.bags.slots.items (ages l.bags.current l.bags.previous l.bags.next l.bags.due)) (sym all) l.waits.0, l.waits.1, l.waits.2 ∙ sym (ap (λ (z : Me _ Acting). z.0.sizes.slots) all));
+      waits = (subst (λ (z : Me _ Acting). WaitsIn z.0.sizes.slots z.0.waits l.bags) (sym all) l.waits.0, l.waits.1);
     }

@@ -1,0 +1,22 @@
+use Rattle.std.proofs.Common.{◌≡◌, ◌+◌, ◌*◌, ◌∙◌, subst, sym, ap, arith}
+use mathlib.Core.Option.{none}
+use Rattle.atomic_table.specs.Table.{step, Allows}
+use Rattle.domain_table.specs.Contents.{IsIn}
+use Rattle.domain_table.specs.Layout.{link_word}
+use Rattle.domain_table.specs.Rule.{Shows}
+use Rattle.domain_table.specs.Plays.{load_link_then}
+use Rattle.sdd_base.specs.declared.sizes.Sizes.{Sizes}
+use Rattle.domain_table.proofs.Linking.{loads_link}
+use Rattle.domain_table.proofs.links.load_link.Goals as goal
+
+pub load-requires : goal.load-requires
+load-requires g c = let t = c.requires.table in let plan = c.args.words.now.key in let place = c.args.place.now in let slots = c.args.words.now.table_id.slots in let low = t.5 in let room = t.4 in
+    let word : link_word plan.sizes c.args.slot ≡ 8 * c.args.sizes.now.participants + 16 + c.args.sizes.now.cells + c.args.sizes.now.slots + c.args.slot = ap (λ (z : Sizes). link_word z c.args.slot) t.1 in (
+      t.0,
+      omega arith,
+      subst (λ i. Allows (Shows (IsIn g.H.Holding.holds) plan) slots place.id place.me i (λ m. m) (load_link_then (step slots i 0 0 none) place.me)) word
+          (loads_link _ (IsIn g.H.Holding.holds) plan slots place.id c.args.slot place.me c.requires.acts (t.2 ∙ sym t.1)),
+    )
+
+pub returns-clause-told : goal.returns-clause-told
+returns-clause-told g c = let t = c.requires.table in c.load.ensures.2.3 c.args.slot (sym (ap (λ (z : Sizes). link_word z c.args.slot) t.2))

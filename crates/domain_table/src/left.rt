@@ -1,0 +1,193 @@
+//! What ended participants leave, and who takes it over.
+//!
+//! A participant that ends joins its bags to one, and tells by its left word where that begins and ends. The first scan after
+//! it that has the scan lock, whoever makes it, exchanges the word with 0, and has retired all of the bag then, with age 0: it
+//! comes into the scanner's current bag. So what was left doesn't wait for somebody to act for that participant again, and to
+//! take it over takes two steps, whatever is left. A participant that ends once more before any scan takes back what it left
+//! before, and leaves it with the rest.
+
+ghost use Rattle.std.specs.Prelude.{◌≡◌, true, None, ℕ, ◌<◌, ◌≤◌, ◌^◌, [], List, IfSome};
+ghost use Rattle.sdd_homes.specs.declared.Garbage.{Garbage};
+ghost use Rattle.sdd_steps.specs.Steps.{is_ready};
+ghost use Rattle.sdd_steps.specs.declared.participant.Phase.TheVariants.{Idle};
+ghost use Rattle.domain_table.specs.Bags.{IsBag, ends_of};
+ghost use Rattle.domain_table.specs.Chains.{AllBelow, left_code};
+ghost use Rattle.domain_table.specs.Fitting.{FitsNumber, FitsSizes};
+ghost use Rattle.domain_table.specs.Layout.{epoch_words};
+ghost use Rattle.domain_table.specs.Ledgers.{WaitsIn};
+ghost use Rattle.domain_table.specs.Plays.{taken_all, take_left_then, take_own_then, leaving, leave_then};
+ghost use Rattle.domain_table.specs.Views.{IsBare};
+
+use crate::bags::{Bags, Ends};
+use crate::board::{Acting, Home, Place, Words};
+use crate::holding::Holding;
+use crate::steps::STRIDE;
+use atomic_table::Play;
+use sdd_base::sizes::Sizes;
+
+/// Where it stands what the first participant left.
+const LEFT: usize = 18;
+
+/// A left word tells the last slot below this, and one more than the first slot in multiples of it.
+const FIRST: u64 = 1 << 31;
+
+struct OnTakeLeft;
+
+impl<T> Play<Home<T>, Acting> for OnTakeLeft {
+    ghost then = { take_left_then };
+}
+
+struct OnTakeOwn;
+
+impl<T> Play<Home<T>, Acting> for OnTakeOwn {
+    ghost then = { take_own_then };
+}
+
+struct OnLeave;
+
+impl<T> Play<Home<T>, Acting> for OnLeave {
+    ghost then = { leave_then };
+}
+
+/// The word that tells where a bag begins and ends.
+fn word_of(bag: Option<Ends>) -> u64
+    requires { IfSome bag (λ e. (e.first < 2 ^ 30) × (e.last < 2 ^ 30)) }
+    ensures { (ws : List Garbage) → bag ≡ ends_of ws → result ≡ left_code ws }
+{
+    match bag {
+        None => 0,
+        Some(ends) => ends.last as u64 + FIRST * (ends.first as u64 + 1),
+    }
+}
+
+/// Where the bag begins and ends that the word tells.
+fn bag_in(word: u64) -> Option<Ends>
+    requires { (ws : List Garbage) × (word ≡ left_code ws) × AllBelow (2 ^ 30) ws }
+    ensures { (ws : List Garbage) → word ≡ left_code ws → AllBelow (2 ^ 30) ws → result ≡ ends_of ws }
+{
+    if word == 0 {
+        return None;
+    }
+    Some(Ends {
+        first: (word / FIRST - 1) as usize,
+        last: (word % FIRST) as usize,
+    })
+}
+
+/// Takes over what participant `number` left, under the scan lock: it comes in front of what waits.
+fn take_left<T, H: Holding<T>>(
+    words: &Words<T, H>,
+    place: &mut Place<T>,
+    sizes: &Sizes,
+    number: usize,
+) -> Option<Ends>
+    requires table { FitsNumber words.now.table_id words.now.key.sizes place.old.table_id place.old.me.0.sizes sizes.now number }
+    requires ready { (place.old.me.0.kind ≡ 1) × (is_ready place.old.me.0.known ≡ true) }
+    requires locked { 0 < place.old.me.0.scan }
+    ensures seat { (place.new.table_id ≡ place.old.table_id) × (place.new.id ≡ place.old.id) }
+    ensures taken { (ws : List Garbage) × IsBag ws result × AllBelow sizes.now.slots ws × (place.new.me ≡ (record place.old.me.0 { waits = taken_all ws place.old.me.0.waits }, place.old.me.1)) }
+{
+    bag_in(words.swap::<OnTakeLeft>(place, STRIDE * number + LEFT, 0))
+}
+
+/// Takes back what the seat's own participant left when it ended before, if nobody has taken it over.
+fn take_own<T, H: Holding<T>>(
+    words: &Words<T, H>,
+    place: &mut Place<T>,
+    sizes: &Sizes,
+    number: usize,
+) -> Option<Ends>
+    requires table { FitsNumber words.now.table_id words.now.key.sizes place.old.table_id place.old.me.0.sizes sizes.now number }
+    requires ready { (place.old.me.0.kind ≡ 1) × (is_ready place.old.me.0.known ≡ true) × (place.old.me.0.number ≡ number) }
+    ensures seat { (place.new.table_id ≡ place.old.table_id) × (place.new.id ≡ place.old.id) }
+    ensures taken { (ws : List Garbage) × IsBag ws result × AllBelow sizes.now.slots ws × (place.new.me ≡ (record place.old.me.0 { waits = taken_all ws place.old.me.0.waits; left = 1 }, place.old.me.1)) }
+{
+    bag_in(words.swap::<OnTakeOwn>(place, STRIDE * number + LEFT, 0))
+}
+
+/// Tells by the left word of participant `number` what it leaves: all that it retired, which is in this bag.
+fn tell<T, H: Holding<T>>(
+    words: &Words<T, H>,
+    place: &mut Place<T>,
+    sizes: &Sizes,
+    number: usize,
+    bag: Option<Ends>,
+)
+    requires table { FitsNumber words.now.table_id words.now.key.sizes place.old.table_id place.old.me.0.sizes sizes.now number }
+    requires rests { (place.old.me.0.kind ≡ 1) × (place.old.me.0.number ≡ number) × (place.old.me.0.known.phase ≡ Idle) × (place.old.me.0.scan ≡ 0) × IsBare place.old.me.0 }
+    requires known { place.old.me.0.left ≡ 1 }
+    requires bag { IsBag place.old.me.0.waits bag × AllBelow sizes.now.slots place.old.me.0.waits }
+    ensures { (place.new.table_id ≡ place.old.table_id) × (place.new.id ≡ place.old.id) × (place.new.me ≡ (leaving place.old.me.0, place.old.me.1)) }
+{
+    words.store::<OnLeave>(place, STRIDE * number + LEFT, word_of(bag));
+}
+
+/// Leaves what the participant retired and didn't reclaim, with what it left before.
+pub fn leave<T, H: Holding<T>>(
+    words: &Words<T, H>,
+    place: &mut Place<T>,
+    sizes: &Sizes,
+    number: usize,
+    bags: Bags,
+)
+    requires table { FitsNumber words.now.table_id words.now.key.sizes place.old.table_id place.old.me.0.sizes sizes.now number }
+    requires rests { (place.old.me.0.kind ≡ 1) × (place.old.me.0.number ≡ number) × (place.old.me.0.known.phase ≡ Idle) × (place.old.me.0.scan ≡ 0) × IsBare place.old.me.0 }
+    requires waits { WaitsIn sizes.now.slots place.old.me.0.waits bags × (bags.due ≡ None) }
+    ensures { (place.new.table_id ≡ place.old.table_id) × (place.new.id ≡ place.old.id) × (place.new.me ≡ (leaving place.old.me.0, place.old.me.1)) }
+{
+    let mut bags = bags;
+    let before = take_own(words, place, sizes, number);
+    bags.take_over(words, place, sizes, before);
+    let bag = bags.joined(words, place, sizes);
+    tell(words, place, sizes, number, bag);
+}
+
+/// Whether participant `number` left something that nobody has taken over.
+fn has_left<T, H: Holding<T>>(words: &Words<T, H>, number: usize) -> bool
+    requires { (number < words.now.key.sizes.participants) × (epoch_words words.now.key.sizes.participants ≤ words.now.table_id.words) × (words.now.key.sizes.participants ≤ 2 ^ 30) }
+{
+    words.peek(STRIDE * number + LEFT) > 0
+}
+
+/// Takes over what participant `number` left, if it left something, under the scan lock: it comes into the current bag.
+fn take_if_left<T, H: Holding<T>>(
+    words: &Words<T, H>,
+    place: &mut Place<T>,
+    sizes: &Sizes,
+    bags: &mut Bags,
+    number: usize,
+)
+    requires table { FitsNumber words.now.table_id words.now.key.sizes place.old.table_id place.old.me.0.sizes sizes.now number }
+    requires ready { (place.old.me.0.kind ≡ 1) × (is_ready place.old.me.0.known ≡ true) }
+    requires locked { 0 < place.old.me.0.scan }
+    requires waits { WaitsIn sizes.now.slots place.old.me.0.waits bags.old }
+    ensures seat { (place.new.table_id ≡ place.old.table_id) × (place.new.id ≡ place.old.id) }
+    ensures taken { (ws : List Garbage) × WaitsIn sizes.now.slots ws bags.new × (place.new.me ≡ (record place.old.me.0 { waits = ws }, place.old.me.1)) }
+    ensures due { bags.new.due ≡ bags.old.due }
+{
+    if !has_left(words, number) {
+        return;
+    }
+    let chain = take_left(words, place, sizes, number);
+    bags.take_over(words, place, sizes, chain);
+}
+
+/// Takes over all that ended participants left, under the scan lock: it comes into the current bag.
+pub(crate) fn take_all_left<T, H: Holding<T>>(
+    words: &Words<T, H>,
+    place: &mut Place<T>,
+    sizes: &Sizes,
+    bags: &mut Bags,
+)
+    requires table { FitsSizes words.now.table_id words.now.key.sizes place.old.table_id place.old.me.0.sizes sizes.now }
+    requires ready { (place.old.me.0.kind ≡ 1) × (is_ready place.old.me.0.known ≡ true) }
+    requires locked { 0 < place.old.me.0.scan }
+    requires waits { WaitsIn sizes.now.slots place.old.me.0.waits bags.old }
+    ensures seat { (place.new.table_id ≡ place.old.table_id) × (place.new.id ≡ place.old.id) }
+    ensures taken { (ws : List Garbage) × WaitsIn sizes.now.slots ws bags.new × (place.new.me ≡ (record place.old.me.0 { waits = ws }, place.old.me.1)) }
+    ensures due { bags.new.due ≡ bags.old.due }
+{
+    for number in 0..sizes.participants {
+        take_if_left(words, place, sizes, bags, number);
+    }
+}

@@ -1,0 +1,67 @@
+//! The steps on link words: each is one operation on one word.
+//!
+//! Each slot has a link word. While an item of a bag is in the slot, the word names the slot of what came into that bag
+//! next, so that a bag is a chain from its first item to its last one. Only who has the bag reads and writes the link words
+//! of the slots that its items are in: two items that aren't reclaimed are in two slots.
+
+ghost use Rattle.std.specs.Prelude.{◌≡◌, ◌∷◌, ◌++◌, List, ◌+◌, ◌<◌, ◌≤◌, ◌^◌};
+ghost use Rattle.domain_table.specs.Layout.{all_words, IsSized};
+ghost use Rattle.domain_table.specs.Plays.{SlotsApart, TellsLink, load_link_then, follow_then};
+ghost use Rattle.sdd_homes.specs.declared.Garbage.{Garbage};
+
+use crate::board::{Acting, Home, Place, Words};
+use crate::holding::Holding;
+use atomic_table::Play;
+use sdd_base::sizes::Sizes;
+
+struct OnFollow;
+
+impl<T> Play<Home<T>, Acting> for OnFollow {
+    ghost then = { follow_then };
+}
+
+struct OnLoadLink;
+
+impl<T> Play<Home<T>, Acting> for OnLoadLink {
+    ghost then = { load_link_then };
+}
+
+/// What follows what is in `slot`, if a bag of the participant holds that, and it is known.
+pub fn load_link<T, H: Holding<T>>(
+    words: &Words<T, H>,
+    place: &mut Place<T>,
+    sizes: &Sizes,
+    slot: usize,
+) -> u64
+    requires table { (place.old.table_id ≡ words.now.table_id) × (words.now.key.sizes ≡ sizes.now) × (place.old.me.0.sizes ≡ sizes.now) × IsSized sizes.now × (all_words sizes.now ≤ words.now.table_id.words) × (slot < sizes.now.slots) }
+    requires acts { place.old.me.0.kind ≡ 1 }
+    ensures seat { (place.new.table_id ≡ place.old.table_id) × (place.new.id ≡ place.old.id) × (place.new.me ≡ place.old.me) }
+    ensures apart { SlotsApart place.old.me.0.waits × SlotsApart place.old.me.0.collected }
+    ensures told { TellsLink place.old.me.0 slot result }
+{
+    words.load::<OnLoadLink>(
+        place,
+        8 * sizes.participants + 16 + sizes.cells + sizes.slots + slot,
+    )
+}
+
+/// What came into the bag last, in slot `next`, follows what came before it, in `slot`.
+pub fn follow<T, H: Holding<T>>(
+    words: &Words<T, H>,
+    place: &mut Place<T>,
+    sizes: &Sizes,
+    slot: usize,
+    next: usize,
+)
+    requires table { (place.old.table_id ≡ words.now.table_id) × (words.now.key.sizes ≡ sizes.now) × (place.old.me.0.sizes ≡ sizes.now) × IsSized sizes.now × (all_words sizes.now ≤ words.now.table_id.words) × (slot < sizes.now.slots) }
+    requires acts { (place.old.me.0.kind ≡ 1) × (next < 2 ^ 30) }
+    requires held { (xs : List Garbage) × (w : Garbage) × (v : Garbage) × (ys : List Garbage) × (place.old.me.0.waits ≡ xs ++ (w ∷ v ∷ ys)) × (w.slot ≡ next) × (v.slot ≡ slot) }
+    ensures seat { (place.new.table_id ≡ place.old.table_id) × (place.new.id ≡ place.old.id) }
+    ensures followed { (xs : List Garbage) (w v : Garbage) (ys : List Garbage) → place.old.me.0.waits ≡ xs ++ (w ∷ v ∷ ys) → w.slot ≡ next → v.slot ≡ slot → place.new.me ≡ (record place.old.me.0 { waits = xs ++ (w ∷ record v { next = w.slot + 1 } ∷ ys) }, place.old.me.1) }
+{
+    words.store::<OnFollow>(
+        place,
+        8 * sizes.participants + 16 + sizes.cells + sizes.slots + slot,
+        next as u64 + 1,
+    );
+}
