@@ -1,28 +1,25 @@
-//! Owners on their way into a cell and out of it.
+//! Owners on their way into a link and out of it: steps that lists and containers are made of.
 
-ghost use Rattle.std.specs.Prelude.{◌≡◌, ◌<◌, [], IfOk, IfErr, IfSome};
+ghost use Rattle.std.specs.Prelude.{◌≡◌, ◌<◌, ℕ, IfSome};
 ghost use Rattle.sdd_domain.specs.Cells.{cell_number};
-ghost use Rattle.sdd_domain.specs.CellSteps.{HasMadeSome, StepsOnNoCell};
-ghost use Rattle.sdd_domain.specs.Sharing.{kept_in, IsOwnerOf};
-ghost use Rattle.sdd_domain.specs.Tokens.{place_of, home_of, hand_of, cell_count};
-ghost use Rattle.shared_containers.specs.Containers.{IsAsBefore, IsOpenIn, IsStill};
-ghost use Rattle.shared_containers.specs.Outcomes.{IsRefused};
+ghost use Rattle.sdd_domain.specs.CellSteps.{HasExchanged, HasMadeSome, StepsOnNoCell};
+ghost use Rattle.sdd_domain.specs.Comparing.{owner_code};
+ghost use Rattle.sdd_domain.specs.Sharing.{kept_in};
+ghost use Rattle.sdd_domain.specs.Tokens.{place_of, home_of, cell_count};
+ghost use Rattle.shared_lists.specs.Lists.{IsStill};
 
-use crate::outcome::PushRefused;
 use sdd_base::tag::Tag;
 use sdd_domain::atomic_shared::AtomicShared;
 use sdd_domain::domain::Domain;
-use sdd_domain::guard::Guard;
 use sdd_domain::holds::Holds;
 use sdd_domain::local::Local;
-use sdd_domain::pointer::Ptr;
 use sdd_domain::shared::Shared;
 
 /// How often a call tries again: each time others were faster.
-pub(crate) const TRIES: u64 = u64::MAX;
+pub const TRIES: u64 = u64::MAX;
 
 /// Releases an owner that there may be.
-pub(crate) fn let_go<T: Holds>(domain: &Domain<T>, owner: Option<Shared<T>>, local: &mut Local<T>)
+pub fn let_go<T: Holds>(domain: &Domain<T>, owner: Option<Shared<T>>, local: &mut Local<T>)
     requires home { home_of local.old ≡ place_of domain.now }
     requires mine { IfSome owner (λ s. kept_in s ≡ (place_of domain.now).0) }
     ensures same { IsStill local.old local.new }
@@ -34,9 +31,9 @@ pub(crate) fn let_go<T: Holds>(domain: &Domain<T>, owner: Option<Shared<T>>, loc
 }
 
 /// Has a link own what follows its item, or nothing; or a new stack its first item.
-pub(crate) fn follow<T: Holds>(
+pub fn follow<T: Holds>(
     domain: &Domain<T>,
-    link: &AtomicShared,
+    link: &AtomicShared<T>,
     next: Option<Shared<T>>,
     local: &mut Local<T>,
 )
@@ -44,50 +41,9 @@ pub(crate) fn follow<T: Holds>(
     requires inside { cell_number link.now < cell_count domain.now }
     requires mine { IfSome next (λ s. kept_in s ≡ (place_of domain.now).0) }
     ensures same { IsStill local.old local.new }
+    ensures put { (t : ℕ) × (k : ℕ) × HasExchanged local.old (cell_number link.now) t k 0 (owner_code next) local.new }
     ensures some { HasMadeSome local.old local.new }
 {
     let (old, _) = link.swap(domain, (next, Tag::None), local);
     let_go(domain, old, local);
-}
-
-/// Has a cell own an item in the place of what was found in it, in one step. Else the item's owner is back.
-pub(crate) fn exchange<T: Holds>(
-    domain: &Domain<T>,
-    cell: &AtomicShared,
-    found: Ptr<T>,
-    owner: Shared<T>,
-    guard: &Guard,
-    local: &mut Local<T>,
-) -> Option<Shared<T>>
-    requires open { IsOpenIn guard.now local.old domain.now }
-    requires inside { cell_number cell.now < cell_count domain.now }
-    requires mine { kept_in owner ≡ (place_of domain.now).0 }
-    ensures back { IfSome result (λ s. (kept_in s ≡ (place_of domain.now).0) × ((x : T) → IsOwnerOf owner x → IsOwnerOf s x)) }
-    ensures same { IsStill local.old local.new }
-{
-    match cell.compare_exchange(domain, found, (Some(owner), Tag::None), guard, local) {
-        Ok((old, _)) => {
-            let_go(domain, old, local);
-            None
-        }
-        Err((back, _)) => back,
-    }
-}
-
-/// Places a value that a container is to take in.
-pub(crate) fn place<T: Holds>(
-    domain: &Domain<T>,
-    value: T,
-    local: &mut Local<T>,
-) -> Result<Shared<T>, PushRefused<T>>
-    requires home { (home_of local.old ≡ place_of domain.now) × (hand_of local.old ≡ []) }
-    requires holds { T.holds value ≡ [] }
-    ensures owner { IfOk result (λ s. (kept_in s ≡ (place_of domain.now).0) × IsOwnerOf s value) }
-    ensures refused { IfErr result (λ r. IsRefused r value (place_of domain.now).0 ⊥ ⊥) }
-    ensures same { IsAsBefore local.old local.new }
-{
-    match Shared::new(domain, value, local) {
-        Ok(owner) => Ok(owner),
-        Err(value) => Err(PushRefused::NoSlot(value)),
-    }
 }
