@@ -7,7 +7,7 @@ ghost use Rattle.shared_containers.specs.Containers.{AreLinksOf, IsAsBefore, IsQ
 use crate::pass;
 use sdd_domain::domain::Domain;
 use sdd_domain::local::Local;
-use shared_containers::links::Links;
+use shared_containers::Links;
 use shared_containers::queue::Queue;
 use shared_containers::stack::Stack;
 use std::alloc::{AllocError, Global};
@@ -17,9 +17,9 @@ use std::thread::Threads;
 
 /// A stack and a queue, which must be spent by `end`.
 struct Containers {
-    links: Links,
-    stack: Stack,
-    queue: Queue,
+    links: Links<u64>,
+    stack: Stack<u64>,
+    queue: Queue<u64>,
 }
 
 impl Containers {
@@ -68,9 +68,9 @@ impl Containers {
 #[derive(Drop)]
 struct Scene<'a> {
     domain: &'a Domain<u64>,
-    links: &'a Links,
-    stack: &'a Stack,
-    queue: &'a Queue,
+    links: &'a Links<u64>,
+    stack: &'a Stack<u64>,
+    queue: &'a Queue<u64>,
     ghost made: { IsStackOf stack.now domain.now × IsQueueOf queue.now domain.now × AreLinksOf links.now domain.now },
 }
 

@@ -133,7 +133,7 @@ fn items(domain: &Domain<u64>, local: &mut Local<u64>, rounds: u32) -> u64
 
 /// So many guards one by one, under each of which the cell is loaded and what it names is read: the sum of that.
 #[inline(never)]
-fn loads(domain: &Domain<u64>, local: &mut Local<u64>, cell: &AtomicShared, rounds: u32) -> u64
+fn loads(domain: &Domain<u64>, local: &mut Local<u64>, cell: &AtomicShared<u64>, rounds: u32) -> u64
     requires home { (home_of local.old ≡ place_of domain.now) × (hand_of local.old ≡ []) }
     requires closed { (own_of local.old).nesting ≡ 0 }
     requires inside { cell_number cell.now < cell_count domain.now }
@@ -155,7 +155,7 @@ fn loads(domain: &Domain<u64>, local: &mut Local<u64>, cell: &AtomicShared, roun
 /// So many items one by one, each swapped into the cell, with an accelerated guard behind it: the sum of those that came
 /// out.
 #[inline(never)]
-fn swaps(domain: &Domain<u64>, local: &mut Local<u64>, cell: &AtomicShared, rounds: u32) -> u64
+fn swaps(domain: &Domain<u64>, local: &mut Local<u64>, cell: &AtomicShared<u64>, rounds: u32) -> u64
     requires home { (home_of local.old ≡ place_of domain.now) × (hand_of local.old ≡ []) }
     requires closed { (own_of local.old).nesting ≡ 0 }
     requires inside { cell_number cell.now < cell_count domain.now }
@@ -180,7 +180,7 @@ fn swaps(domain: &Domain<u64>, local: &mut Local<u64>, cell: &AtomicShared, roun
 fn loads_under(
     domain: &Domain<u64>,
     local: &mut Local<u64>,
-    cell: &AtomicShared,
+    cell: &AtomicShared<u64>,
     rounds: u32,
 ) -> u64
     requires home { (home_of local.old ≡ place_of domain.now) × (hand_of local.old ≡ []) }
@@ -206,7 +206,7 @@ fn loads_under(
 fn swaps_owners(
     domain: &Domain<u64>,
     local: &mut Local<u64>,
-    cell: &AtomicShared,
+    cell: &AtomicShared<u64>,
     rounds: u32,
 ) -> u64
     requires home { (home_of local.old ≡ place_of domain.now) × (hand_of local.old ≡ []) }
@@ -260,7 +260,7 @@ fn clones(domain: &Domain<u64>, local: &mut Local<u64>, rounds: u32) -> u64
 fn rounds_with(
     domain: &Domain<u64>,
     local: &mut Local<u64>,
-    cell: &AtomicShared,
+    cell: &AtomicShared<u64>,
     kind: Kind,
     rounds: u32,
 ) -> u64

@@ -20,7 +20,7 @@ use Rattle.sdd_steps.specs.State as steps
 use Rattle.sdd_steps.specs.State.{At, Has, item_at, cell_is, participant_is, item_is}
 use Rattle.sdd_steps.specs.Steps.{Steps, is_inside, is_full, is_reachable, is_within, has_loose_owner, stands_alone, loaded_as, count_of, named}
 use Rattle.sdd_steps.specs.Invariant.{names_of}
-use Rattle.sdd_steps.proofs.ListLemmas.{put, put_here, put_else, same_at, set_here, at_inside, at_map, find_at}
+use Rattle.sdd_steps.proofs.ListLemmas.{put, put_here, put_else, same_at, set_here, at_inside, at_map, find_at, has_end}
 use Rattle.sdd_steps.proofs.StepLemmas.{named_there}
 use Rattle.sdd_steps.proofs.EnabledLemmas.{inside_is}
 use Rattle.sdd_steps.proofs.Enabling.{participant_passes, participant_read, cell_passes, cell_read, item_passes, item_read}
@@ -37,7 +37,7 @@ use Rattle.sdd_homes.proofs.PartLemmas as parts
 use Rattle.domain_table.specs.Layout.{cell_word, Tells}
 use Rattle.domain_table.specs.Items.{Grip, owners_in_hand}
 use Rattle.domain_table.specs.Rule.{Shows}
-use Rattle.domain_table.specs.Plays.{loading, own_home, IsLeased, HasLeasedAt, HasLoaded, with_step, read_cell_then, load_then, load_own_then}
+use Rattle.domain_table.specs.Plays.{loading, own_home, IsLeased, HasLeasedAs, HasLeasedAt, HasLoaded, HasRound, takes_home, with_step, read_cell_then, load_then, load_own_then}
 use Rattle.domain_table.specs.declared.board.Acting.{Acting}
 use Rattle.domain_table.specs.declared.board.Plan.{Plan}
 use Rattle.domain_table.proofs.Telling.{tells_step}
@@ -139,10 +139,22 @@ module _ (S : Type 0) (IsIn : Content → S → Type 0) (plan : Plan) where
     pub again_leased : (w : ℕ) → Shows IsIn plan record { words = set s.words w (get_or s.words w 0); homes = s.homes; views = set s.views id (loading h d.leases d) }
     again_leased w = own_load S IsIn plan s r w id d (loading h d.leases d) (goes d.leases) (record { cells = refl; stirred = stirred_none r.state.items; loads = inr (λ k l. still_loaded p k l); same = refl; distinct = λ h. h; waits_mine = λ _ w all h. all w h; links_mine = λ _ _ w all h. all w h; waits_others = λ _ _ _ _ h. h; lefts = λ _ _ h. h; notes = λ _ _ h. h }) at kind refl
 
+    -- what is leased in its slot is it, of its round
+    is_of : (l : Lease) → Has d.leases l → l.slot ≡ r.book.slot_of i → (l.item ≡ i) × (l.round ≡ h.value)
+    is_of l has slot = let y = r.items.parts.leases p l (subst (λ (ls : List Lease). Has ls l) (sym (r.items.seats id d at kind).leases) has) in
+        let e : full l.item ≡ full i = sym y.is ∙ (ap r.book.stage slot ∙ stand.1) in let same : l.item ≡ i = cc in
+        (same, sym (y.round (item_at r.state i) (subst (λ z. At r.state.items z (item_at r.state i)) (sym same) there.0)))
+
     is_leased : Lends d.leases (r.book.slot_of i) → IsLeased d.leases (r.book.slot_of i) h
-    is_leased has = let t = has_lends d.leases (r.book.slot_of i) has in let l : Lease = t.0 in let y = r.items.parts.leases p l (subst (λ (ls : List Lease). Has ls l) (sym (r.items.seats id d at kind).leases) t.1) in
-        let e : full l.item ≡ full i = sym y.is ∙ (ap r.book.stage t.2 ∙ stand.1) in let same : l.item ≡ i = cc in
-        (l, t.1, t.2, same, sym (y.round (item_at r.state i) (subst (λ z. At r.state.items z (item_at r.state i)) (sym same) there.0)))
+    is_leased has = let t = has_lends d.leases (r.book.slot_of i) has in let l : Lease = t.0 in let of_it = is_of l t.1 t.2 in (l, t.1, t.2, of_it.0, of_it.1)
+
+    -- also what is leased then
+    pub rounds : (carried : List (ℕ × S)) (m' : Me S Acting) (o : Owner) → HasLeasedAs IsIn (d, carried) (r.book.slot_of i) h m' → r.book.slot_of i ≡ o.slot → h.value ≡ o.round → HasRound m'.0.leases o
+    rounds carried m' o leased slot round = let before : (l : Lease) → Has d.leases l → l.slot ≡ o.slot → l.round ≡ o.round = (λ l has e. (is_of l has (e ∙ sym slot)).1 ∙ round) in ⊎_elim
+        (λ (t : IsLeased d.leases (r.book.slot_of i) h × (m' ≡ (loading h d.leases d, carried))). λ l has e. before l (subst (λ (z : Me S Acting). Has z.0.leases l) t.1 has) e)
+        (λ (t : takes_home IsIn (d, carried) (r.book.slot_of i) h m'). λ l has e. let added : Lease = lease (r.book.slot_of i) h.item t.3.0 h.value in
+        ⊎_elim (λ (old : Has d.leases l). before l old e) (λ (new : added ≡ l). ap (λ (z : Lease). z.round) (sym new) ∙ round) (has_end d.leases added l (subst (λ (z : Me S Acting). Has z.0.leases l) t.3.4 has)))
+        leased
 
     -- the participant's home of the item comes out
     module _ (free : ¬ Lends d.leases (r.book.slot_of i)) where
@@ -203,15 +215,15 @@ module _ (S : Type 0) (IsIn : Content → S → Type 0) (plan : Plan) where
           })))
 
     -- what it tells the seat
-    pub told : (w : ℕ) (carried : List (ℕ × S)) → (v : Acting) × (act : Act S) × table.Valid s.homes carried act × Shows IsIn plan (stepped s w (get_or s.words w 0) id carried v act) × HasLeasedAt IsIn (d, carried) (r.book.slot_of i) (v, table.carried_after carried act)
+    pub told : (w : ℕ) (carried : List (ℕ × S)) → (v : Acting) × (act : Act S) × table.Valid s.homes carried act × Shows IsIn plan (stepped s w (get_or s.words w 0) id carried v act) × HasLeasedAs IsIn (d, carried) (r.book.slot_of i) h (v, table.carried_after carried act)
     told w carried = let k : ℕ = r.book.slot_of i in ⊎_elim
-        (λ (had : Lends d.leases k). (loading h d.leases d, keeps, tt, again_leased w, (h, inl (is_leased had, refl))))
+        (λ (had : Lends d.leases k). (loading h d.leases d, keeps, tt, again_leased w, inl (is_leased had, refl)))
         (λ (free : ¬ Lends d.leases k). let f = found free in let b = r.items.seats id d at kind in let sizes = ap (λ (z : Sizes). home z.slots k d.number) b.sizes_are in (
           d' free,
           takes (own_home d k) f.0,
           ap (get_elem? s.homes) sizes ∙ f.1,
           subst (λ z. Shows IsIn plan record { words = set s.words w (get_or s.words w 0); homes = set s.homes z none; views = set s.views id (d' free) }) (sym sizes) (newly_leased free w),
-          (h, inr (free, subst (λ (z : Sizes). k < z.slots) (sym b.sizes_are) stand.0, subst (λ (z : Sizes). length d.leases < z.slots) (sym b.sizes_are) (fewer free), (count free, f.0, f.2, few free, refl))),
+          inr (free, subst (λ (z : Sizes). k < z.slots) (sym b.sizes_are) stand.0, subst (λ (z : Sizes). length d.leases < z.slots) (sym b.sizes_are) (fewer free), (count free, f.0, f.2, few free, refl)),
         ))
         (lends_or d.leases k)
 
@@ -223,7 +235,7 @@ module _ (S : Type 0) (IsIn : Content → S → Type 0) (plan : Plan) where
         | None ↦ λ e. (d, keeps, tt, idles S IsIn plan s r w id d at, (y, omega arith, inl (r.items.cell_words c None (named_at None e), refl)))
         | Some i ↦ λ e. let word = r.items.cell_words c (Some i) (named_at (Some i) e) in let seat = (r.epochs.seats id d at kind).is in
             let t = told s r id i d at kind inside (named_there r.state r.kept.0 r.kept.1.0 r.kept.1.1 r.kept.1.2 c o.0 i o.1 e) (LoadCell d.number c) (loads_cell r.state d.number c i d.known seat inside o.0 o.1 (r.items.alone c o.0 o.1) e) w me.1 in
-            (t.0, t.1, t.2, t.3, (y, omega arith, inr (r.book.slot_of i, word, t.4)))
+            (t.0, t.1, t.2, t.3, (y, omega arith, inr (r.book.slot_of i, word, (loaded_as r.state.items i, t.4))))
       ]) refl
 
   pub reads : (slots id c : ℕ) (me : Me S Acting) → me.0.kind ≡ 1 → c < plan.sizes.cells → plan.sizes.cells + n ≤ 2 ^ 31
@@ -242,4 +254,6 @@ module _ (S : Type 0) (IsIn : Content → S → Type 0) (plan : Plan) where
       let alive = (r.kept.0.owned o.item it own.1).is_live (omega arith) in let read = item_read r.state o.item it own.1 in
       let there : At r.state.items o.item (item_at r.state o.item) × ((item_at r.state o.item).state ≡ Live) = (subst (At r.state.items o.item) (sym read) own.1, ap (λ (z : Item). z.state) read ∙ alive) in
       let t = told s r id o.item d at kind inside there (LoadInHand d.number o.item) (loads_owned r.state d.number o.item d.known (r.epochs.seats id d at kind).is inside it own.1 (omega arith)) w me.1 in
-      (t.0, t.1, t.2, t.3, λ o' os' first'. let lists : o ∷ os ≡ o' ∷ os' = sym first ∙ first' in let same : o ≡ o' = cc in subst (λ k. HasLeasedAt IsIn me k (t.0, table.carried_after me.1 t.1)) (own.3 ∙ ap (λ (z : Owner). z.slot) same) t.4)
+      let h : Loaded = loaded_as r.state.items o.item in let m' : Me S Acting = (t.0, table.carried_after me.1 t.1) in
+      let of_round = rounds s r id o.item d at kind inside there (LoadInHand d.number o.item) (loads_owned r.state d.number o.item d.known (r.epochs.seats id d at kind).is inside it own.1 (omega arith)) me.1 m' o t.4 own.3 (ap (λ (z : Item). z.value) read ∙ own.2) in
+      (t.0, t.1, t.2, t.3, λ o' os' first'. let lists : o ∷ os ≡ o' ∷ os' = sym first ∙ first' in let same : o ≡ o' = cc in (subst (λ k. HasLeasedAt IsIn me k m') (own.3 ∙ ap (λ (z : Owner). z.slot) same) (h, t.4), subst (HasRound m'.0.leases) same of_round))

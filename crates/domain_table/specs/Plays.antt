@@ -99,14 +99,21 @@ loading h ls d = record d { known = record d.known { loaded = d.known.loaded ++ 
 abbrev pub IsLeased : List Lease → ℕ → Loaded → Type 0
 IsLeased ls k h = (l : Lease) × Has ls l × (l.slot ≡ k) × (l.item ≡ h.item) × (l.round ≡ h.value)
 
+-- what is leased in the owner's slot is of its round
+abbrev pub HasRound : List Lease → Owner → Type 0
+HasRound ls o = (l : Lease) → Has ls l → l.slot ≡ o.slot → l.round ≡ o.round
+
 module _ {S : Type 0} (IsIn : Content → S → Type 0) where
   -- the participant's home of the slot k comes out with its parts of the item; not all slots were leased
   abbrev pub takes_home : Me S Acting → ℕ → Loaded → Me S Acting → Type 0
   takes_home m k h m' = ¬ Lends m.0.leases k × (k < m.0.sizes.slots) × (length m.0.leases < m.0.sizes.slots) × ((c : ℕ) × (u : S) × IsIn (part h.value c) u × (c ≤ 2 ^ 63) × (m' ≡ (loading h (m.0.leases ++ lease k h.item c h.value ∷ []) m.0, (own_home m.0 k, u) ∷ m.1)))
 
   -- the item in slot k was leased already, or the participant's home of it comes out
+  abbrev pub HasLeasedAs : Me S Acting → ℕ → Loaded → Me S Acting → Type 0
+  HasLeasedAs m k h m' = (IsLeased m.0.leases k h × (m' ≡ (loading h m.0.leases m.0, m.1))) ⊎ takes_home m k h m'
+
   abbrev pub HasLeasedAt : Me S Acting → ℕ → Me S Acting → Type 0
-  HasLeasedAt m k m' = (h : Loaded) × ((IsLeased m.0.leases k h × (m' ≡ (loading h m.0.leases m.0, m.1))) ⊎ takes_home m k h m')
+  HasLeasedAt m k m' = (h : Loaded) × HasLeasedAs m k h m'
 
   -- the cell is empty; or the item that it names is leased
   abbrev pub HasLoaded : Me S Acting → ℕ → Me S Acting → Type 0
@@ -115,9 +122,9 @@ module _ {S : Type 0} (IsIn : Content → S → Type 0) where
   abbrev pub load_then : Step S → Me S Acting → ℕ → Me S Acting → Type 0
   load_then t m w m' = HasLoaded (with_step t.word w w m) w m'
 
-  -- the item of the first owner in hand is leased
+  -- the item of the first owner in hand is leased, and what is leased in its slot is of the owner's round
   abbrev pub load_own_then : Step S → Me S Acting → ℕ → Me S Acting → Type 0
-  load_own_then t m w m' = (o : Owner) (os : List Owner) → m.0.hand ≡ o ∷ os → HasLeasedAt m o.slot m'
+  load_own_then t m w m' = (o : Owner) (os : List Owner) → m.0.hand ≡ o ∷ os → HasLeasedAt m o.slot m' × HasRound m'.0.leases o
 
   -- the slots of these leases are in front of what is out with the seat, each with its parts again
   abbrev pub Refilled : Acting → List Lease → List (ℕ × S) → List (ℕ × S) → Type 0

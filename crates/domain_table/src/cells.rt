@@ -11,7 +11,7 @@ ghost use Rattle.domain_table.specs.Leases.{HasFew, ReleasesOne};
 ghost use Rattle.domain_table.specs.Fitting.{FitsSlot, FitsCell, HasSlotWord};
 ghost use Rattle.domain_table.specs.Contents.{IsIn};
 ghost use Rattle.domain_table.specs.Layout.{cell_word, Tells, claim_word, all_words, IsSized, AreAlike};
-ghost use Rattle.domain_table.specs.Plays.{Scans, load_then, read_cell_then, with_step, HasLoaded, load_own_then, HasLeasedAt, CanClose, ending, end_all_then, Brings, swap_then, cloning, IsAlike, clone_then, MayNote, HasRoom, release_then, HasBegun, begin_then, CanEnd, end_release_then, CanKeep, keep_then, exchange_then, retag_then};
+ghost use Rattle.domain_table.specs.Plays.{Scans, load_then, read_cell_then, with_step, HasLoaded, load_own_then, HasLeasedAt, HasRound, CanClose, ending, end_all_then, Brings, swap_then, cloning, IsAlike, clone_then, MayNote, HasRoom, release_then, HasBegun, begin_then, CanEnd, end_release_then, CanKeep, keep_then, exchange_then, retag_then};
 ghost use Rattle.domain_table.specs.declared.board.Home.{Home};
 
 use crate::aim::Aim;
@@ -138,7 +138,7 @@ pub(crate) fn load_own<T, H: Holding<T>>(words: &Words<T, H>, place: &mut Place<
     requires open { (place.old.me.0.kind ≡ 1) × (is_inside place.old.me.0.known ≡ true) }
     requires owner { (o : Owner) × (os : List Owner) × (place.old.me.0.hand ≡ o ∷ os) }
     ensures seat { (place.new.table_id ≡ place.old.table_id) × (place.new.id ≡ place.old.id) }
-    ensures loaded { (o : Owner) (os : List Owner) → place.old.me.0.hand ≡ o ∷ os → HasLeasedAt (IsIn H.holds) place.old.me o.slot place.new.me }
+    ensures loaded { (o : Owner) (os : List Owner) → place.old.me.0.hand ≡ o ∷ os → HasLeasedAt (IsIn H.holds) place.old.me o.slot place.new.me × HasRound place.new.me.0.leases o }
 {
     let _ = words.load::<OnLoadOwn<H>>(place, 0);
 }

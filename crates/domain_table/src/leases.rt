@@ -15,7 +15,7 @@ use crate::board::{Home, Place, Stored, Words};
 use crate::holding::Holding;
 use crate::homes::let_go;
 use crate::row::Row;
-use parted::{Ended, Seen};
+use parted::{Ended, One, Seen};
 use std::collections::VecDeque;
 
 /// Which row is that of the item in `slot`, if it is leased.
@@ -32,12 +32,22 @@ pub(crate) fn row_of<T>(rows: &VecDeque<Row<T>>, slot: usize) -> Option<usize>
 }
 
 /// What a row's item is seen as.
-pub fn seen_in<T>(rows: &VecDeque<Row<T>>, at: usize) -> Seen<Stored<T>>
+fn seen_in<T>(rows: &VecDeque<Row<T>>, at: usize) -> Seen<Stored<T>>
     requires { at < deque_len rows.now }
     ensures there { IsSome result.value }
     ensures under { (life : ℕ) (ls : List Lease) → map row_told rows.now.items ≡ map (lease_told life) ls → result.life ≡ life }
 {
     rows[at].lent.see()
+}
+
+/// What a row's item is seen as, with the value that its owner is known to have: the owner's part is of the row's round.
+pub fn seen_like<T>(rows: &VecDeque<Row<T>>, at: usize, owner: &One<Stored<T>>) -> Seen<Stored<T>>
+    requires row { at < deque_len rows.now }
+    requires round { (d : Row T) → (slice_index_or rows.now.items at d).lent.pledge.id ≡ owner.now.part.life.id }
+    ensures like { result.value ≡ owner.now.part.seen.value }
+    ensures under { (life : ℕ) (ls : List Lease) → map row_told rows.now.items ≡ map (lease_told life) ls → result.life ≡ life }
+{
+    rows[at].lent.see_like(&owner.part)
 }
 
 /// The same of a row that there may be, with the item's slot.

@@ -58,6 +58,7 @@ fn note_slot<T, H: Holding<T>>(
     requires rows { (all_below sizes.now.slots (row_slots rows.old.items) ≡ true) × (sizes.now.slots ≤ deque_capacity rows.old) }
     requires found { WasLeased H.holds slot number sizes.now life.now.id rows.old.items place.old.me }
     ensures seat { (place.new.table_id ≡ place.old.table_id) × (place.new.id ≡ place.old.id) }
+    ensures view { place.new.me.0 ≡ place.old.me.0 }
     ensures row { result < deque_len rows.new }
     ensures slot { (d : Row T) → (slice_index_or rows.new.items result d).slot ≡ slot }
     ensures noted { (m : Me (Home T) Acting) → HasLeasedAt (IsIn H.holds) m slot place.old.me → map row_told rows.old.items ≡ map (lease_told life.now.id) m.0.leases → HasNoted m place.new.me }
@@ -123,7 +124,7 @@ pub fn lease<T, H: Holding<T>>(
 }
 
 /// Loads the item in `slot` under the open guards of participant `number`, whose life this is, by its owner, which is first
-/// in hand. Which row is that of the item.
+/// in hand. Which row is that of the item: its parts are of the owner's round.
 pub fn lease_own<T, H: Holding<T>>(
     words: &Words<T, H>,
     place: &mut Place<T>,
@@ -139,6 +140,7 @@ pub fn lease_own<T, H: Holding<T>>(
     requires rows { HasRows life.now.id sizes.now.slots place.old.me.0.leases rows.old.items (deque_capacity rows.old) }
     ensures seat { (place.new.table_id ≡ place.old.table_id) × (place.new.id ≡ place.old.id) }
     ensures row { result < deque_len rows.new }
+    ensures round { (o : Owner) (os : List Owner) → place.old.me.0.hand ≡ o ∷ os → (d : Row T) → (slice_index_or rows.new.items result d).lent.pledge.id ≡ o.round }
     ensures loaded { HasLeased place.old.me place.new.me }
     ensures rows { KeepsRows life.now.id sizes.now.slots place.new.me.0.leases rows.new.items (deque_capacity rows.old) (deque_capacity rows.new) }
     ensures out { KeepsOut place.old.me place.new.me }

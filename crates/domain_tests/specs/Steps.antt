@@ -39,5 +39,5 @@ abbrev pub IsMine : {T : Type 0} → Domain T → Option PrivateCollector → Ty
 IsMine d o = ForSome o (λ c. collects_in c ≡ place_of d)
 
 -- a cell of the place, or none
-abbrev pub IsInside : {T : Type 0} → Domain T → Option AtomicShared → Type 0
+abbrev pub IsInside : {T : Type 0} → Domain T → Option (AtomicShared T) → Type 0
 IsInside d o = ForSome o (λ c. cell_number c < cell_count d)

@@ -23,7 +23,11 @@ use sdd_domain::pointer::Ptr;
 use sdd_domain::shared::Shared;
 
 /// What the cell's item is, under a guard of its own.
-pub(crate) fn read(domain: &Domain<u64>, local: &mut Local<u64>, cell: &AtomicShared) -> Option<u64>
+pub(crate) fn read(
+    domain: &Domain<u64>,
+    local: &mut Local<u64>,
+    cell: &AtomicShared<u64>,
+) -> Option<u64>
     requires home { (home_of local.old ≡ place_of domain.now) × (hand_of local.old ≡ []) }
     requires closed { (own_of local.old).nesting ≡ 0 }
     requires inside { cell_number cell.now < cell_count domain.now }
@@ -208,7 +212,7 @@ pub(crate) const FROM_AND_TO_NULL: Table = Table {
 pub(crate) fn keeps(
     domain: &Domain<u64>,
     local: &mut Local<u64>,
-    cell: &AtomicShared,
+    cell: &AtomicShared<u64>,
     item: u64,
 ) -> bool
     requires home { (home_of local.old ≡ place_of domain.now) × (hand_of local.old ≡ []) }
@@ -229,7 +233,7 @@ pub(crate) fn keeps(
 }
 
 /// Puts an item into the cell, where a slot is free, and releases the one that it had.
-fn replace(domain: &Domain<u64>, local: &mut Local<u64>, cell: &AtomicShared, item: u64)
+fn replace(domain: &Domain<u64>, local: &mut Local<u64>, cell: &AtomicShared<u64>, item: u64)
     requires home { (home_of local.old ≡ place_of domain.now) × (hand_of local.old ≡ []) }
     requires inside { cell_number cell.now < cell_count domain.now }
     ensures same { IsInNestButMisses local.old local.new × ((own_of local.new).nesting ≡ (own_of local.old).nesting) }
@@ -253,7 +257,11 @@ pub(crate) fn reclaim_all(domain: &Domain<u64>, participants: u32) {
 }
 
 /// Tries once to put an item that is greater by one into the cell: whether a slot was free, and nobody was faster.
-pub(crate) fn adds_one(domain: &Domain<u64>, local: &mut Local<u64>, cell: &AtomicShared) -> Found
+pub(crate) fn adds_one(
+    domain: &Domain<u64>,
+    local: &mut Local<u64>,
+    cell: &AtomicShared<u64>,
+) -> Found
     requires home { (home_of local.old ≡ place_of domain.now) × (hand_of local.old ≡ []) }
     requires closed { (own_of local.old).nesting ≡ 0 }
     requires inside { cell_number cell.now < cell_count domain.now }
@@ -275,7 +283,7 @@ fn puts(
     domain: &Domain<u64>,
     guard: &Guard,
     local: &mut Local<u64>,
-    cell: &AtomicShared,
+    cell: &AtomicShared<u64>,
     current: Ptr<u64>,
     item: u64,
 ) -> Found

@@ -17,7 +17,11 @@ use sdd_domain::local::Local;
 
 /// Takes the owner out of the cell, if it is there, makes two of it, puts one back and releases the other one: whether
 /// there were two.
-pub(crate) fn clones(domain: &Domain<u64>, local: &mut Local<u64>, cell: &AtomicShared) -> Found
+pub(crate) fn clones(
+    domain: &Domain<u64>,
+    local: &mut Local<u64>,
+    cell: &AtomicShared<u64>,
+) -> Found
     requires home { IsHome domain.now local.old }
     requires closed { (own_of local.old).nesting ≡ 0 }
     requires inside { cell_number cell.now < cell_count domain.now }

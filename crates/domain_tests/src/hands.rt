@@ -63,7 +63,7 @@ fn swap(
     domain: &Domain<u64>,
     local: &mut Local<u64>,
     hand: Hand,
-    cell: &AtomicShared,
+    cell: &AtomicShared<u64>,
     tag: Tag,
 ) -> (Hand, Found)
     requires home { IsHome domain.now local.old }
@@ -80,7 +80,7 @@ fn swap(
 pub(crate) fn put(
     domain: &Domain<u64>,
     local: &mut Local<u64>,
-    cell: &AtomicShared,
+    cell: &AtomicShared<u64>,
     owner: Shared<u64>,
 )
     requires home { IsHome domain.now local.old }
@@ -123,9 +123,9 @@ pub(crate) fn handled(
     domain: &Domain<u64>,
     local: &mut Local<u64>,
     hand: Hand,
-    cell: Option<AtomicShared>,
+    cell: Option<AtomicShared<u64>>,
     act: Act,
-) -> (Hand, Option<AtomicShared>, Found)
+) -> (Hand, Option<AtomicShared<u64>>, Found)
     requires home { IsHome domain.now local.old }
     requires ours { IsOurs domain.now hand }
     requires inside { IsInside domain.now cell }
@@ -160,7 +160,7 @@ fn own(
     domain: &Domain<u64>,
     local: &mut Local<u64>,
     hand: Hand,
-) -> (Hand, Option<AtomicShared>, Found)
+) -> (Hand, Option<AtomicShared<u64>>, Found)
     requires home { IsHome domain.now local.old }
     requires ours { IsOurs domain.now hand }
     ensures ours { IsOurs domain.now result.0 }
@@ -177,7 +177,11 @@ fn own(
 }
 
 /// A new cell of an item, which is back where there is none.
-fn make(domain: &Domain<u64>, local: &mut Local<u64>, item: u64) -> (Option<AtomicShared>, Found)
+fn make(
+    domain: &Domain<u64>,
+    local: &mut Local<u64>,
+    item: u64,
+) -> (Option<AtomicShared<u64>>, Found)
     requires home { IsHome domain.now local.old }
     ensures inside { IsInside domain.now result.0 }
     ensures stays { Stays local.old local.new }
@@ -189,7 +193,7 @@ fn make(domain: &Domain<u64>, local: &mut Local<u64>, item: u64) -> (Option<Atom
 }
 
 /// What the cell owned, which is given back.
-fn take(domain: &Domain<u64>, local: &mut Local<u64>, cell: Option<AtomicShared>) -> Hand
+fn take(domain: &Domain<u64>, local: &mut Local<u64>, cell: Option<AtomicShared<u64>>) -> Hand
     requires home { IsHome domain.now local.old }
     requires inside { IsInside domain.now cell }
     ensures ours { IsOurs domain.now result }
@@ -205,7 +209,7 @@ fn take(domain: &Domain<u64>, local: &mut Local<u64>, cell: Option<AtomicShared>
 pub(crate) fn retire(
     domain: &Domain<u64>,
     local: &mut Local<u64>,
-    cell: Option<AtomicShared>,
+    cell: Option<AtomicShared<u64>>,
 ) -> Found
     requires home { IsHome domain.now local.old }
     requires inside { IsInside domain.now cell }
@@ -223,7 +227,7 @@ pub(crate) fn exchange(
     guard: &Guard,
     local: &mut Local<u64>,
     hand: Hand,
-    cell: &AtomicShared,
+    cell: &AtomicShared<u64>,
     current: Ptr<u64>,
     tag: Tag,
 ) -> (Hand, Found)
@@ -246,7 +250,7 @@ pub(crate) fn exchange_weak(
     guard: &Guard,
     local: &mut Local<u64>,
     hand: Hand,
-    cell: &AtomicShared,
+    cell: &AtomicShared<u64>,
     current: Ptr<u64>,
     tag: Tag,
 ) -> (Hand, Found)
@@ -269,7 +273,7 @@ pub(crate) fn exchanging(
     guard: &Guard,
     local: &mut Local<u64>,
     hand: Hand,
-    cell: &AtomicShared,
+    cell: &AtomicShared<u64>,
     current: Ptr<u64>,
     step: View,
 ) -> (Hand, Found)
@@ -292,7 +296,7 @@ pub(crate) fn load_within(
     domain: &Domain<u64>,
     outer: &Guard,
     local: &mut Local<u64>,
-    cell: &AtomicShared,
+    cell: &AtomicShared<u64>,
 ) -> Found
     requires home { IsHome domain.now local.old }
     requires open { IsOpen outer.now local.old }
@@ -330,7 +334,7 @@ pub(crate) fn share_cell(
     domain: &Domain<u64>,
     guard: &Guard,
     local: &mut Local<u64>,
-    cell: &AtomicShared,
+    cell: &AtomicShared<u64>,
 ) -> (Hand, Found)
     requires home { IsHome domain.now local.old }
     requires open { IsOpen guard.now local.old }

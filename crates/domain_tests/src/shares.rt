@@ -22,7 +22,7 @@ use sdd_domain::guard::Guard;
 use sdd_domain::local::Local;
 
 /// An owner of what the cell names, made under a guard of its own, and what that guard read.
-fn shared(domain: &Domain<u64>, local: &mut Local<u64>, cell: &AtomicShared) -> (Hand, Found)
+fn shared(domain: &Domain<u64>, local: &mut Local<u64>, cell: &AtomicShared<u64>) -> (Hand, Found)
     requires home { IsHome domain.now local.old }
     requires closed { (own_of local.old).nesting ≡ 0 }
     requires inside { cell_number cell.now < cell_count domain.now }
@@ -42,7 +42,11 @@ fn shared(domain: &Domain<u64>, local: &mut Local<u64>, cell: &AtomicShared) -> 
 
 /// Makes an owner of what the cell names, puts it into the cell, and releases what that had: whether the owner, if there was
 /// one, read the guard's item.
-pub(crate) fn shares(domain: &Domain<u64>, local: &mut Local<u64>, cell: &AtomicShared) -> Found
+pub(crate) fn shares(
+    domain: &Domain<u64>,
+    local: &mut Local<u64>,
+    cell: &AtomicShared<u64>,
+) -> Found
     requires home { IsHome domain.now local.old }
     requires closed { (own_of local.old).nesting ≡ 0 }
     requires inside { cell_number cell.now < cell_count domain.now }

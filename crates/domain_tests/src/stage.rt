@@ -57,7 +57,7 @@ fn resting(domain: &Domain<u64>, local: Local<u64>) -> Option<Local<u64>>
 fn crowded<R: Threads + Sync>(
     rt: &R,
     domain: &Domain<u64>,
-    cell: &Option<AtomicShared>,
+    cell: &Option<AtomicShared<u64>>,
     hand: &Hand,
     tasks: [Task; 4],
 ) -> u32
@@ -76,8 +76,8 @@ pub(crate) struct Stage<'d> {
     pub(crate) hand: Option<Shared<u64>>,
     second: Option<Shared<u64>>,
     third: Option<Shared<u64>>,
-    pub(crate) cell: Option<AtomicShared>,
-    pub(crate) spare: Option<AtomicShared>,
+    pub(crate) cell: Option<AtomicShared<u64>>,
+    pub(crate) spare: Option<AtomicShared<u64>>,
     collector: Option<PrivateCollector>,
     /// How often threads did what they were to do when that was done last.
     pub(crate) sum: u32,
@@ -120,7 +120,7 @@ impl<'d> Stage<'d> {
     }
 
     /// Has this cell. One that was there is given back.
-    pub(crate) fn put_cell(&mut self, cell: Option<AtomicShared>)
+    pub(crate) fn put_cell(&mut self, cell: Option<AtomicShared<u64>>)
         requires { IsInside self.old.domain.now cell }
         ensures stays { Stays self.old.here self.new.here }
     {

@@ -28,7 +28,7 @@ use sdd_domain::local::Local;
 #[derive(Drop)]
 pub(crate) struct Scene<'a> {
     pub(crate) domain: &'a Domain<u64>,
-    pub(crate) cell: &'a Option<AtomicShared>,
+    pub(crate) cell: &'a Option<AtomicShared<u64>>,
     pub(crate) lent: Option<&'a u64>,
     ghost inside: { IsInside domain.now cell.now },
 }
@@ -60,7 +60,7 @@ fn goes_on(earlier: Epoch, later: Epoch) -> bool {
 fn around(
     domain: &Domain<u64>,
     local: &mut Local<u64>,
-    cell: &AtomicShared,
+    cell: &AtomicShared<u64>,
     task: Task,
     turn: u64,
 ) -> Found
@@ -85,7 +85,7 @@ fn around(
 fn found(
     domain: &Domain<u64>,
     local: &mut Local<u64>,
-    cell: &Option<AtomicShared>,
+    cell: &Option<AtomicShared<u64>>,
     task: Task,
     turn: u64,
 ) -> Found

@@ -24,6 +24,15 @@ impl<T> Lent<T> {
         self.seen.copy().under(&self.pledge)
     }
 
+    /// The value as another part of the same round sees it, under the life that the parts were lent to. That the two see
+    /// one value isn't known otherwise.
+    pub fn see_like(&self, part: &Part<T>) -> Seen<T>
+        requires { part.now.life.id ≡ self.now.pledge.id }
+        ensures { (result.value ≡ part.now.seen.value) × (result.life ≡ self.now.pledge.until) }
+    {
+        part.seen.copy().under(&self.pledge)
+    }
+
     /// The value, for as long as a token is borrowed of the life that the parts were lent to.
     pub fn get<'g>(&self, life: &'g Life) -> &'g T
         requires { self.now.pledge.until ≡ life.now.id }

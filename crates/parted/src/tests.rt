@@ -72,10 +72,13 @@ fn a_part_sees_what_another_one_sees(rt: HostRuntime) -> Result<(), Fail> {
     let (deed, mut all) = freeze(Box::new(rt.alloc(), 7u64)?);
     let home = all.split_one();
     let one = One::from_part(all.like(home));
-    let read = *one.get();
+    let life = Life::begin();
+    let lent = all.split_one().lend(&life);
+    let read = (*one.get(), *lent.see_like(&one.part).get(&life));
+    all.join(lent.recover(&life.end()));
     all.join(one.into_part());
     let whole = thaw(deed, all);
-    assert_eq!(rt; read, 7);
+    assert_eq!(rt; read, (7, 7));
     assert_eq!(rt; *whole, 7);
     Ok(())
 }

@@ -1,7 +1,8 @@
-pub mod CellSteps
-pub mod Nested
-pub mod Missed
-pub mod Handed
 pub mod Bagged
-pub mod Hands
+pub mod CellSteps
 pub mod Collected
+pub mod Handed
+pub mod Hands
+pub mod Missed
+pub mod Nested
+pub mod Values

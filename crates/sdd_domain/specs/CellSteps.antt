@@ -1,5 +1,5 @@
 -- what calls tell of a participant's steps on cells
-use Rattle.std.specs.Prelude.{◌≡◌, ◌⊎◌, ℕ, ◌++◌, ◌∷◌, [], List, All}
+use Rattle.std.specs.Prelude.{◌≡◌, ◌⊎◌, ◌≤◌, ℕ, ◌++◌, ◌∷◌, [], List, All, length}
 use Rattle.domain_table.specs.Layout.{cell_word}
 pub use Rattle.domain_table.specs.Layout.{packed, NamesWith}
 pub use Rattle.domain_table.specs.declared.board.CellStep.{CellStep}
@@ -49,6 +49,14 @@ HasExchanged old cell t k t' k' new = (w : ℕ) × NamesWith w t k × HasStored 
 -- it read this cell some times, and did nothing else to cells
 abbrev pub HasOnlyRead : {T : Type 0} → Local T → ℕ → Local T → Type 0
 HasOnlyRead old cell new = (xs : List CellStep) × All (IsReadOf old cell) xs × HasMade old xs new
+
+-- it read this cell some times, and did nothing else to cells: the last time it had this tag and named what this code tells
+abbrev pub HasFoundLast : {T : Type 0} → Local T → ℕ → ℕ → ℕ → Local T → Type 0
+HasFoundLast old cell t k new = (xs : List CellStep) × (w : ℕ) × All (IsReadOf old cell) xs × NamesWith w t k × HasMade old (xs ++ step_on old cell w w ∷ []) new
+
+-- it read this cell so many times at least, and did nothing else to cells
+abbrev pub HasReadOften : {T : Type 0} → Local T → ℕ → ℕ → Local T → Type 0
+HasReadOften old cell n new = (xs : List CellStep) × All (IsReadOf old cell) xs × (n ≤ length xs) × HasMade old xs new
 
 -- it read this cell some times, and then left this tag in it where it found that tag and code
 abbrev pub HasRetagged : {T : Type 0} → Local T → ℕ → ℕ → ℕ → ℕ → Local T → Type 0

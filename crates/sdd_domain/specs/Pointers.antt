@@ -12,9 +12,13 @@ use Rattle.sdd_domain.specs.declared.pointer.Ptr.{Ptr}
 abbrev pub IsUnder : {T : Type 0} → Loaded T → Guard → Type 0
 IsUnder l g = ForSome l.seen (λ s. s.life ≡ g.life.id)
 
--- it names an item with this value
+-- if it names an item, that has this value
 abbrev pub HasLoadedItem : {T : Type 0} → Loaded T → T → Type 0
 HasLoadedItem l x = ForSome l.seen (λ s. IsSomeAnd s.value (λ m. manually_drop_value m ≡ x))
+
+-- it names an item, which has this value
+abbrev pub IsLoadedOf : {T : Type 0} → Loaded T → T → Type 0
+IsLoadedOf l x = IsSomeAnd l.seen (λ s. IsSomeAnd s.value (λ m. manually_drop_value m ≡ x))
 
 -- the slot of the item that a pointer is to, or none; its tag; and its item
 abbrev pub ptr_slot : {T : Type 0} → Ptr T → Option ℕ

@@ -1,6 +1,6 @@
 //! Cells that own an item, or nothing, and have a tag.
 
-ghost use Rattle.std.specs.Prelude.{◌≡◌, ◌<◌, ◌+◌, ◌||◌, ◌⊎◌, ◌↔◌, ℕ, Bool, true, [], Some, IsTrue, IsFalse, IfSome, IfNone, IfOk, IfErr, OnOk, OnErr};
+ghost use Rattle.std.specs.Prelude.{◌≡◌, ◌<◌, ◌+◌, ◌||◌, ◌⊎◌, ◌↔◌, ◌^◌, ℕ, Bool, true, false, [], Some, IsTrue, IsFalse, IfSome, IfNone, IfOk, IfErr, OnOk, OnErr};
 ghost use Rattle.sdd_domain.specs.Tokens.{cell_count};
 
 use crate::comparing::{named_by, names, try_exchange, try_tag};
@@ -16,6 +16,7 @@ use domain_table::loading::slot_named;
 use domain_table::tags::tag_in;
 use sdd_base::refusal::NoSlot;
 use sdd_base::tag::Tag;
+use std::marker::PhantomData;
 use std::sync::atomic::Ordering;
 use tally::Tally;
 
@@ -37,25 +38,26 @@ fn take_cell<T: Holds>(domain: &Domain<T>, misses: &mut Tally) -> Option<usize>
 /// How often it is tried to set a tag before the last time: each time others may be faster.
 const TRIES: u64 = u64::MAX;
 
-/// A cell of a place: it owns an item, or nothing.
-pub struct AtomicShared {
+/// A cell of a place: it owns an item, or nothing. Its type tells which items its place has.
+pub struct AtomicShared<T> {
     pub(crate) cell: usize,
+    of: PhantomData<T>,
 }
 
-impl AtomicShared {
+impl<T: Holds> AtomicShared<T> {
     ghost use Rattle.sdd_domain.specs.Cells.{cell_number};
     ghost use Rattle.sdd_domain.specs.Comparing.{owner_slot, IsBack};
     ghost use Rattle.sdd_domain.specs.declared.pointer.Ptr.{Ptr};
     ghost use Rattle.sdd_domain.specs.Pointers.{IsUnder, ptr_slot, ptr_tag, loaded_slot, named_slot, named_tag};
     ghost use Rattle.sdd_domain.specs.Sharing.{kept_in};
     ghost use Rattle.sdd_domain.specs.Tokens.{place_of, home_of, number_of, own_of, hand_of, born_of, waiting_of, misses_of, nest_of, nest_in, IsInNest, IsInNestButMisses};
-    ghost use Rattle.sdd_domain.specs.CellSteps.{StepsOnNoCell, HasReadCell, HasExchanged, HasOnlyRead, HasRetagged, HasCopied};
+    ghost use Rattle.sdd_domain.specs.CellSteps.{StepsOnNoCell, HasReadCell, HasExchanged, HasFoundLast, HasReadOften, HasRetagged, HasCopied};
     ghost use Rattle.sdd_base.specs.Epochs.{tag_number};
     ghost use Rattle.sdd_domain.specs.Comparing.{code_of, owner_code};
 
     /// Claims a free cell of the place, trying each once: it owns nothing and has no tag. `NoSlot` if all are taken, which is
     /// a miss of the participant. The cell must be consumed by `into_shared` or `retire`.
-    pub fn null<T: Holds>(domain: &Domain<T>, local: &mut Local<T>) -> Result<AtomicShared, NoSlot>
+    pub fn null(domain: &Domain<T>, local: &mut Local<T>) -> Result<AtomicShared<T>, NoSlot>
         ensures inside { IfOk result (λ c. cell_number c < cell_count domain.now) }
         ensures hit { IfOk result (λ c. misses_of local.new ≡ misses_of local.old) }
         ensures missed { OnErr result (misses_of local.new ≡ misses_of local.old + 1) }
@@ -63,17 +65,20 @@ impl AtomicShared {
         ensures cells { StepsOnNoCell local.old local.new }
     {
         match take_cell(domain, &mut local.misses) {
-            Some(cell) => Ok(AtomicShared { cell }),
+            Some(cell) => Ok(AtomicShared {
+                cell,
+                of: PhantomData,
+            }),
             None => Err(NoSlot),
         }
     }
 
     /// A cell that owns this item, without a tag. The owner is back where there is no cell, which is a miss.
-    pub fn from<T: Holds>(
+    pub fn from(
         domain: &Domain<T>,
         owner: Shared<T>,
         local: &mut Local<T>,
-    ) -> Result<AtomicShared, Shared<T>>
+    ) -> Result<AtomicShared<T>, Shared<T>>
         requires home { home_of local.old ≡ place_of domain.now }
         requires mine { kept_in owner ≡ (place_of domain.now).0 }
         ensures inside { IfOk result (λ c. cell_number c < cell_count domain.now) }
@@ -94,11 +99,7 @@ impl AtomicShared {
 
     /// A cell that owns a new item, without a tag. The item is back where there is no cell or no free slot, which is a miss.
     /// Condition: it holds just the owners that are in the participant's hand.
-    pub fn new<T: Holds>(
-        domain: &Domain<T>,
-        item: T,
-        local: &mut Local<T>,
-    ) -> Result<AtomicShared, T>
+    pub fn new(domain: &Domain<T>, item: T, local: &mut Local<T>) -> Result<AtomicShared<T>, T>
         requires home { home_of local.old ≡ place_of domain.now }
         requires holds { T.holds item ≡ hand_of local.old }
         ensures inside { IfOk result (λ c. cell_number c < cell_count domain.now) }
@@ -130,12 +131,12 @@ impl AtomicShared {
 
     /// A cell of its own with what this one names, as that is found in one step, without a tag: one that owns nothing where
     /// `get_shared` gives none. `NoSlot` if all cells are taken, which is a miss.
-    pub fn clone<T: Holds>(
+    pub fn clone(
         &self,
         domain: &Domain<T>,
         guard: &Guard,
         local: &mut Local<T>,
-    ) -> Result<AtomicShared, NoSlot>
+    ) -> Result<AtomicShared<T>, NoSlot>
         requires home { home_of local.old ≡ place_of domain.now }
         requires mine { nest_of guard.now ≡ nest_in local.old }
         requires open { 0 < (own_of local.old).nesting }
@@ -156,7 +157,7 @@ impl AtomicShared {
     }
 
     /// Puts an owner into a cell that was just made. Whoever had the cell before left nothing in it.
-    fn put<T: Holds>(&self, domain: &Domain<T>, owner: Shared<T>, local: &mut Local<T>)
+    fn put(&self, domain: &Domain<T>, owner: Shared<T>, local: &mut Local<T>)
         requires home { home_of local.old ≡ place_of domain.now }
         requires inside { cell_number self.now < cell_count domain.now }
         requires mine { kept_in owner ≡ (place_of domain.now).0 }
@@ -170,7 +171,7 @@ impl AtomicShared {
     }
 
     /// Whether the cell owns nothing, as it is found in one step.
-    pub fn is_null<T: Holds>(&self, domain: &Domain<T>, local: &mut Local<T>) -> bool
+    pub fn is_null(&self, domain: &Domain<T>, local: &mut Local<T>) -> bool
         requires home { home_of local.old ≡ place_of domain.now }
         requires inside { cell_number self.now < cell_count domain.now }
         ensures looked { (t : ℕ) × (k : ℕ) × HasReadCell local.old (cell_number self.now) t k local.new × (IsTrue result ↔ (k ≡ 0)) }
@@ -180,7 +181,7 @@ impl AtomicShared {
     }
 
     /// The tag of the cell, as it is found in one step.
-    pub fn tag<T: Holds>(&self, domain: &Domain<T>, local: &mut Local<T>) -> Tag
+    pub fn tag(&self, domain: &Domain<T>, local: &mut Local<T>) -> Tag
         requires home { home_of local.old ≡ place_of domain.now }
         requires inside { cell_number self.now < cell_count domain.now }
         ensures looked { (k : ℕ) × HasReadCell local.old (cell_number self.now) (tag_number result) k local.new }
@@ -191,12 +192,7 @@ impl AtomicShared {
 
     /// What the cell names and its tag, as both are found in one step. The item stays, as it is, until the outermost guard
     /// closes, whatever other threads do with the cell.
-    pub fn load<'g, T: Holds>(
-        &self,
-        domain: &Domain<T>,
-        guard: &'g Guard,
-        local: &mut Local<T>,
-    ) -> Ptr<'g, T>
+    pub fn load<'g>(&self, domain: &Domain<T>, guard: &'g Guard, local: &mut Local<T>) -> Ptr<'g, T>
         requires home { home_of local.old ≡ place_of domain.now }
         requires mine { nest_of guard.now ≡ nest_in local.old }
         requires open { 0 < (own_of local.old).nesting }
@@ -209,12 +205,7 @@ impl AtomicShared {
     }
 
     /// What it names alone, without a borrow of the guard.
-    pub fn loaded<T: Holds>(
-        &self,
-        domain: &Domain<T>,
-        guard: &Guard,
-        local: &mut Local<T>,
-    ) -> Loaded<T>
+    pub fn loaded(&self, domain: &Domain<T>, guard: &Guard, local: &mut Local<T>) -> Loaded<T>
         requires home { home_of local.old ≡ place_of domain.now }
         requires mine { nest_of guard.now ≡ nest_in local.old }
         requires open { 0 < (own_of local.old).nesting }
@@ -228,12 +219,7 @@ impl AtomicShared {
     }
 
     /// The same with the tag.
-    fn found<T: Holds>(
-        &self,
-        domain: &Domain<T>,
-        guard: &Guard,
-        local: &mut Local<T>,
-    ) -> (Loaded<T>, Tag)
+    fn found(&self, domain: &Domain<T>, guard: &Guard, local: &mut Local<T>) -> (Loaded<T>, Tag)
         requires home { home_of local.old ≡ place_of domain.now }
         requires mine { nest_of guard.now ≡ nest_in local.old }
         requires open { 0 < (own_of local.old).nesting }
@@ -263,7 +249,7 @@ impl AtomicShared {
 
     /// One more owner of the item that the cell names, as it is found in one step: none where it names nothing, or where
     /// `Ptr::get_shared` gives none, as of an item that another thread has swapped out and retired since.
-    pub fn get_shared<T: Holds>(
+    pub fn get_shared(
         &self,
         domain: &Domain<T>,
         guard: &Guard,
@@ -281,7 +267,7 @@ impl AtomicShared {
     }
 
     /// Swaps what the cell owns and its tag, in one step: the owner and the tag go in, and those that it had come out.
-    pub fn swap<T: Holds>(
+    pub fn swap(
         &self,
         domain: &Domain<T>,
         new: (Option<Shared<T>>, Tag),
@@ -306,7 +292,7 @@ impl AtomicShared {
     /// threads change the cell during the call, it may be refused though the cell was as `current` before and is so again,
     /// and what was found may be equal to `current`. Pointers tell items by their slots, so both are of one place. It takes
     /// no memory.
-    pub fn compare_exchange<'g, T: Holds>(
+    pub fn compare_exchange<'g>(
         &self,
         domain: &Domain<T>,
         current: Ptr<T>,
@@ -340,7 +326,7 @@ impl AtomicShared {
     }
 
     /// As `compare_exchange`: it fails for no other reason.
-    pub fn compare_exchange_weak<'g, T: Holds>(
+    pub fn compare_exchange_weak<'g>(
         &self,
         domain: &Domain<T>,
         current: Ptr<T>,
@@ -367,7 +353,7 @@ impl AtomicShared {
     /// Sets the tag, in one step, where `f` answers true of the pointer that is found: whether it did. Where other threads
     /// changed the cell since that pointer was loaded it tries again, and asks anew; after `2^64` times it gives up, and
     /// tells that it didn't. What the cell owns stays.
-    pub fn update_tag_if<'g, T: Holds + 'g, F: Fn(Ptr<'g, T>) -> bool>(
+    pub fn update_tag_if<'g, F: Fn(Ptr<'g, T>) -> bool>(
         &self,
         domain: &Domain<T>,
         tag: Tag,
@@ -375,6 +361,8 @@ impl AtomicShared {
         guard: &'g Guard,
         local: &mut Local<T>,
     ) -> bool
+    where
+        T: 'g,
         requires home { home_of local.old ≡ place_of domain.now }
         requires nest { nest_of guard.now ≡ nest_in local.old }
         requires open { 0 < (own_of local.old).nesting }
@@ -383,9 +371,9 @@ impl AtomicShared {
         ensures asked { (r : Ptr T) × (b : Bool) × F.post f r b × (IsTrue result → IsTrue b) }
         ensures same { IsInNest local.old local.new × (own_of local.new ≡ own_of local.old) × (born_of local.new ≡ born_of local.old) × (waiting_of local.new ≡ waiting_of local.old) }
         ensures set { IsTrue result → (r : Ptr T) × F.post f r true × HasRetagged local.old (cell_number self.now) (tag_number (ptr_tag r)) (code_of (ptr_slot r)) (tag_number tag) local.new }
-        ensures kept { IsFalse result → HasOnlyRead local.old (cell_number self.now) local.new }
+        ensures kept { IsFalse result → ((r : Ptr T) × F.post f r false × HasFoundLast local.old (cell_number self.now) (tag_number (ptr_tag r)) (code_of (ptr_slot r)) local.new) ⊎ HasReadOften local.old (cell_number self.now) (2 ^ 64) local.new }
     {
-        for _ in 0..TRIES {
+        for _i in 0..TRIES {
             if let Some(answer) = self.try_update(domain, tag, &f, guard, local) {
                 return answer;
             }
@@ -397,7 +385,7 @@ impl AtomicShared {
     }
 
     /// The same once: what `f` answered, or none where it was true and others were faster.
-    fn try_update<'g, T: Holds + 'g, F: Fn(Ptr<'g, T>) -> bool>(
+    fn try_update<'g, F: Fn(Ptr<'g, T>) -> bool>(
         &self,
         domain: &Domain<T>,
         tag: Tag,
@@ -405,6 +393,8 @@ impl AtomicShared {
         guard: &'g Guard,
         local: &mut Local<T>,
     ) -> Option<bool>
+    where
+        T: 'g,
         requires home { home_of local.old ≡ place_of domain.now }
         requires nest { nest_of guard.now ≡ nest_in local.old }
         requires open { 0 < (own_of local.old).nesting }
@@ -414,8 +404,8 @@ impl AtomicShared {
         ensures slow { IfNone result ((r : Ptr T) × F.post f.now r true) }
         ensures same { IsInNest local.old local.new × (own_of local.new ≡ own_of local.old) × (born_of local.new ≡ born_of local.old) × (waiting_of local.new ≡ waiting_of local.old) }
         ensures set { IfSome result (λ b. IsTrue b → (r : Ptr T) × F.post f.now r true × HasRetagged local.old (cell_number self.now) (tag_number (ptr_tag r)) (code_of (ptr_slot r)) (tag_number tag) local.new) }
-        ensures kept { IfSome result (λ b. IsFalse b → HasOnlyRead local.old (cell_number self.now) local.new) }
-        ensures looked { IfNone result (HasOnlyRead local.old (cell_number self.now) local.new) }
+        ensures kept { IfSome result (λ b. IsFalse b → (r : Ptr T) × F.post f.now r false × HasReadCell local.old (cell_number self.now) (tag_number (ptr_tag r)) (code_of (ptr_slot r)) local.new) }
+        ensures looked { IfNone result (HasReadOften local.old (cell_number self.now) 1 local.new) }
     {
         let found = self.load(domain, guard, local);
         if !f(found) {
@@ -433,11 +423,7 @@ impl AtomicShared {
     }
 
     /// What the cell owned. The cell is the next one's that asks for one.
-    pub fn into_shared<T: Holds>(
-        self,
-        domain: &Domain<T>,
-        local: &mut Local<T>,
-    ) -> Option<Shared<T>>
+    pub fn into_shared(self, domain: &Domain<T>, local: &mut Local<T>) -> Option<Shared<T>>
         requires home { home_of local.old ≡ place_of domain.now }
         requires inside { cell_number self < cell_count domain.now }
         ensures home { IfSome result (λ s. kept_in s ≡ (place_of domain.now).0) }
@@ -445,13 +431,13 @@ impl AtomicShared {
         ensures taken { (t : ℕ) × HasExchanged local.old (cell_number self) t (owner_code result) 0 0 local.new }
     {
         let (owner, _) = self.swap(domain, (None, Tag::None), local);
-        let AtomicShared { cell } = self;
+        let AtomicShared { cell, of: _ } = self;
         domain.taken[cell].store(false, Ordering::SeqCst);
         owner
     }
 
     /// Gives the cell back, and releases what it owned. Whether that was the last owner of its item.
-    pub fn retire<T: Holds>(self, domain: &Domain<T>, local: &mut Local<T>) -> bool
+    pub fn retire(self, domain: &Domain<T>, local: &mut Local<T>) -> bool
         requires home { home_of local.old ≡ place_of domain.now }
         requires inside { cell_number self < cell_count domain.now }
         ensures same { IsInNest local.old local.new × (born_of local.new ≡ born_of local.old) × (own_of local.new ≡ record (own_of local.old) { garbage = (own_of local.old).garbage || result }) }

@@ -171,7 +171,7 @@ pub struct Loaded<T> {
 
 impl<T> Loaded<T> {
     ghost use Rattle.sdd_domain.specs.declared.guard.Guard.{Guard};
-    ghost use Rattle.sdd_domain.specs.Pointers.{IsUnder, HasLoadedItem, loaded_slot, ptr_slot, ptr_tag};
+    ghost use Rattle.sdd_domain.specs.Pointers.{IsUnder, HasLoadedItem, IsLoadedOf, loaded_slot, ptr_slot, ptr_tag, ptr_item};
 
     /// What a cell that owns nothing would be found to name.
     pub fn null() -> Loaded<T>
@@ -209,6 +209,7 @@ impl<T> Loaded<T> {
     pub fn under<'g>(&self, guard: &'g Guard) -> Ptr<'g, T>
         requires { IsUnder self.now guard.now }
         ensures slot { ptr_slot result ≡ loaded_slot self.now }
+        ensures item { (x : T) → IsLoadedOf self.now x → ptr_item result ≡ Some x }
         ensures tag { ptr_tag result ≡ Tag.None }
     {
         let item = self.as_ref(guard);

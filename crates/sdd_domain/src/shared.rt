@@ -14,7 +14,7 @@ use crate::pointer::{Loaded, Ptr};
 use calm::Calm;
 use domain_table::aim::Retire;
 use domain_table::board::{Acting, Stored};
-use domain_table::leases::seen_in;
+use domain_table::leases::seen_like;
 use domain_table::loading::lease_own;
 use domain_table::owners::{clone, own_leased, part_with, release, take_in};
 use domain_table::placing::{place_item, place_made};
@@ -34,7 +34,7 @@ pub struct Shared<T> {
 
 impl<T: Holds> Shared<T> {
     ghost use Rattle.sdd_domain.specs.Comparing.{owner_slot};
-    ghost use Rattle.sdd_domain.specs.Pointers.{ptr_slot};
+    ghost use Rattle.sdd_domain.specs.Pointers.{ptr_slot, ptr_item, IsLoadedOf};
     ghost use Rattle.sdd_domain.specs.Tokens.{place_of, home_of, own_of, hand_of, born_of, waiting_of, misses_of, number_of, nest_of, nest_in, IsInNest, IsInNestButMisses, IsSameButHand, IsSameButHandAndMisses};
     ghost use Rattle.sdd_domain.specs.CellSteps.{StepsOnNoCell};
     ghost use Rattle.sdd_domain.specs.Holding.{told_of, IsHeldOf};
@@ -221,6 +221,7 @@ impl<T: Holds> Shared<T> {
         ensures home { kept_in result.0 ≡ kept_in self }
         ensures item { (x : T) → IsOwnerOf self x → IsOwnerOf result.0 x }
         ensures exact { ptr_slot result.1 ≡ owner_slot (Some self) }
+        ensures same_item { (x : T) → IsOwnerOf self x → ptr_item result.1 ≡ Some x }
         ensures same { IsInNest local.old local.new × (own_of local.new ≡ own_of local.old) × (born_of local.new ≡ born_of local.old) × (waiting_of local.new ≡ waiting_of local.old) }
         ensures cells { StepsOnNoCell local.old local.new }
     {
@@ -241,6 +242,7 @@ impl<T: Holds> Shared<T> {
         requires open { 0 < (own_of local.old).nesting }
         ensures home { kept_in result.0 ≡ kept_in self }
         ensures item { (x : T) → IsOwnerOf self x → IsOwnerOf result.0 x }
+        ensures same_item { (x : T) → IsOwnerOf self x → result.1.now ≡ x }
         ensures same { IsInNest local.old local.new × (own_of local.new ≡ own_of local.old) × (born_of local.new ≡ born_of local.old) × (waiting_of local.new ≡ waiting_of local.old) }
         ensures cells { StepsOnNoCell local.old local.new }
     {
@@ -260,6 +262,7 @@ impl<T: Holds> Shared<T> {
         ensures item { (x : T) → IsOwnerOf self x → IsOwnerOf result.0 x }
         ensures seen { IsSomeAnd result.1.seen (λ s. (number_of local.old, s.life) ≡ nest_in local.old) }
         ensures slot { result.1.slot ≡ self.slot }
+        ensures same_item { (x : T) → IsOwnerOf self x → IsLoadedOf result.1 x }
         ensures same { IsInNest local.old local.new × (own_of local.new ≡ own_of local.old) × (born_of local.new ≡ born_of local.old) × (waiting_of local.new ≡ waiting_of local.old) }
         ensures cells { StepsOnNoCell local.old local.new }
     {
@@ -283,7 +286,7 @@ impl<T: Holds> Shared<T> {
             slot,
         );
         let seat = part_with(domain.words(), place);
-        let seen = seen_in(rows, at);
+        let seen = seen_like(rows, at, &part);
         let loaded = Loaded {
             slot,
             seen: Some(seen),

@@ -46,7 +46,7 @@ pub struct Span {
 pub fn session(
     alloc: Global,
     domain: &Domain<Item>,
-    root: Root<'_>,
+    root: Root<'_, Item>,
     local: &mut Local<Item>,
     task: Task,
     sample: Sample,
@@ -91,7 +91,7 @@ pub fn session(
 pub fn sessions(
     alloc: Global,
     domain: &Domain<Item>,
-    root: Root<'_>,
+    root: Root<'_, Item>,
     local: &mut Local<Item>,
     task: Task,
     rounds: u32,
@@ -124,7 +124,7 @@ fn reads<R: Clock>(
     rt: &R,
     alloc: Global,
     domain: &Domain<Item>,
-    root: Root<'_>,
+    root: Root<'_, Item>,
     task: Task,
     span: Span,
     seed: u64,
@@ -162,7 +162,7 @@ pub fn read_all<R: Threads + Clock + Sync>(
     rt: &R,
     alloc: Global,
     domain: &Domain<Item>,
-    root: Root<'_>,
+    root: Root<'_, Item>,
     task: Task,
     span: Span,
 ) -> Result<Vec<Option<Sample>>, AllocError>

@@ -82,7 +82,7 @@ pub(crate) fn in_use(domain: &Domain<Item>) -> usize {
 /// A book, the cell of its version, and its one share, as the list of all.
 pub(crate) struct Scene<'d, L: Naming, const S: usize> {
     pub(crate) domain: &'d Domain<Item>,
-    pub(crate) root: AtomicShared,
+    pub(crate) root: AtomicShared<Item>,
     pub(crate) book: Book<L, u64, u64, S>,
     pub(crate) shares: Vec<Share<L>>,
     ghost one: { length shares.items ≡ 1 },

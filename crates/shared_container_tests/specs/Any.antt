@@ -9,7 +9,7 @@ use Rattle.shared_container_tests.specs.declared.kinds.Any.{Any}
 use Rattle.shared_container_tests.specs.declared.kinds.Any.TheVariants as any
 
 -- its cells are cells of a place with as many as this one
-abbrev pub IsAnyOf : {T : Type 0} → Any → Domain T → Type 0
+abbrev pub IsAnyOf : Any → Domain ℕ → Type 0
 IsAnyOf (any.Stack s) d = IsStackOf s d
 IsAnyOf (any.Queue q) d = IsQueueOf q d
 IsAnyOf (any.Bag b) d = IsBagOf b d

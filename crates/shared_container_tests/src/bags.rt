@@ -8,8 +8,8 @@ use crate::lists::is_free;
 use crate::scene::{end, four, member, read, sized};
 use sdd_domain::domain::Domain;
 use sdd_domain::local::Local;
+use shared_containers::Links;
 use shared_containers::bag::Bag;
-use shared_containers::links::Links;
 use shared_containers::outcome::{NotMade, PushRefused};
 use std::alloc::Global;
 use std::process::Abort;
@@ -19,8 +19,8 @@ use std::test::Fail;
 #[derive(Drop)]
 struct Scene<'a> {
     domain: &'a Domain<u64>,
-    links: &'a Links,
-    bag: &'a Bag<1>,
+    links: &'a Links<u64>,
+    bag: &'a Bag<u64, 1>,
     ghost made: { IsBagOf bag.now domain.now × AreLinksOf links.now domain.now },
 }
 
@@ -133,7 +133,7 @@ fn plays_alone<R: Abort>(rt: &R, alloc: Global, domain: &Domain<u64>) -> Found {
     let Ok(links) = Links::new(alloc, domain, &mut local) else {
         panic!(rt; "memory is ample, and so are cells");
     };
-    let Ok(bag) = Bag::<1>::new(alloc, domain, &mut local) else {
+    let Ok(bag) = Bag::<u64, 1>::new(alloc, domain, &mut local) else {
         panic!(rt; "two cells are free");
     };
     let scene = Scene {
@@ -175,7 +175,7 @@ fn a_bag_wants_a_cell_for_each_place_and_one_more(rt: HostRuntime) -> Result<(),
     let Ok(links) = Links::new(rt.alloc(), &domain, &mut local) else {
         panic!(&rt; "memory is ample, and no cell is needed");
     };
-    let refused = match Bag::<2>::new(rt.alloc(), &domain, &mut local) {
+    let refused = match Bag::<u64, 2>::new(rt.alloc(), &domain, &mut local) {
         Ok(bag) => {
             bag.end(&domain, &links, &mut local);
             None

@@ -6,7 +6,7 @@ use shared_containers::stack::Stack;
 
 /// A container of any kind. A bag has two places besides its overflow.
 pub enum Any {
-    Stack(Stack),
-    Queue(Queue),
-    Bag(Bag<2>),
+    Stack(Stack<u64>),
+    Queue(Queue<u64>),
+    Bag(Bag<u64, 2>),
 }

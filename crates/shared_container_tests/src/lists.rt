@@ -10,7 +10,7 @@ use sdd_domain::atomic_shared::AtomicShared;
 use sdd_domain::domain::Domain;
 use sdd_domain::guard::Guard;
 use sdd_domain::local::Local;
-use shared_containers::links::Links;
+use shared_containers::Links;
 use shared_containers::outcome::NotMade;
 use shared_containers::stack::Stack;
 use std::alloc::Global;
@@ -135,8 +135,8 @@ fn under_an_open_guard_others_are_pushed_and_popped_and_what_was_popped_is_read(
 /// What comes out of a stack in front of all others, which is ended.
 fn last_two(
     domain: &Domain<u64>,
-    stack: Stack,
-    links: &Links,
+    stack: Stack<u64>,
+    links: &Links<u64>,
     local: &mut Local<u64>,
 ) -> [Option<u64>; 3]
     requires home { (home_of local.old ≡ place_of domain.now) × (hand_of local.old ≡ []) }
@@ -189,7 +189,7 @@ fn all_items_of_a_stack_are_taken_out_in_one_step(rt: HostRuntime) -> Result<(),
 }
 
 /// Gives a cell back that there may be.
-fn put_back(domain: &Domain<u64>, cell: Option<AtomicShared>, local: &mut Local<u64>)
+fn put_back(domain: &Domain<u64>, cell: Option<AtomicShared<u64>>, local: &mut Local<u64>)
     requires home { home_of local.old ≡ place_of domain.now }
     requires inside { IfSome cell (λ c. cell_number c < cell_count domain.now) }
     ensures same { IsAsBefore local.old local.new }

@@ -11,8 +11,8 @@ use crate::scene::{Kind, end, four, member, sized};
 use sdd_domain::domain::Domain;
 use sdd_domain::local::Local;
 use sdd_domain::plain::Plain;
+use shared_containers::Links;
 use shared_containers::bag::Bag;
-use shared_containers::links::Links;
 use shared_containers::outcome::{CloneRefused, FromIterRefused, NotCloned, NotMade, PushRefused};
 use shared_containers::queue::Queue;
 use shared_containers::stack::Stack;
@@ -30,7 +30,7 @@ const NOTHING: Made = (None, None);
 #[derive(Drop)]
 struct Scene<'a> {
     domain: &'a Domain<u64>,
-    links: &'a Links,
+    links: &'a Links<u64>,
     ghost made: { AreLinksOf links.now domain.now },
 }
 
@@ -307,8 +307,8 @@ impl Clone for Rare {
 #[derive(Drop)]
 struct Rares<'a> {
     domain: &'a Domain<Plain<Rare>>,
-    links: &'a Links,
-    queue: &'a Queue,
+    links: &'a Links<Plain<Rare>>,
+    queue: &'a Queue<Plain<Rare>>,
     ghost made: { IsQueueOf queue.now domain.now × AreLinksOf links.now domain.now },
 }
 
@@ -410,7 +410,7 @@ fn makes_a_bag_in(alloc: Global, domain: &Domain<u64>) -> Result<(), bool> {
 fn bag_of_three(
     alloc: Global,
     domain: &Domain<u64>,
-    links: &Links,
+    links: &Links<u64>,
     local: &mut Local<u64>,
 ) -> Result<(), bool>
     requires home { (home_of local.old ≡ place_of domain.now) × (hand_of local.old ≡ []) }
@@ -418,7 +418,7 @@ fn bag_of_three(
     requires links { AreLinksOf links.now domain.now }
     ensures same { IsAsBefore local.old local.new }
 {
-    match Bag::<2>::from_iter(alloc, domain, 1..4u64, links, local) {
+    match Bag::<u64, 2>::from_iter(alloc, domain, 1..4u64, links, local) {
         Ok(bag) => {
             bag.end(domain, links, local);
             Ok(())

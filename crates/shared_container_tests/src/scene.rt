@@ -12,8 +12,8 @@ use sdd_domain::guard::Guard;
 use sdd_domain::holds::Holds;
 use sdd_domain::local::Local;
 use sdd_domain::shared::Shared;
+use shared_containers::Links;
 use shared_containers::bag::Bag;
-use shared_containers::links::Links;
 use shared_containers::queue::Queue;
 use shared_containers::stack::Stack;
 use std::alloc::Global;
@@ -101,10 +101,10 @@ pub(crate) enum Kind {
 
 /// A stack, a queue and a bag with their links.
 pub(crate) struct Made {
-    links: Links,
-    pub(crate) stack: Stack,
-    queue: Queue,
-    bag: Bag<4>,
+    links: Links<u64>,
+    pub(crate) stack: Stack<u64>,
+    queue: Queue<u64>,
+    bag: Bag<u64, 4>,
 }
 
 impl Made {
@@ -180,10 +180,10 @@ impl Made {
 #[derive(Drop)]
 pub(crate) struct Scene<'a> {
     pub(crate) domain: &'a Domain<u64>,
-    pub(crate) links: &'a Links,
-    pub(crate) stack: &'a Stack,
-    pub(crate) queue: &'a Queue,
-    bag: &'a Bag<4>,
+    pub(crate) links: &'a Links<u64>,
+    pub(crate) stack: &'a Stack<u64>,
+    pub(crate) queue: &'a Queue<u64>,
+    bag: &'a Bag<u64, 4>,
     pub(crate) kind: Kind,
     ghost made: { IsStackOf stack.now domain.now × IsQueueOf queue.now domain.now × IsBagOf bag.now domain.now × AreLinksOf links.now domain.now },
 }

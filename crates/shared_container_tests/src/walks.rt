@@ -8,8 +8,8 @@ use crate::scene::{Kind, Made, Scene, end, member, read, sized};
 use sdd_domain::domain::Domain;
 use sdd_domain::guard::Guard;
 use sdd_domain::local::Local;
+use shared_containers::Links;
 use shared_containers::bag::Bag;
-use shared_containers::links::Links;
 use std::alloc::Global;
 use std::process::Abort;
 use std::test::Fail;
@@ -92,7 +92,13 @@ fn a_walk_gives_what_is_popped_meanwhile_and_ends_there(rt: HostRuntime) -> Resu
 }
 
 /// Pushes a value on a bag of two places.
-fn push(domain: &Domain<u64>, bag: &Bag<2>, value: u64, links: &Links, local: &mut Local<u64>)
+fn push(
+    domain: &Domain<u64>,
+    bag: &Bag<u64, 2>,
+    value: u64,
+    links: &Links<u64>,
+    local: &mut Local<u64>,
+)
     requires home { (home_of local.old ≡ place_of domain.now) × (hand_of local.old ≡ []) }
     requires closed { (own_of local.old).nesting ≡ 0 }
     requires made { IsBagOf bag.now domain.now × AreLinksOf links.now domain.now }
@@ -107,8 +113,8 @@ fn push(domain: &Domain<u64>, bag: &Bag<2>, value: u64, links: &Links, local: &m
 /// and how many gave nothing. What is left is released.
 fn takes_apart(
     domain: &Domain<u64>,
-    bag: Bag<2>,
-    links: &Links,
+    bag: Bag<u64, 2>,
+    links: &Links<u64>,
     steps: u8,
     local: &mut Local<u64>,
 ) -> (u64, u64)
@@ -144,7 +150,7 @@ fn takes_apart_alone<R: Abort>(
     let Ok(links) = Links::new(alloc, domain, &mut local) else {
         panic!(rt; "memory is ample, and so are cells");
     };
-    let Ok(bag) = Bag::<2>::new(alloc, domain, &mut local) else {
+    let Ok(bag) = Bag::<u64, 2>::new(alloc, domain, &mut local) else {
         panic!(rt; "three cells are free");
     };
     let found = takes_apart(domain, bag, &links, steps, &mut local);

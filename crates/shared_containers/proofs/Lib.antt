@@ -1,2 +1,1 @@
-pub mod StillLemmas
 pub mod TakenLemmas

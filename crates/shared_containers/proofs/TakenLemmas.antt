@@ -2,15 +2,15 @@
 use Rattle.std.proofs.Common.{◌≡◌, ◌≢◌, ℕ, ◌+◌, List, [], ◌∷◌, ◌++◌, Option, None, Some, IfSome, true, false, eqb, eq-eqb, inr, append_assoc, append-nil, refl, sym, ap, ◌∙◌, arith}
 use Rattle.std.specs.Option.{option_eq}
 use Rattle.std.proofs.lemmas.Bool.{false≢true}
-use Rattle.sdd_domain.specs.CellSteps.{CellStep, packed, cell_steps_of, HasMade, HasMadeSome, HasMadeOne, StepsOnNoCell, HasReadCell, HasExchanged, HasOnlyRead, HasRetagged, step_on}
+use Rattle.sdd_domain.specs.CellSteps.{CellStep, packed, cell_steps_of, HasMade, HasMadeSome, HasMadeOne, StepsOnNoCell, HasReadCell, HasExchanged, HasRetagged, step_on}
 use Rattle.sdd_domain.specs.Comparing.{owner_code, owner_slot}
 use Rattle.sdd_domain.specs.Tokens.{home_of}
 use Rattle.sdd_domain.specs.declared.local.Local.{Local}
 use Rattle.sdd_domain.specs.declared.shared.Shared.{Shared}
-use Rattle.sdd_domain.proofs.CellSteps.{made_both, step_since}
+pub use Rattle.shared_lists.proofs.Made.{none_made, quiet_some, read_some, exchanged_some, kept_some, retagged_some, some_then, one_behind, one_before, one_made, one_since}
 use Rattle.shared_containers.specs.Taken.{HasTakenOut, HasMarked, HasMarkedLink, HasPopped, HasPoppedOf, IsCellAt, IsPlain}
 use Rattle.shared_containers.specs.declared.bag.Bag.{Bag}
-use Rattle.shared_containers.specs.declared.links.Links.{Links}
+use Rattle.shared_lists.specs.declared.links.Links.{Links}
 use Rattle.shared_containers.specs.declared.stack.Stack.{Stack}
 
 same_option : (o : Option ℕ) → option_eq eqb o o ≡ true
@@ -22,39 +22,6 @@ pub differ : (o p : Option ℕ) → false ≡ option_eq eqb o p → o ≢ p
 differ o p not_equal e = false≢true (not_equal ∙ (ap (λ z. option_eq eqb z p) e ∙ same_option p))
 
 module _ {T : Type 0} where
-  pub none_made : (a : Local T) → HasMadeSome a a
-  none_made a = ([], sym (append-nil (cell_steps_of a)))
-
-  pub quiet_some : (a b : Local T) → StepsOnNoCell a b → HasMadeSome a b
-  quiet_some a b quiet = ([], quiet ∙ sym (append-nil (cell_steps_of a)))
-
-  pub read_some : (a b : Local T) (cell t k : ℕ) → HasReadCell a cell t k b → HasMadeSome a b
-  read_some a b cell t k r = (step_on a cell r.0 r.0 ∷ [], r.2)
-
-  pub exchanged_some : (a b : Local T) (cell t k u h : ℕ) → HasExchanged a cell t k u h b → HasMadeSome a b
-  exchanged_some a b cell t k u h q = let v = q.2 in (step_on a cell q.0 v.0 ∷ [], v.2)
-
-  pub only_read_some : (a b : Local T) (cell : ℕ) → HasOnlyRead a cell b → HasMadeSome a b
-  only_read_some a b cell r = (r.0, r.2)
-
-  pub retagged_some : (a b : Local T) (cell t k u : ℕ) → HasRetagged a cell t k u b → HasMadeSome a b
-  retagged_some a b cell t k u r = (r.0 ++ step_on a cell r.1 r.2 ∷ [], r.6)
-
-  pub some_then : (a b c : Local T) → HasMadeSome a b → HasMadeSome b c → HasMadeSome a c
-  some_then a b c r q = (r.0 ++ q.0, made_both a b c r.0 q.0 r.1 q.1)
-
-  pub one_behind : (a b c : Local T) (x : CellStep) → HasMadeSome a b → HasMadeOne b x c → HasMadeOne a x c
-  one_behind a b c x r q = (r.0 ++ q.0, q.1, made_both a b c r.0 (q.0 ++ x ∷ q.1) r.1 q.2 ∙ ap (λ zs. cell_steps_of a ++ zs) (sym (append_assoc r.0 q.0 (x ∷ q.1))))
-
-  pub one_before : (a b c : Local T) (x : CellStep) → HasMadeOne a x b → HasMadeSome b c → HasMadeOne a x c
-  one_before a b c x q r = (q.0, q.1 ++ r.0, made_both a b c (q.0 ++ x ∷ q.1) r.0 q.2 r.1 ∙ ap (λ zs. cell_steps_of a ++ zs) (append_assoc q.0 (x ∷ q.1) r.0))
-
-  pub one_made : (a b : Local T) (x : CellStep) → HasMade a (x ∷ []) b → HasMadeOne a x b
-  one_made a b x made = ([], [], made)
-
-  one_since : (a b c : Local T) (cell w v : ℕ) → home_of b ≡ home_of a → HasMadeOne b (step_on b cell w v) c → HasMadeOne b (step_on a cell w v) c
-  one_since a b c cell w v home q = (q.0, q.1, q.2 ∙ ap (λ x. cell_steps_of b ++ (q.0 ++ x ∷ q.1)) (step_since cell a b w v home))
-
   module _ (a b c : Local T) (home : home_of b ≡ home_of a) (some_ : HasMadeSome a b) where
     pub taken_behind : (cell : ℕ) (s : Shared T) → HasTakenOut b cell s c → HasTakenOut a cell s c
     taken_behind cell s q = (q.0, q.1, q.2, q.3, q.4, q.5, q.6, q.7, one_behind a b c (step_on a cell q.0 q.1) some_ (one_since a b c cell q.0 q.1 home q.8))
@@ -62,7 +29,7 @@ module _ {T : Type 0} where
     pub marked_behind : (cell : ℕ) → HasMarked b cell c → HasMarked a cell c
     marked_behind cell q = (q.0, q.1, q.2, q.3, q.4, one_behind a b c (step_on a cell q.0 q.1) some_ (one_since a b c cell q.0 q.1 home q.5))
 
-    pub popped_behind : (stack : Stack) (links : Links) (s : Shared T) → HasPopped b stack links s c → HasPopped a stack links s c
+    pub popped_behind : (stack : Stack T) (links : Links T) (s : Shared T) → HasPopped b stack links s c → HasPopped a stack links s c
     popped_behind stack links s q = (λ plain. taken_behind stack.first.cell s (q.0 plain), λ front. let m = q.1 front in (m.0, m.1, marked_behind m.0 m.2))
 
   module _ (a b c : Local T) (some_ : HasMadeSome b c) where
@@ -72,7 +39,7 @@ module _ {T : Type 0} where
     pub marked_before : (cell : ℕ) → HasMarked a cell b → HasMarked a cell c
     marked_before cell q = (q.0, q.1, q.2, q.3, q.4, one_before a b c (step_on a cell q.0 q.1) q.5 some_)
 
-    pub popped_before : (stack : Stack) (links : Links) (s : Shared T) → HasPopped a stack links s b → HasPopped a stack links s c
+    pub popped_before : (stack : Stack T) (links : Links T) (s : Shared T) → HasPopped a stack links s b → HasPopped a stack links s c
     popped_before stack links s q = (λ plain. taken_before stack.first.cell s (q.0 plain), λ front. let m = q.1 front in (m.0, m.1, marked_before m.0 m.2))
 
   -- an exchange of an item for another one, or none
@@ -97,6 +64,6 @@ module _ {T : Type 0} where
   swap_takes a b c cell t (Some s) home before q = taken_behind a b c home before cell s (exchange_takes b c cell t (owner_code (Some s)) 0 0 s refl (λ e. omega arith) q)
 
   -- what comes out of the primary comes out of the bag
-  pub bag_taken : {n : ℕ} (bag : Bag n) (a b c : Local T) (o : Option (Shared T)) → home_of b ≡ home_of a → HasMadeSome a b → IfSome o (λ s. (i : ℕ) × (cell : ℕ) × IsCellAt bag.primary i cell × HasTakenOut b cell s c) → IfSome o (λ s. HasPoppedOf a bag s c)
+  pub bag_taken : {n : ℕ} (bag : Bag T n) (a b c : Local T) (o : Option (Shared T)) → home_of b ≡ home_of a → HasMadeSome a b → IfSome o (λ s. (i : ℕ) × (cell : ℕ) × IsCellAt bag.primary i cell × HasTakenOut b cell s c) → IfSome o (λ s. HasPoppedOf a bag s c)
   bag_taken bag a b c None home before q = tt
   bag_taken bag a b c (Some s) home before q = (q.1, inr (q.0, q.2), taken_behind a b c home before q.1 s q.3)

@@ -10,7 +10,7 @@ use Rattle.shared_containers.specs.declared.outcome.FromIterRefused.{FromIterRef
 use Rattle.shared_containers.specs.declared.outcome.FromIterRefused.TheVariants as filled
 use Rattle.shared_containers.specs.declared.outcome.NotCloned.{NotCloned}
 use Rattle.shared_containers.specs.declared.outcome.NotCloned.TheVariants.{Memory, Refused}
-use Rattle.shared_containers.specs.declared.outcome.NotMade.{NotMade}
+use Rattle.shared_lists.specs.declared.refusal.NotMade.{NotMade}
 use Rattle.shared_containers.specs.declared.outcome.Popped.{Popped}
 use Rattle.shared_containers.specs.declared.outcome.Popped.TheVariants.{Empty, Item, Kept, Again}
 use Rattle.shared_containers.specs.declared.outcome.Pushed.{Pushed}

@@ -11,8 +11,7 @@ ghost use Rattle.shared_containers.specs.Taken.{HasPoppedOf, HasTakenOut, IsCell
 ghost use Rattle.std.specs.Iterator.{IsFiniteIterable};
 
 use crate::iter::IntoIter;
-use crate::links::{Links, Row};
-use crate::moves::{TRIES, exchange, place};
+use crate::moves::{exchange, place};
 use crate::outcome::{FromIterRefused, NotMade, PushRefused};
 use crate::stack::Stack;
 use sdd_base::tag::Tag;
@@ -23,23 +22,25 @@ use sdd_domain::holds::Holds;
 use sdd_domain::local::Local;
 use sdd_domain::pointer::Ptr;
 use sdd_domain::shared::Shared;
+use shared_lists::moves::TRIES;
+use shared_lists::{Links, Row};
 use std::alloc::Global;
 
 /// A bag of items of a place, which threads push and pop by `&`, in no order: the primary, `ARRAY_LEN` cells that own an item
 /// each, and the overflow, a stack of the others. It must be spent by `end`.
 /// Each item is given out at most once: what a `pop` answers is the owner that the bag had.
-pub struct Bag<const ARRAY_LEN: usize> {
-    primary: Row,
-    overflow: Stack,
+pub struct Bag<T, const ARRAY_LEN: usize> {
+    primary: Row<T>,
+    overflow: Stack<T>,
 }
 
-impl<const ARRAY_LEN: usize> Bag<ARRAY_LEN> {
+impl<T: Holds, const ARRAY_LEN: usize> Bag<T, ARRAY_LEN> {
     /// An empty bag, which takes `ARRAY_LEN + 1` cells, and memory for their names.
-    pub fn new<T: Holds>(
+    pub fn new(
         alloc: Global,
         domain: &Domain<T>,
         local: &mut Local<T>,
-    ) -> Result<Bag<ARRAY_LEN>, NotMade>
+    ) -> Result<Bag<T, ARRAY_LEN>, NotMade>
         requires home { home_of local.old ≡ place_of domain.now }
         ensures bag { IfOk result (λ b. IsBagOf b domain.now) }
         ensures same { IsAsBefore local.old local.new }
@@ -57,13 +58,13 @@ impl<const ARRAY_LEN: usize> Bag<ARRAY_LEN> {
     /// A bag of the values, the first `ARRAY_LEN` of them in the primary. Where no empty bag can be made they are back. The first
     /// value that is refused, as `push` refuses it, is back with the bag of those before it, and what is left of the values is
     /// let go. Conditions: the values end, they hold no owners, and none is in the participant's hand.
-    pub fn from_iter<T: Holds, I: IntoIterator<Item = T>>(
+    pub fn from_iter<I: IntoIterator<Item = T>>(
         alloc: Global,
         domain: &Domain<T>,
         values: I,
-        links: &Links,
+        links: &Links<T>,
         local: &mut Local<T>,
-    ) -> Result<Bag<ARRAY_LEN>, FromIterRefused<Bag<ARRAY_LEN>, T, I>>
+    ) -> Result<Bag<T, ARRAY_LEN>, FromIterRefused<Bag<T, ARRAY_LEN>, T, I>>
         requires ready { IsReady local.old domain.now }
         requires links { AreLinksOf links.now domain.now }
         requires ends { IsFiniteIterable I.into_iter_gives I.IntoIter.can_next I.IntoIter.remaining values }
@@ -88,7 +89,7 @@ impl<const ARRAY_LEN: usize> Bag<ARRAY_LEN> {
     }
 
     /// How many items it has, as each place of the primary, and then the overflow, is found.
-    pub fn len<T: Holds>(&self, domain: &Domain<T>, links: &Links, local: &mut Local<T>) -> usize
+    pub fn len(&self, domain: &Domain<T>, links: &Links<T>, local: &mut Local<T>) -> usize
         requires ready { IsReady local.old domain.now }
         requires bag { IsBagOf self.now domain.now × AreLinksOf links.now domain.now }
         ensures same { IsAsBefore local.old local.new }
@@ -98,7 +99,7 @@ impl<const ARRAY_LEN: usize> Bag<ARRAY_LEN> {
     }
 
     /// Whether it has no item, as each place of the primary, and the overflow before, is found.
-    pub fn is_empty<T: Holds>(&self, domain: &Domain<T>, local: &mut Local<T>) -> bool
+    pub fn is_empty(&self, domain: &Domain<T>, local: &mut Local<T>) -> bool
         requires home { home_of local.old ≡ place_of domain.now }
         requires bag { IsBagOf self.now domain.now }
         ensures same { IsInNest local.old local.new × (own_of local.new ≡ own_of local.old) }
@@ -107,7 +108,7 @@ impl<const ARRAY_LEN: usize> Bag<ARRAY_LEN> {
     }
 
     /// How many places of the primary are taken, each looked at in one step.
-    fn taken<T: Holds>(&self, domain: &Domain<T>, local: &mut Local<T>) -> usize
+    fn taken(&self, domain: &Domain<T>, local: &mut Local<T>) -> usize
         requires home { home_of local.old ≡ place_of domain.now }
         requires bag { IsBagOf self.now domain.now }
         ensures same { IsInNest local.old local.new × (own_of local.new ≡ own_of local.old) }
@@ -125,11 +126,11 @@ impl<const ARRAY_LEN: usize> Bag<ARRAY_LEN> {
 
     /// Puts a value into the primary, or into the overflow where no place was free. Where no slot is free it is back, a miss;
     /// after `2^64` tries its owner is. Conditions: the value holds no owners, and none is in the participant's hand.
-    pub fn push<T: Holds>(
+    pub fn push(
         &self,
         domain: &Domain<T>,
         value: T,
-        links: &Links,
+        links: &Links<T>,
         local: &mut Local<T>,
     ) -> Result<(), PushRefused<T>>
         requires ready { IsReady local.old domain.now }
@@ -147,7 +148,7 @@ impl<const ARRAY_LEN: usize> Bag<ARRAY_LEN> {
 
     /// Puts a value into the primary alone. Where each of its places is found taken the value is back (`Full`), or its owner
     /// where others took the places that were free (`Busy`). Conditions: as those of `push`.
-    pub fn try_push<T: Holds>(
+    pub fn try_push(
         &self,
         domain: &Domain<T>,
         value: T,
@@ -170,12 +171,7 @@ impl<const ARRAY_LEN: usize> Bag<ARRAY_LEN> {
     }
 
     /// Puts an owner's item into the primary, unless each place is found taken.
-    fn keep<T: Holds>(
-        &self,
-        domain: &Domain<T>,
-        owner: Shared<T>,
-        local: &mut Local<T>,
-    ) -> Option<Shared<T>>
+    fn keep(&self, domain: &Domain<T>, owner: Shared<T>, local: &mut Local<T>) -> Option<Shared<T>>
         requires ready { IsReady local.old domain.now }
         requires bag { IsBagOf self.now domain.now }
         requires mine { kept_in owner ≡ (place_of domain.now).0 }
@@ -191,7 +187,7 @@ impl<const ARRAY_LEN: usize> Bag<ARRAY_LEN> {
     }
 
     /// The same under a guard.
-    fn keep_under<T: Holds>(
+    fn keep_under(
         &self,
         domain: &Domain<T>,
         owner: Shared<T>,
@@ -218,10 +214,10 @@ impl<const ARRAY_LEN: usize> Bag<ARRAY_LEN> {
 
     /// Takes an item out, of the overflow while that has any, and gives its owner. None where nothing is found, and after
     /// `2^64` tries. Condition: no owner is in the participant's hand.
-    pub fn pop<T: Holds>(
+    pub fn pop(
         &self,
         domain: &Domain<T>,
-        links: &Links,
+        links: &Links<T>,
         local: &mut Local<T>,
     ) -> Option<Shared<T>>
         requires ready { IsReady local.old domain.now }
@@ -237,7 +233,7 @@ impl<const ARRAY_LEN: usize> Bag<ARRAY_LEN> {
     }
 
     /// Takes an item out of the primary: each place is swapped with nothing until one had an item.
-    fn pop_primary<T: Holds>(&self, domain: &Domain<T>, local: &mut Local<T>) -> Option<Shared<T>>
+    fn pop_primary(&self, domain: &Domain<T>, local: &mut Local<T>) -> Option<Shared<T>>
         requires home { home_of local.old ≡ place_of domain.now }
         requires bag { IsBagOf self.now domain.now }
         ensures home { IfSome result (λ s. kept_in s ≡ (place_of domain.now).0) }
@@ -256,18 +252,18 @@ impl<const ARRAY_LEN: usize> Bag<ARRAY_LEN> {
     }
 
     /// The bag, to be taken apart item by item.
-    pub fn into_iter(self) -> IntoIter<ARRAY_LEN>
-        ensures { result.bag ≡ self.entry }
+    pub fn into_iter(self) -> IntoIter<T, ARRAY_LEN>
+        ensures { result.bag ≡ self }
     {
         IntoIter { bag: self }
     }
 
     /// Pops all items, until nothing is found: each is shown to `f` once, in no order, and released.
-    pub fn pop_all<T: Holds, F: FnMut(&T)>(
+    pub fn pop_all<F: FnMut(&T)>(
         &self,
         domain: &Domain<T>,
         mut f: F,
-        links: &Links,
+        links: &Links<T>,
         local: &mut Local<T>,
     )
         requires ready { IsReady local.old domain.now }
@@ -285,7 +281,7 @@ impl<const ARRAY_LEN: usize> Bag<ARRAY_LEN> {
     }
 
     /// Releases its items, and gives its cells back.
-    pub fn end<T: Holds>(self, domain: &Domain<T>, links: &Links, local: &mut Local<T>)
+    pub fn end(self, domain: &Domain<T>, links: &Links<T>, local: &mut Local<T>)
         requires ready { IsReady local.old domain.now }
         requires bag { IsBagOf self domain.now × AreLinksOf links.now domain.now }
         ensures same { IsAsBefore local.old local.new }
@@ -299,7 +295,7 @@ impl<const ARRAY_LEN: usize> Bag<ARRAY_LEN> {
 /// Takes the item out of a cell, if it has one, by a swap with nothing.
 fn take_from<T: Holds>(
     domain: &Domain<T>,
-    cell: &AtomicShared,
+    cell: &AtomicShared<T>,
     local: &mut Local<T>,
 ) -> Option<Shared<T>>
     requires home { home_of local.old ≡ place_of domain.now }

@@ -6,8 +6,7 @@ ghost use Rattle.sdd_domain.specs.Tokens.{place_of, home_of, hand_of, cell_count
 ghost use Rattle.shared_containers.specs.Containers.{AreLinksOf, IsStackOf, IsAsBefore, IsReady, IsOpenIn};
 ghost use Rattle.shared_containers.specs.Outcomes.{IsNotCloned, IsRefused};
 
-use crate::links::Links;
-use crate::moves::{follow, place};
+use crate::moves::place;
 use crate::outcome::{NotCloned, PushRefused};
 use crate::stack::Stack;
 use sdd_domain::atomic_shared::AtomicShared;
@@ -15,17 +14,21 @@ use sdd_domain::domain::Domain;
 use sdd_domain::guard::Guard;
 use sdd_domain::holds::Holds;
 use sdd_domain::local::Local;
+use shared_lists::Links;
+use shared_lists::moves::follow;
 
-impl Stack {
+impl<T: Holds> Stack<T> {
     /// Puts clones of the items that `for_each` finds into another stack, in their order. Conditions: that one is empty, and
     /// nobody else has it.
-    pub(crate) fn copy_into<T: Holds + Clone>(
+    pub(crate) fn copy_into(
         &self,
         domain: &Domain<T>,
-        copy: &Stack,
-        links: &Links,
+        copy: &Stack<T>,
+        links: &Links<T>,
         local: &mut Local<T>,
     ) -> Result<(), NotCloned<T>>
+    where
+        T: Clone,
         requires ready { IsReady local.old domain.now }
         requires stack { IsStackOf self.now domain.now × IsStackOf copy.now domain.now × AreLinksOf links.now domain.now }
         requires holds { (x y : T) → T.is_clone x y → T.holds y ≡ [] }
@@ -41,14 +44,16 @@ impl Stack {
     }
 
     /// The same under a guard.
-    fn copy_under<T: Holds + Clone>(
+    fn copy_under(
         &self,
         domain: &Domain<T>,
-        copy: &Stack,
-        links: &Links,
+        copy: &Stack<T>,
+        links: &Links<T>,
         guard: &Guard,
         local: &mut Local<T>,
     ) -> Result<(), NotCloned<T>>
+    where
+        T: Clone,
         requires open { IsOpenIn guard.now local.old domain.now × (hand_of local.old ≡ []) }
         requires stack { IsStackOf self.now domain.now × IsStackOf copy.now domain.now × AreLinksOf links.now domain.now }
         requires holds { (x y : T) → T.is_clone x y → T.holds y ≡ [] }
@@ -78,11 +83,11 @@ impl Stack {
 /// nobody else has.
 fn put_last<'l, T: Holds>(
     domain: &Domain<T>,
-    end: &AtomicShared,
+    end: &AtomicShared<T>,
     value: T,
-    links: &'l Links,
+    links: &'l Links<T>,
     local: &mut Local<T>,
-) -> Result<&'l AtomicShared, PushRefused<T>>
+) -> Result<&'l AtomicShared<T>, PushRefused<T>>
     requires home { (home_of local.old ≡ place_of domain.now) × (hand_of local.old ≡ []) }
     requires inside { (cell_number end.now < cell_count domain.now) × AreLinksOf links.now domain.now }
     requires holds { T.holds value ≡ [] }
@@ -91,7 +96,7 @@ fn put_last<'l, T: Holds>(
     ensures same { IsAsBefore local.old local.new }
 {
     let owner = place(domain, value, local)?;
-    let Some(link) = links.row.at(owner.slot()) else {
+    let Some(link) = links.at(owner.slot()) else {
         return Err(PushRefused::Busy(owner));
     };
     // The link may still have the tag of the item that was in the slot before.

@@ -11,8 +11,6 @@ ghost use Rattle.shared_containers.specs.Containers.{AreLinksOf, IsStackOf, IsAs
 ghost use Rattle.shared_containers.specs.Outcomes.{IfItem, IsFrom, Said};
 ghost use Rattle.shared_containers.specs.Taken.{HasTakenOut, HasMarked, HasPopped, IsPlain};
 
-use crate::links::Links;
-use crate::moves::{TRIES, follow, let_go};
 use crate::outcome::Popped;
 use crate::stack::Stack;
 use sdd_base::tag::Tag;
@@ -23,13 +21,15 @@ use sdd_domain::holds::Holds;
 use sdd_domain::local::Local;
 use sdd_domain::pointer::Ptr;
 use sdd_domain::shared::Shared;
+use shared_lists::Links;
+use shared_lists::moves::{TRIES, follow, let_go};
 
-impl Stack {
+impl<T: Holds> Stack<T> {
     /// The first item that wasn't popped, or nothing. One that was popped it takes out first.
-    pub(crate) fn first_item<'g, T: Holds>(
+    pub(crate) fn first_item<'g>(
         &self,
         domain: &Domain<T>,
-        links: &Links,
+        links: &Links<T>,
         guard: &'g Guard,
         local: &mut Local<T>,
     ) -> Ptr<'g, T>
@@ -50,11 +50,11 @@ impl Stack {
     }
 
     /// One try to take the first item out where `f` answers true of it.
-    pub(crate) fn try_pop<T: Holds, F: Fn(&T) -> bool>(
+    pub(crate) fn try_pop<F: Fn(&T) -> bool>(
         &self,
         domain: &Domain<T>,
         f: &F,
-        links: &Links,
+        links: &Links<T>,
         local: &mut Local<T>,
     ) -> Popped<T>
         requires ready { IsReady local.old domain.now }
@@ -74,11 +74,11 @@ impl Stack {
     }
 
     /// The same under a guard.
-    fn pop_under<T: Holds, F: Fn(&T) -> bool>(
+    fn pop_under<F: Fn(&T) -> bool>(
         &self,
         domain: &Domain<T>,
         f: &F,
-        links: &Links,
+        links: &Links<T>,
         guard: &Guard,
         local: &mut Local<T>,
     ) -> Popped<T>
@@ -111,11 +111,11 @@ impl Stack {
     }
 
     /// Pops what was found in front, unless another one has, and gives an owner of it.
-    fn take<T: Holds>(
+    fn take(
         &self,
         domain: &Domain<T>,
         found: Ptr<T>,
-        link: &AtomicShared,
+        link: &AtomicShared<T>,
         guard: &Guard,
         local: &mut Local<T>,
     ) -> Option<Shared<T>>
@@ -135,11 +135,11 @@ impl Stack {
     }
 
     /// Gives an owner of what was found in front, which stays there, unless it was popped.
-    fn leave<T: Holds>(
+    fn leave(
         &self,
         domain: &Domain<T>,
         found: Ptr<T>,
-        link: &AtomicShared,
+        link: &AtomicShared<T>,
         guard: &Guard,
         local: &mut Local<T>,
     ) -> Option<Shared<T>>
@@ -156,11 +156,11 @@ impl Stack {
     }
 
     /// Takes out what was found in front, if that is still there, puts what follows it in its place, and gives its owner.
-    fn take_first<T: Holds>(
+    fn take_first(
         &self,
         domain: &Domain<T>,
         found: Ptr<T>,
-        link: &AtomicShared,
+        link: &AtomicShared<T>,
         guard: &Guard,
         local: &mut Local<T>,
     ) -> Option<Shared<T>>
@@ -199,11 +199,11 @@ impl Stack {
     }
 
     /// Pops the first item by the tag of its link, unless another one has, takes it out of the list, and gives an owner.
-    fn take_marked<T: Holds>(
+    fn take_marked(
         &self,
         domain: &Domain<T>,
         found: Ptr<T>,
-        link: &AtomicShared,
+        link: &AtomicShared<T>,
         guard: &Guard,
         local: &mut Local<T>,
     ) -> Option<Shared<T>>
@@ -235,11 +235,11 @@ impl Stack {
 
     /// Takes an item out of the list, if it was popped and is still in front: what follows it is the first one. Its link keeps
     /// the tag until its slot has another item, since somebody may still be about to append behind it. Whether it was popped.
-    fn take_out<T: Holds>(
+    fn take_out(
         &self,
         domain: &Domain<T>,
         found: Ptr<T>,
-        link: &AtomicShared,
+        link: &AtomicShared<T>,
         guard: &Guard,
         local: &mut Local<T>,
     ) -> bool

@@ -7,13 +7,13 @@ ghost use Rattle.shared_containers.specs.Containers.{AreLinksOf, IsBagOf, IsAsBe
 ghost use Rattle.shared_containers.specs.Taken.{HasPoppedOf};
 
 use crate::bag::Bag;
-use crate::links::Links;
 use sdd_domain::domain::Domain;
 use sdd_domain::guard::Guard;
 use sdd_domain::holds::Holds;
 use sdd_domain::local::Local;
 use sdd_domain::pointer::Ptr;
 use sdd_domain::shared::Shared;
+use shared_lists::Links;
 
 /// A walk along the items of a stack or a queue, from the first one on, under one guard. It borrows that guard alone: the
 /// place, its links and the participant are lent to each step, so pushes and pops may come in between.
@@ -40,7 +40,7 @@ impl<'g, T: Holds> Iter<'g, T> {
     pub fn next(
         &mut self,
         domain: &Domain<T>,
-        links: &Links,
+        links: &Links<T>,
         guard: &'g Guard,
         local: &mut Local<T>,
     ) -> Option<&'g T>
@@ -61,16 +61,16 @@ impl<'g, T: Holds> Iter<'g, T> {
 }
 
 /// A bag that nobody else has any more, whose items are popped one by one. It must be spent by `end`.
-pub struct IntoIter<const ARRAY_LEN: usize> {
-    pub(crate) bag: Bag<ARRAY_LEN>,
+pub struct IntoIter<T, const ARRAY_LEN: usize> {
+    pub(crate) bag: Bag<T, ARRAY_LEN>,
 }
 
-impl<const ARRAY_LEN: usize> IntoIter<ARRAY_LEN> {
+impl<T: Holds, const ARRAY_LEN: usize> IntoIter<T, ARRAY_LEN> {
     /// Pops an item, as the bag's `pop` does, and gives its owner, which must be released. None once the bag is empty.
-    pub fn next<T: Holds>(
+    pub fn next(
         &mut self,
         domain: &Domain<T>,
-        links: &Links,
+        links: &Links<T>,
         local: &mut Local<T>,
     ) -> Option<Shared<T>>
         requires ready { IsReady local.old domain.now }
@@ -84,7 +84,7 @@ impl<const ARRAY_LEN: usize> IntoIter<ARRAY_LEN> {
     }
 
     /// Releases what is left, and gives the bag's cells back.
-    pub fn end<T: Holds>(self, domain: &Domain<T>, links: &Links, local: &mut Local<T>)
+    pub fn end(self, domain: &Domain<T>, links: &Links<T>, local: &mut Local<T>)
         requires ready { IsReady local.old domain.now }
         requires bag { IsBagOf self.bag domain.now × AreLinksOf links.now domain.now }
         ensures same { IsAsBefore local.old local.new }

@@ -1,6 +1,6 @@
 //! Containers over a place that threads share: stacks, queues and bags without locks.
 //!
-//! [`Links`](links::Links) have a cell for each slot of a place, in which is what follows the item of that slot. A
+//! [`Links`] have a cell for each slot of a place, in which is what follows the item of that slot. A
 //! [`Stack`](stack::Stack) is one cell more, which owns the first item; a [`Queue`](queue::Queue) has two; a
 //! [`Bag`](bag::Bag) has a row of cells that own an item each, and a stack for what has no room there.
 #![tactic(auto)]
@@ -9,8 +9,9 @@ pub mod bag;
 mod copies;
 mod front;
 pub mod iter;
-pub mod links;
 mod moves;
 pub mod outcome;
 pub mod queue;
 pub mod stack;
+
+pub use shared_lists::Links;

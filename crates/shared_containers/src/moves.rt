@@ -2,7 +2,6 @@
 
 ghost use Rattle.std.specs.Prelude.{◌≡◌, ◌<◌, [], IfOk, IfErr, IfSome};
 ghost use Rattle.sdd_domain.specs.Cells.{cell_number};
-ghost use Rattle.sdd_domain.specs.CellSteps.{HasMadeSome, StepsOnNoCell};
 ghost use Rattle.sdd_domain.specs.Sharing.{kept_in, IsOwnerOf};
 ghost use Rattle.sdd_domain.specs.Tokens.{place_of, home_of, hand_of, cell_count};
 ghost use Rattle.shared_containers.specs.Containers.{IsAsBefore, IsOpenIn, IsStill};
@@ -17,43 +16,12 @@ use sdd_domain::holds::Holds;
 use sdd_domain::local::Local;
 use sdd_domain::pointer::Ptr;
 use sdd_domain::shared::Shared;
-
-/// How often a call tries again: each time others were faster.
-pub(crate) const TRIES: u64 = u64::MAX;
-
-/// Releases an owner that there may be.
-pub(crate) fn let_go<T: Holds>(domain: &Domain<T>, owner: Option<Shared<T>>, local: &mut Local<T>)
-    requires home { home_of local.old ≡ place_of domain.now }
-    requires mine { IfSome owner (λ s. kept_in s ≡ (place_of domain.now).0) }
-    ensures same { IsStill local.old local.new }
-    ensures cells { StepsOnNoCell local.old local.new }
-{
-    if let Some(owner) = owner {
-        owner.release(domain, local);
-    }
-}
-
-/// Has a link own what follows its item, or nothing; or a new stack its first item.
-pub(crate) fn follow<T: Holds>(
-    domain: &Domain<T>,
-    link: &AtomicShared,
-    next: Option<Shared<T>>,
-    local: &mut Local<T>,
-)
-    requires home { home_of local.old ≡ place_of domain.now }
-    requires inside { cell_number link.now < cell_count domain.now }
-    requires mine { IfSome next (λ s. kept_in s ≡ (place_of domain.now).0) }
-    ensures same { IsStill local.old local.new }
-    ensures some { HasMadeSome local.old local.new }
-{
-    let (old, _) = link.swap(domain, (next, Tag::None), local);
-    let_go(domain, old, local);
-}
+use shared_lists::moves::let_go;
 
 /// Has a cell own an item in the place of what was found in it, in one step. Else the item's owner is back.
 pub(crate) fn exchange<T: Holds>(
     domain: &Domain<T>,
-    cell: &AtomicShared,
+    cell: &AtomicShared<T>,
     found: Ptr<T>,
     owner: Shared<T>,
     guard: &Guard,

@@ -9,18 +9,7 @@ use sdd_domain::domain::Domain;
 use sdd_domain::holds::Holds;
 use sdd_domain::local::Local;
 use sdd_domain::shared::Shared;
-use thiserror::Error;
-
-/// Why there are no links, or no bag.
-#[derive(Clone, Copy, PartialEq, Eq, Debug, Error)]
-pub enum NotMade {
-    /// There is no room for the names of their cells.
-    #[error("memory was refused; the place has its cells")]
-    Memory,
-    /// Too few cells are free.
-    #[error("too few cells are free; the place has its cells")]
-    NoCell,
-}
+pub use shared_lists::NotMade;
 
 /// Why a value wasn't taken in, with the value, or with an owner of it where it had been placed already.
 pub enum PushRefused<T> {

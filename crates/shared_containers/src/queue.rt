@@ -12,8 +12,7 @@ ghost use Rattle.shared_containers.specs.Walks.{left_of};
 ghost use Rattle.std.specs.Iterator.{IsFiniteIterable};
 
 use crate::iter::Iter;
-use crate::links::Links;
-use crate::moves::{TRIES, exchange, follow, place};
+use crate::moves::{exchange, place};
 use crate::outcome::{CloneRefused, FromIterRefused, NotMade, PushRefused, Pushed};
 use crate::stack::Stack;
 use sdd_base::tag::Tag;
@@ -24,19 +23,21 @@ use sdd_domain::holds::Holds;
 use sdd_domain::local::Local;
 use sdd_domain::pointer::Ptr;
 use sdd_domain::shared::Shared;
+use shared_lists::Links;
+use shared_lists::moves::{TRIES, follow};
 
 /// A queue of items of a place, which threads push and pop by `&`. It must be spent by `end`.
 /// The tag of an item's link tells whether the item was popped. Whoever sets it pops the item, so each is popped at most
 /// once; and behind an item that was popped nobody appends, since that would exchange a link without a tag.
-pub struct Queue {
-    front: Stack,
+pub struct Queue<T> {
+    front: Stack<T>,
     /// An item near the end, where appending begins; it may have been popped.
-    last: AtomicShared,
+    last: AtomicShared<T>,
 }
 
-impl Queue {
+impl<T: Holds> Queue<T> {
     /// An empty queue, or none where fewer than two cells are free, which is a miss of the participant.
-    pub fn new<T: Holds>(domain: &Domain<T>, local: &mut Local<T>) -> Option<Queue>
+    pub fn new(domain: &Domain<T>, local: &mut Local<T>) -> Option<Queue<T>>
         requires home { home_of local.old ≡ place_of domain.now }
         ensures queue { IfSome result (λ q. IsQueueOf q domain.now) }
         ensures same { IsAsBefore local.old local.new }
@@ -58,12 +59,12 @@ impl Queue {
     /// A queue of the values, the first one in front. Where fewer than two cells are free for it they are back, a miss. The first
     /// value that is refused, as `push` refuses it, is back with the queue of those before it, and what is left of the values
     /// is let go. Conditions: the values end, they hold no owners, and none is in the participant's hand.
-    pub fn from_iter<T: Holds, I: IntoIterator<Item = T>>(
+    pub fn from_iter<I: IntoIterator<Item = T>>(
         domain: &Domain<T>,
         values: I,
-        links: &Links,
+        links: &Links<T>,
         local: &mut Local<T>,
-    ) -> Result<Queue, FromIterRefused<Queue, T, I>>
+    ) -> Result<Queue<T>, FromIterRefused<Queue<T>, T, I>>
         requires ready { IsReady local.old domain.now }
         requires links { AreLinksOf links.now domain.now }
         requires ends { IsFiniteIterable I.into_iter_gives I.IntoIter.can_next I.IntoIter.remaining values }
@@ -90,12 +91,14 @@ impl Queue {
     /// cells are free for it there is none, a miss. Where a clone is refused memory, or has no room, the queue of those before
     /// it is back. The next push on it goes along all of its items. Conditions: clones hold no owners, and none is in the
     /// participant's hand.
-    pub fn clone<T: Holds + Clone>(
+    pub fn clone(
         &self,
         domain: &Domain<T>,
-        links: &Links,
+        links: &Links<T>,
         local: &mut Local<T>,
-    ) -> Result<Queue, CloneRefused<Queue, T>>
+    ) -> Result<Queue<T>, CloneRefused<Queue<T>, T>>
+    where
+        T: Clone,
         requires ready { IsReady local.old domain.now }
         requires queue { IsQueueOf self.now domain.now × AreLinksOf links.now domain.now }
         requires holds { (x y : T) → T.is_clone x y → T.holds y ≡ [] }
@@ -115,7 +118,7 @@ impl Queue {
     }
 
     /// Whether it has no item, as it is found in one step. One that was popped may still be found.
-    pub fn is_empty<T: Holds>(&self, domain: &Domain<T>, local: &mut Local<T>) -> bool
+    pub fn is_empty(&self, domain: &Domain<T>, local: &mut Local<T>) -> bool
         requires home { home_of local.old ≡ place_of domain.now }
         requires queue { IsQueueOf self.now domain.now }
         ensures looked { (t : ℕ) × (k : ℕ) × HasReadCell local.old (cell_number self.now.front.first) t k local.new × (IsTrue result ↔ (k ≡ 0)) }
@@ -125,10 +128,10 @@ impl Queue {
     }
 
     /// The first item, or nothing. One that was popped it takes out first, and tries again.
-    pub fn peek<'g, T: Holds>(
+    pub fn peek<'g>(
         &self,
         domain: &Domain<T>,
-        links: &Links,
+        links: &Links<T>,
         guard: &'g Guard,
         local: &mut Local<T>,
     ) -> Ptr<'g, T>
@@ -140,11 +143,11 @@ impl Queue {
     }
 
     /// Calls `f` once with the first item, or none, and gives what it answers. A guard is open meanwhile.
-    pub fn peek_with<T: Holds, R, F: FnOnce(Option<&T>) -> R>(
+    pub fn peek_with<R, F: FnOnce(Option<&T>) -> R>(
         &self,
         domain: &Domain<T>,
         f: F,
-        links: &Links,
+        links: &Links<T>,
         local: &mut Local<T>,
     ) -> R
         requires ready { IsReady local.old domain.now }
@@ -157,10 +160,10 @@ impl Queue {
     }
 
     /// A walk along its items, from the first one on, under a guard. It ends where the item that it is at is taken out.
-    pub fn iter<'g, T: Holds>(
+    pub fn iter<'g>(
         &self,
         domain: &Domain<T>,
-        links: &Links,
+        links: &Links<T>,
         guard: &'g Guard,
         local: &mut Local<T>,
     ) -> Iter<'g, T>
@@ -173,11 +176,11 @@ impl Queue {
     }
 
     /// Calls `f` with each item of such a walk, under a guard of its own.
-    pub fn for_each<T: Holds, F: FnMut(&T)>(
+    pub fn for_each<F: FnMut(&T)>(
         &self,
         domain: &Domain<T>,
         f: F,
-        links: &Links,
+        links: &Links<T>,
         local: &mut Local<T>,
     )
         requires ready { IsReady local.old domain.now }
@@ -189,7 +192,7 @@ impl Queue {
     }
 
     /// How many items `for_each` finds.
-    pub fn len<T: Holds>(&self, domain: &Domain<T>, links: &Links, local: &mut Local<T>) -> usize
+    pub fn len(&self, domain: &Domain<T>, links: &Links<T>, local: &mut Local<T>) -> usize
         requires ready { IsReady local.old domain.now }
         requires queue { IsQueueOf self.now domain.now × AreLinksOf links.now domain.now }
         ensures same { IsAsBefore local.old local.new }
@@ -199,11 +202,11 @@ impl Queue {
 
     /// Puts a value behind all others. Where no slot is free it is back, a miss. It tries again where others push or pop; after
     /// `2^64` times the value's owner is back. Conditions: the value holds no owners, and none is in the participant's hand.
-    pub fn push<T: Holds>(
+    pub fn push(
         &self,
         domain: &Domain<T>,
         value: T,
-        links: &Links,
+        links: &Links<T>,
         local: &mut Local<T>,
     ) -> Result<(), PushRefused<T>>
         requires ready { IsReady local.old domain.now }
@@ -218,12 +221,12 @@ impl Queue {
 
     /// The same where `f` answers true of the last item, or of none: it is asked each time that the value might be appended, and
     /// the value stands behind just the item that it was asked of last. Where it answers false the value's owner is back.
-    pub fn push_if<T: Holds, F: Fn(Option<&T>) -> bool>(
+    pub fn push_if<F: Fn(Option<&T>) -> bool>(
         &self,
         domain: &Domain<T>,
         value: T,
         f: F,
-        links: &Links,
+        links: &Links<T>,
         local: &mut Local<T>,
     ) -> Result<(), PushRefused<T>>
     where
@@ -241,12 +244,12 @@ impl Queue {
     }
 
     /// Appends an owner's item where `f` answers true.
-    fn insert<T: Holds, F: Fn(Option<&T>) -> bool>(
+    fn insert<F: Fn(Option<&T>) -> bool>(
         &self,
         domain: &Domain<T>,
         owner: Shared<T>,
         f: &F,
-        links: &Links,
+        links: &Links<T>,
         local: &mut Local<T>,
     ) -> Result<(), PushRefused<T>>
         requires ready { IsReady local.old domain.now }
@@ -259,7 +262,7 @@ impl Queue {
     {
         let mut owner = owner;
         // The link still has the tag that the slot's item before it was popped by.
-        if let Some(link) = links.row.at(owner.slot()) {
+        if let Some(link) = links.at(owner.slot()) {
             follow(domain, link, None, local);
         }
         for _i in 0..TRIES {
@@ -273,12 +276,12 @@ impl Queue {
     }
 
     /// One try.
-    fn try_push<T: Holds, F: Fn(Option<&T>) -> bool>(
+    fn try_push<F: Fn(Option<&T>) -> bool>(
         &self,
         domain: &Domain<T>,
         owner: Shared<T>,
         f: &F,
-        links: &Links,
+        links: &Links<T>,
         local: &mut Local<T>,
     ) -> Pushed<T>
         requires ready { IsReady local.old domain.now }
@@ -297,12 +300,12 @@ impl Queue {
     }
 
     /// The same under a guard: behind the item near the end, and else behind the first one, or in front.
-    fn push_under<T: Holds, F: Fn(Option<&T>) -> bool>(
+    fn push_under<F: Fn(Option<&T>) -> bool>(
         &self,
         domain: &Domain<T>,
         owner: Shared<T>,
         f: &F,
-        links: &Links,
+        links: &Links<T>,
         guard: &Guard,
         local: &mut Local<T>,
     ) -> Pushed<T>
@@ -329,10 +332,10 @@ impl Queue {
     }
 
     /// Puts an item behind another one, whose link this is, or in front, if nothing was there yet, and notes it as near the end.
-    fn append<T: Holds, F: Fn(Option<&T>) -> bool>(
+    fn append<F: Fn(Option<&T>) -> bool>(
         &self,
         domain: &Domain<T>,
-        cell: &AtomicShared,
+        cell: &AtomicShared<T>,
         behind: Ptr<T>,
         owner: Shared<T>,
         f: &F,
@@ -361,10 +364,10 @@ impl Queue {
 
     /// Takes the first item out, and gives an owner of it. None where it is empty, and after `2^64` tries, at each
     /// of which others were faster. Condition: no owner is in the participant's hand.
-    pub fn pop<T: Holds>(
+    pub fn pop(
         &self,
         domain: &Domain<T>,
-        links: &Links,
+        links: &Links<T>,
         local: &mut Local<T>,
     ) -> Option<Shared<T>>
         requires ready { IsReady local.old domain.now }
@@ -379,11 +382,11 @@ impl Queue {
     /// The same where `f` answers true of the first item: it is asked once each time that the pop is tried, and what is popped
     /// is just the item that it was asked of last. Where it answers false, another owner of that item is given, and the item
     /// stays where it is. Where another one pops the item meanwhile it is tried again, whatever `f` answered.
-    pub fn pop_if<T: Holds, F: Fn(&T) -> bool>(
+    pub fn pop_if<F: Fn(&T) -> bool>(
         &self,
         domain: &Domain<T>,
         f: F,
-        links: &Links,
+        links: &Links<T>,
         local: &mut Local<T>,
     ) -> Result<Option<Shared<T>>, Shared<T>>
     where
@@ -400,7 +403,7 @@ impl Queue {
     }
 
     /// Releases its items, and gives its cells back.
-    pub fn end<T: Holds>(self, domain: &Domain<T>, links: &Links, local: &mut Local<T>)
+    pub fn end(self, domain: &Domain<T>, links: &Links<T>, local: &mut Local<T>)
         requires ready { IsReady local.old domain.now }
         requires queue { IsQueueOf self domain.now × AreLinksOf links.now domain.now }
         ensures same { IsAsBefore local.old local.new }
@@ -415,7 +418,7 @@ impl Queue {
 fn end_of<'g, T: Holds>(
     domain: &Domain<T>,
     from: Ptr<'g, T>,
-    links: &Links,
+    links: &Links<T>,
     guard: &'g Guard,
     local: &mut Local<T>,
 ) -> Ptr<'g, T>

@@ -15,8 +15,7 @@ ghost use Rattle.shared_containers.specs.Walks.{left_of};
 ghost use Rattle.std.specs.Iterator.{IsFiniteIterable};
 
 use crate::iter::Iter;
-use crate::links::Links;
-use crate::moves::{TRIES, exchange, follow, place};
+use crate::moves::{exchange, place};
 use crate::outcome::{CloneRefused, FromIterRefused, NotMade, Popped, PushRefused, Pushed};
 use sdd_base::tag::Tag;
 use sdd_domain::atomic_shared::AtomicShared;
@@ -26,18 +25,20 @@ use sdd_domain::holds::Holds;
 use sdd_domain::local::Local;
 use sdd_domain::pointer::Ptr;
 use sdd_domain::shared::Shared;
+use shared_lists::Links;
+use shared_lists::moves::{TRIES, follow};
 
 /// A stack of items of a place, which threads push and pop by `&`. It must be spent by `end`.
 /// Each item is popped at most once: what a `pop` answers is the owner that the stack had.
-pub struct Stack {
-    pub(crate) first: AtomicShared,
+pub struct Stack<T> {
+    pub(crate) first: AtomicShared<T>,
     /// Whether it is the front of a queue, where an item is popped by the tag of its link. In a stack no link has one.
     pub(crate) is_front: bool,
 }
 
-impl Stack {
+impl<T: Holds> Stack<T> {
     /// An empty stack, or none where no cell is free, which is a miss of the participant.
-    pub fn new<T: Holds>(domain: &Domain<T>, local: &mut Local<T>) -> Option<Stack>
+    pub fn new(domain: &Domain<T>, local: &mut Local<T>) -> Option<Stack<T>>
         ensures stack { IfSome result (λ s. IsStackOf s domain.now) }
         ensures same { IsAsBefore local.old local.new }
         ensures plain { IfSome result (λ s. IsPlain s) }
@@ -54,12 +55,12 @@ impl Stack {
     /// A stack of the values, the last one in front. Where no cell is free for it they are back, a miss. The first value that is
     /// refused, as `push` refuses it, is back with the stack of those before it, and what is left of the values is let go.
     /// Conditions: the values end, they hold no owners, and none is in the participant's hand.
-    pub fn from_iter<T: Holds, I: IntoIterator<Item = T>>(
+    pub fn from_iter<I: IntoIterator<Item = T>>(
         domain: &Domain<T>,
         values: I,
-        links: &Links,
+        links: &Links<T>,
         local: &mut Local<T>,
-    ) -> Result<Stack, FromIterRefused<Stack, T, I>>
+    ) -> Result<Stack<T>, FromIterRefused<Stack<T>, T, I>>
         requires ready { IsReady local.old domain.now }
         requires links { AreLinksOf links.now domain.now }
         requires ends { IsFiniteIterable I.into_iter_gives I.IntoIter.can_next I.IntoIter.remaining values }
@@ -86,12 +87,14 @@ impl Stack {
     /// A stack of clones of the items that `for_each` finds, in their order, each in a slot of its own. Where no cell is free for
     /// it there is none, a miss. Where a clone is refused memory, or has no room, the stack of those before it is back.
     /// Conditions: clones hold no owners, and none is in the participant's hand.
-    pub fn clone<T: Holds + Clone>(
+    pub fn clone(
         &self,
         domain: &Domain<T>,
-        links: &Links,
+        links: &Links<T>,
         local: &mut Local<T>,
-    ) -> Result<Stack, CloneRefused<Stack, T>>
+    ) -> Result<Stack<T>, CloneRefused<Stack<T>, T>>
+    where
+        T: Clone,
         requires ready { IsReady local.old domain.now }
         requires stack { IsStackOf self.now domain.now × AreLinksOf links.now domain.now }
         requires holds { (x y : T) → T.is_clone x y → T.holds y ≡ [] }
@@ -112,7 +115,7 @@ impl Stack {
     }
 
     /// Whether it has no item, as it is found in one step.
-    pub fn is_empty<T: Holds>(&self, domain: &Domain<T>, local: &mut Local<T>) -> bool
+    pub fn is_empty(&self, domain: &Domain<T>, local: &mut Local<T>) -> bool
         requires home { home_of local.old ≡ place_of domain.now }
         requires stack { IsStackOf self.now domain.now }
         ensures looked { (t : ℕ) × (k : ℕ) × HasReadCell local.old (cell_number self.now.first) t k local.new × (IsTrue result ↔ (k ≡ 0)) }
@@ -122,12 +125,7 @@ impl Stack {
     }
 
     /// The first item, or nothing, as it is found in one step.
-    pub fn peek<'g, T: Holds>(
-        &self,
-        domain: &Domain<T>,
-        guard: &'g Guard,
-        local: &mut Local<T>,
-    ) -> Ptr<'g, T>
+    pub fn peek<'g>(&self, domain: &Domain<T>, guard: &'g Guard, local: &mut Local<T>) -> Ptr<'g, T>
         requires open { IsOpenIn guard.now local.old domain.now }
         requires stack { IsStackOf self.now domain.now }
         ensures looked { HasReadCell local.old (cell_number self.now.first) (tag_number (ptr_tag result)) (code_of (ptr_slot result)) local.new }
@@ -137,11 +135,11 @@ impl Stack {
     }
 
     /// Calls `f` once with the first item, or none, and gives what it answers. A guard is open meanwhile.
-    pub fn peek_with<T: Holds, R, F: FnOnce(Option<&T>) -> R>(
+    pub fn peek_with<R, F: FnOnce(Option<&T>) -> R>(
         &self,
         domain: &Domain<T>,
         f: F,
-        links: &Links,
+        links: &Links<T>,
         local: &mut Local<T>,
     ) -> R
         requires ready { IsReady local.old domain.now }
@@ -159,10 +157,10 @@ impl Stack {
     }
 
     /// A walk along its items, from the first one on, under a guard. It ends where the item that it is at is popped.
-    pub fn iter<'g, T: Holds>(
+    pub fn iter<'g>(
         &self,
         domain: &Domain<T>,
-        links: &Links,
+        links: &Links<T>,
         guard: &'g Guard,
         local: &mut Local<T>,
     ) -> Iter<'g, T>
@@ -178,11 +176,11 @@ impl Stack {
     }
 
     /// Calls `f` with each item of such a walk, under a guard of its own.
-    pub fn for_each<T: Holds, F: FnMut(&T)>(
+    pub fn for_each<F: FnMut(&T)>(
         &self,
         domain: &Domain<T>,
         mut f: F,
-        links: &Links,
+        links: &Links<T>,
         local: &mut Local<T>,
     )
         requires ready { IsReady local.old domain.now }
@@ -201,7 +199,7 @@ impl Stack {
     }
 
     /// How many items `for_each` finds.
-    pub fn len<T: Holds>(&self, domain: &Domain<T>, links: &Links, local: &mut Local<T>) -> usize
+    pub fn len(&self, domain: &Domain<T>, links: &Links<T>, local: &mut Local<T>) -> usize
         requires ready { IsReady local.old domain.now }
         requires stack { IsStackOf self.now domain.now × AreLinksOf links.now domain.now }
         ensures same { IsAsBefore local.old local.new }
@@ -213,11 +211,11 @@ impl Stack {
 
     /// Puts a value in front. Where no slot is free it is back, a miss. It tries again where others push or pop; after `2^64`
     /// times the value's owner is back. Conditions: the value holds no owners, and none is in the participant's hand.
-    pub fn push<T: Holds>(
+    pub fn push(
         &self,
         domain: &Domain<T>,
         value: T,
-        links: &Links,
+        links: &Links<T>,
         local: &mut Local<T>,
     ) -> Result<(), PushRefused<T>>
         requires ready { IsReady local.old domain.now }
@@ -232,12 +230,12 @@ impl Stack {
 
     /// The same where `f` answers true of the first item, or of none: it is asked once each time that the push is tried, and
     /// the value is put before just the item that it was asked of last. Where it answers false the value's owner is back.
-    pub fn push_if<T: Holds, F: Fn(Option<&T>) -> bool>(
+    pub fn push_if<F: Fn(Option<&T>) -> bool>(
         &self,
         domain: &Domain<T>,
         value: T,
         f: F,
-        links: &Links,
+        links: &Links<T>,
         local: &mut Local<T>,
     ) -> Result<(), PushRefused<T>>
     where
@@ -255,12 +253,12 @@ impl Stack {
     }
 
     /// Puts an owner's item in front where `f` answers true.
-    pub(crate) fn insert<T: Holds, F: Fn(Option<&T>) -> bool>(
+    pub(crate) fn insert<F: Fn(Option<&T>) -> bool>(
         &self,
         domain: &Domain<T>,
         owner: Shared<T>,
         f: &F,
-        links: &Links,
+        links: &Links<T>,
         local: &mut Local<T>,
     ) -> Result<(), PushRefused<T>>
         requires ready { IsReady local.old domain.now }
@@ -283,12 +281,12 @@ impl Stack {
     }
 
     /// One try.
-    fn try_push<T: Holds, F: Fn(Option<&T>) -> bool>(
+    fn try_push<F: Fn(Option<&T>) -> bool>(
         &self,
         domain: &Domain<T>,
         owner: Shared<T>,
         f: &F,
-        links: &Links,
+        links: &Links<T>,
         local: &mut Local<T>,
     ) -> Pushed<T>
         requires ready { IsReady local.old domain.now }
@@ -298,7 +296,7 @@ impl Stack {
         ensures pushed { IsPushed result owner (place_of domain.now).0 (Said (F.post f.now)) }
         ensures same { IsAsBefore local.old local.new }
     {
-        let Some(link) = links.row.at(owner.slot()) else {
+        let Some(link) = links.at(owner.slot()) else {
             return Pushed::Slow(owner);
         };
         let Ok(guard) = Guard::new(domain, local) else {
@@ -316,10 +314,10 @@ impl Stack {
 
     /// Takes the first item out, in one step, and gives its owner. None where it is empty, and after `2^64` tries, at each
     /// of which others were faster. Condition: no owner is in the participant's hand.
-    pub fn pop<T: Holds>(
+    pub fn pop(
         &self,
         domain: &Domain<T>,
-        links: &Links,
+        links: &Links<T>,
         local: &mut Local<T>,
     ) -> Option<Shared<T>>
         requires ready { IsReady local.old domain.now }
@@ -337,11 +335,11 @@ impl Stack {
 
     /// The same where `f` answers true of the first item: it is asked once each time that the pop is tried, and what is popped
     /// is just the item that it was asked of last. Where it answers false, another owner of that item is given, which stays.
-    pub fn pop_if<T: Holds, F: Fn(&T) -> bool>(
+    pub fn pop_if<F: Fn(&T) -> bool>(
         &self,
         domain: &Domain<T>,
         f: F,
-        links: &Links,
+        links: &Links<T>,
         local: &mut Local<T>,
     ) -> Result<Option<Shared<T>>, Shared<T>>
     where
@@ -368,7 +366,7 @@ impl Stack {
 
     /// Takes all items out, in one step, and gives them as a stack of their own. None where no cell is free for that, which
     /// is a miss: then they stay.
-    pub fn pop_all<T: Holds>(&self, domain: &Domain<T>, local: &mut Local<T>) -> Option<Stack>
+    pub fn pop_all(&self, domain: &Domain<T>, local: &mut Local<T>) -> Option<Stack<T>>
         requires home { home_of local.old ≡ place_of domain.now }
         requires stack { IsStackOf self.now domain.now }
         ensures stack { IfSome result (λ s. IsStackOf s domain.now) }
@@ -382,7 +380,7 @@ impl Stack {
     }
 
     /// Releases its items, and gives its cell back.
-    pub fn end<T: Holds>(self, domain: &Domain<T>, links: &Links, local: &mut Local<T>)
+    pub fn end(self, domain: &Domain<T>, links: &Links<T>, local: &mut Local<T>)
         requires ready { IsReady local.old domain.now }
         requires stack { IsStackOf self domain.now × AreLinksOf links.now domain.now }
         ensures same { IsAsBefore local.old local.new }
@@ -404,10 +402,10 @@ impl Stack {
 /// had of it is released. Where others were faster the item's owner is back.
 fn put_before<T: Holds>(
     domain: &Domain<T>,
-    cell: &AtomicShared,
+    cell: &AtomicShared<T>,
     first: Ptr<T>,
     owner: Shared<T>,
-    link: &AtomicShared,
+    link: &AtomicShared<T>,
     guard: &Guard,
     local: &mut Local<T>,
 ) -> Pushed<T>

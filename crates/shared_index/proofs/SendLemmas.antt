@@ -48,5 +48,5 @@ module _ (L K V S : RattleType) (n : Naming.Ghosts L.Denot) (l : Ledger.Ghosts L
       let some = node_send K V ko kp kq ks kt vs vt in
       let all = node_sync K V ko kp kq kt vt in
       let book = book_send ks kt vs vt in
-      let within : IsSync (index_inside.the_row d L K V S n l kc ko ke kp kq vc vp) = declared_sync (index_inside.the_type d L K V S n l kc ko ke kp kq vc vp) (place_sync (node.the_row K V ko kp kq) (holding.ghosts K V ko holding.no_dict ke holding.no_dict kp holding.no_dict kq holding.no_dict holding.no_dict holding.no_dict) d some all, (search (cells.the_sync, sendable) depth 10, (search (book, crosses, sendable) depth 10, (search sendable depth 10, (sync, tt))))) in
+      let within : IsSync (index_inside.the_row d L K V S n l kc ko ke kp kq vc vp) = declared_sync (index_inside.the_type d L K V S n l kc ko ke kp kq vc vp) (place_sync (node.the_row K V ko kp kq) (holding.ghosts K V ko holding.no_dict ke holding.no_dict kp holding.no_dict kq holding.no_dict holding.no_dict holding.no_dict) d some all, (search (cells.the_sync, all, sendable) depth 10, (search (book, crosses, sendable) depth 10, (search sendable depth 10, (sync, tt))))) in
       view_sync (index_inside.the_row d L K V S n l kc ko ke kp kq vc vp) _ _ _ _ within

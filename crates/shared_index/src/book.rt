@@ -78,7 +78,10 @@ impl<L: Naming, K: Clone + Ord, V: Clone + Eq, const S: usize> Book<L, K, V, S> 
         blank: Blank,
         shares: usize,
         last: u64,
-    ) -> Result<(Self, AtomicShared, Vec<Share<L>>), (Local<Node<K, V>>, Blank, NewRefused)>
+    ) -> Result<
+        (Self, AtomicShared<Node<K, V>>, Vec<Share<L>>),
+        (Local<Node<K, V>>, Blank, NewRefused),
+    >
         requires place { place_of domain.now ≡ L.place }
         requires rest { IsUnengaged L.place local }
         requires size { (1 ≤ S) × (S ≤ 225) }
@@ -149,7 +152,7 @@ impl<L: Naming, K: Clone + Ord, V: Clone + Eq, const S: usize> Book<L, K, V, S> 
     pub fn commit(
         &mut self,
         domain: &Domain<Node<K, V>>,
-        root: &AtomicShared,
+        root: &AtomicShared<Node<K, V>>,
         share: &mut Share<L>,
         receipt: &Receipt<K, V>,
         writes: Vec<Write<K, V>>,
@@ -275,7 +278,7 @@ impl<L: Naming, K: Clone + Ord, V: Clone + Eq, const S: usize> Book<L, K, V, S> 
     fn add(
         &mut self,
         domain: &Domain<Node<K, V>>,
-        root: &AtomicShared,
+        root: &AtomicShared<Node<K, V>>,
         share: &mut Share<L>,
         prepared: Prepared<K, V>,
         writes: Vec<Write<K, V>>,

@@ -22,7 +22,7 @@ use version_views::{Reply, Write, WriteRefused};
 pub(crate) fn install<K: Clone + Ord, V: Clone, const S: usize>(
     alloc: Global,
     domain: &Domain<Node<K, V>>,
-    root: &AtomicShared,
+    root: &AtomicShared<Node<K, V>>,
     local: &mut Local<Node<K, V>>,
     present: &mut Present<K, V, S>,
     writes: &[Write<K, V>],
@@ -63,7 +63,7 @@ pub(crate) fn begin<K: Clone + Ord, V: Clone, const S: usize>(
     alloc: Global,
     domain: &Domain<Node<K, V>>,
     local: &mut Local<Node<K, V>>,
-) -> Result<(Present<K, V, S>, AtomicShared), NoSlot>
+) -> Result<(Present<K, V, S>, AtomicShared<Node<K, V>>), NoSlot>
     requires home { home_of local.old ≡ place_of domain.now }
     requires hand { hand_of local.old ≡ [] }
     ensures place { IfOk result (λ made. made.0.place ≡ (place_of domain.now).0) }

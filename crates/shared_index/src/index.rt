@@ -31,7 +31,7 @@ use version_views::Write;
 /// [`close`](SharedIndex::close).
 pub struct SharedIndex<'d, L: Naming, K: Clone + Ord, V: Clone + Eq, const S: usize> {
     domain: &'d Domain<Node<K, V>>,
-    root: AtomicShared,
+    root: AtomicShared<Node<K, V>>,
     book: Mutex<Book<L, K, V, S>>,
     // how many there are
     shares: usize,
@@ -118,7 +118,7 @@ impl<'d, L: Naming, K: Clone + Ord, V: Clone + Eq, const S: usize> SharedIndex<'
     }
 
     /// The cell that names the present version, to open sessions on: only commits have it name another one.
-    pub fn root(&self) -> Root<'_>
+    pub fn root(&self) -> Root<'_, Node<K, V>>
         ensures inside { root_number result < L.place.1.cells }
     {
         Root::new(&self.root)

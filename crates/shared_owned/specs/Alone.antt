@@ -54,11 +54,11 @@ abbrev pub pointer_item : {T : Type 0} → OwnedPtr T → Option T
 pointer_item r = ptr_item r.of
 
 -- the number of a cell, among the cells of its place
-abbrev pub cell_of : AtomicOwned → ℕ
+abbrev pub cell_of : {T : Type 0} → AtomicOwned T → ℕ
 cell_of c = cell_number c.cell
 
 -- it is a cell of a place with as many cells as this one
-abbrev pub IsCellOf : {T : Type 0} → AtomicOwned → Domain T → Type 0
+abbrev pub IsCellOf : {T : Type 0} → AtomicOwned T → Domain T → Type 0
 IsCellOf c d = cell_number c.cell < cell_count d
 
 -- the same participant of the same place, with the same guards open and the same owners in hand; its misses may differ

@@ -1,6 +1,6 @@
 //! Cells of owners that are alone.
 
-ghost use Rattle.std.specs.Prelude.{◌≡◌, ◌<◌, ◌+◌, ◌||◌, ◌⊎◌, ◌↔◌, ℕ, Bool, true, [], Some, IsTrue, IsFalse, IfSome, IfNone, IfOk, IfErr, OnOk, OnErr};
+ghost use Rattle.std.specs.Prelude.{◌≡◌, ◌<◌, ◌+◌, ◌||◌, ◌⊎◌, ◌↔◌, ◌^◌, ℕ, Bool, true, false, [], Some, IsTrue, IsFalse, IfSome, IfNone, IfOk, IfErr, OnOk, OnErr};
 ghost use Rattle.shared_owned.specs.Alone.{owner_in};
 
 use crate::owned::Owned;
@@ -15,9 +15,10 @@ use sdd_domain::local::Local;
 use sdd_domain::pointer::{Named, Ptr};
 use sdd_domain::shared::Shared;
 
-/// A cell of a place: it has the one owner of an item, or nothing, and a tag of two bits.
-pub struct AtomicOwned {
-    pub(crate) cell: AtomicShared,
+/// A cell of a place: it has the one owner of an item, or nothing, and a tag of two bits. Its type tells which items its place
+/// has.
+pub struct AtomicOwned<T> {
+    pub(crate) cell: AtomicShared<T>,
 }
 
 /// An owner that is alone as one of any.
@@ -40,9 +41,9 @@ fn alone<T>(owner: Option<Shared<T>>) -> Option<Owned<T>>
     }
 }
 
-impl AtomicOwned {
+impl<T: Holds> AtomicOwned<T> {
     ghost use Rattle.sdd_base.specs.Epochs.{tag_number};
-    ghost use Rattle.sdd_domain.specs.CellSteps.{StepsOnNoCell, HasReadCell, HasExchanged, HasOnlyRead, HasRetagged};
+    ghost use Rattle.sdd_domain.specs.CellSteps.{StepsOnNoCell, HasReadCell, HasExchanged, HasFoundLast, HasReadOften, HasRetagged};
     ghost use Rattle.sdd_domain.specs.Comparing.{code_of};
     ghost use Rattle.sdd_domain.specs.Pointers.{named_slot, named_tag};
     ghost use Rattle.sdd_domain.specs.Tokens.{place_of, home_of, number_of, own_of, hand_of, born_of, waiting_of, misses_of, nest_of, nest_in, IsInNest, IsInNestButMisses};
@@ -51,7 +52,7 @@ impl AtomicOwned {
 
     /// Claims a free cell of the place, trying each once: it owns nothing and has no tag. `NoSlot` if all are taken, which is
     /// a miss of the participant. The cell must be consumed by `into_owned` or `retire`.
-    pub fn null<T: Holds>(domain: &Domain<T>, local: &mut Local<T>) -> Result<AtomicOwned, NoSlot>
+    pub fn null(domain: &Domain<T>, local: &mut Local<T>) -> Result<AtomicOwned<T>, NoSlot>
         ensures cell { IfOk result (λ c. IsCellOf c domain.now) }
         ensures hit { IfOk result (λ c. misses_of local.new ≡ misses_of local.old) }
         ensures missed { OnErr result (misses_of local.new ≡ misses_of local.old + 1) }
@@ -65,11 +66,11 @@ impl AtomicOwned {
     }
 
     /// A cell with this owner, without a tag. The owner is back where there is no cell, which is a miss.
-    pub fn from<T: Holds>(
+    pub fn from(
         domain: &Domain<T>,
         owned: Owned<T>,
         local: &mut Local<T>,
-    ) -> Result<AtomicOwned, Owned<T>>
+    ) -> Result<AtomicOwned<T>, Owned<T>>
         requires home { home_of local.old ≡ place_of domain.now }
         requires mine { place_in owned ≡ (place_of domain.now).0 }
         ensures cell { IfOk result (λ c. IsCellOf c domain.now) }
@@ -90,11 +91,7 @@ impl AtomicOwned {
 
     /// A cell with the owner of a new item, without a tag. The item is back where there is no cell or no free slot, which is a
     /// miss. Condition: it holds just the owners that are in the participant's hand.
-    pub fn new<T: Holds>(
-        domain: &Domain<T>,
-        item: T,
-        local: &mut Local<T>,
-    ) -> Result<AtomicOwned, T>
+    pub fn new(domain: &Domain<T>, item: T, local: &mut Local<T>) -> Result<AtomicOwned<T>, T>
         requires home { home_of local.old ≡ place_of domain.now }
         requires holds { T.holds item ≡ hand_of local.old }
         ensures cell { IfOk result (λ c. IsCellOf c domain.now) }
@@ -116,7 +113,7 @@ impl AtomicOwned {
     }
 
     /// Whether the cell owns nothing, as it is found in one step.
-    pub fn is_null<T: Holds>(&self, domain: &Domain<T>, local: &mut Local<T>) -> bool
+    pub fn is_null(&self, domain: &Domain<T>, local: &mut Local<T>) -> bool
         requires home { home_of local.old ≡ place_of domain.now }
         requires cell { IsCellOf self.now domain.now }
         ensures looked { (t : ℕ) × (k : ℕ) × HasReadCell local.old (cell_of self.now) t k local.new × (IsTrue result ↔ (k ≡ 0)) }
@@ -126,7 +123,7 @@ impl AtomicOwned {
     }
 
     /// The tag of the cell, as it is found in one step.
-    pub fn tag<T: Holds>(&self, domain: &Domain<T>, local: &mut Local<T>) -> Tag
+    pub fn tag(&self, domain: &Domain<T>, local: &mut Local<T>) -> Tag
         requires home { home_of local.old ≡ place_of domain.now }
         requires cell { IsCellOf self.now domain.now }
         ensures looked { (k : ℕ) × HasReadCell local.old (cell_of self.now) (tag_number result) k local.new }
@@ -137,7 +134,7 @@ impl AtomicOwned {
 
     /// What the cell names and its tag, as both are found in one step. The item stays, as it is, until the outermost guard
     /// closes, whatever other threads do with the cell.
-    pub fn load<'g, T: Holds>(
+    pub fn load<'g>(
         &self,
         domain: &Domain<T>,
         guard: &'g Guard,
@@ -157,7 +154,7 @@ impl AtomicOwned {
 
     /// Swaps what the cell owns and its tag, in one step: the owner and the tag go into it, and those that it had come
     /// out.
-    pub fn swap<T: Holds>(
+    pub fn swap(
         &self,
         domain: &Domain<T>,
         new: (Option<Owned<T>>, Tag),
@@ -180,7 +177,7 @@ impl AtomicOwned {
     /// Else the cell stays as it is: the owner is back, and with it the pointer that was found. It is one try: where other
     /// threads change the cell during the call, it may be refused though the cell was as `current` before and is so again.
     /// It takes no memory.
-    pub fn compare_exchange<'g, T: Holds>(
+    pub fn compare_exchange<'g>(
         &self,
         domain: &Domain<T>,
         current: OwnedPtr<T>,
@@ -213,7 +210,7 @@ impl AtomicOwned {
     }
 
     /// As `compare_exchange`: it fails for no other reason.
-    pub fn compare_exchange_weak<'g, T: Holds>(
+    pub fn compare_exchange_weak<'g>(
         &self,
         domain: &Domain<T>,
         current: OwnedPtr<T>,
@@ -240,7 +237,7 @@ impl AtomicOwned {
     /// Sets the tag, in one step, where `f` answers true of the pointer that is found: whether it did. Where other threads
     /// changed the cell since that pointer was loaded it tries again, and asks anew; after `2^64` times it gives up, and
     /// tells that it didn't. What the cell owns stays.
-    pub fn update_tag_if<'g, T: Holds + 'g, F: Fn(OwnedPtr<'g, T>) -> bool>(
+    pub fn update_tag_if<'g, F: Fn(OwnedPtr<'g, T>) -> bool>(
         &self,
         domain: &Domain<T>,
         tag: Tag,
@@ -248,6 +245,8 @@ impl AtomicOwned {
         guard: &'g Guard,
         local: &mut Local<T>,
     ) -> bool
+    where
+        T: 'g,
         requires home { home_of local.old ≡ place_of domain.now }
         requires nest { nest_of guard.now ≡ nest_in local.old }
         requires open { 0 < (own_of local.old).nesting }
@@ -256,7 +255,7 @@ impl AtomicOwned {
         ensures asked { (r : OwnedPtr T) × (b : Bool) × F.post f r b × (IsTrue result → IsTrue b) }
         ensures same { IsInNest local.old local.new × (own_of local.new ≡ own_of local.old) × (born_of local.new ≡ born_of local.old) × (waiting_of local.new ≡ waiting_of local.old) }
         ensures set { IsTrue result → (r : OwnedPtr T) × F.post f r true × HasRetagged local.old (cell_of self.now) (tag_number (pointer_tag r)) (code_of (pointer_slot r)) (tag_number tag) local.new }
-        ensures kept { IsFalse result → HasOnlyRead local.old (cell_of self.now) local.new }
+        ensures kept { IsFalse result → ((r : OwnedPtr T) × F.post f r false × HasFoundLast local.old (cell_of self.now) (tag_number (pointer_tag r)) (code_of (pointer_slot r)) local.new) ⊎ HasReadOften local.old (cell_of self.now) (2 ^ 64) local.new }
     {
         let ask = |of|
             requires { F.IsAlwaysCallable f }
@@ -266,7 +265,7 @@ impl AtomicOwned {
     }
 
     /// What the cell owned. The cell is the next one's that asks for one.
-    pub fn into_owned<T: Holds>(self, domain: &Domain<T>, local: &mut Local<T>) -> Option<Owned<T>>
+    pub fn into_owned(self, domain: &Domain<T>, local: &mut Local<T>) -> Option<Owned<T>>
         requires home { home_of local.old ≡ place_of domain.now }
         requires cell { IsCellOf self domain.now }
         ensures home { IfSome result (λ o. place_in o ≡ (place_of domain.now).0) }
@@ -279,7 +278,7 @@ impl AtomicOwned {
 
     /// Gives the cell back, and retires what it owned. Whether it owned something, which no clause says: see
     /// `Owned::retire`.
-    pub fn retire<T: Holds>(self, domain: &Domain<T>, local: &mut Local<T>) -> bool
+    pub fn retire(self, domain: &Domain<T>, local: &mut Local<T>) -> bool
         requires home { home_of local.old ≡ place_of domain.now }
         requires cell { IsCellOf self domain.now }
         ensures same { IsInNest local.old local.new × (born_of local.new ≡ born_of local.old) × (own_of local.new ≡ record (own_of local.old) { garbage = (own_of local.old).garbage || result }) }

@@ -1,7 +1,10 @@
 //! Items that are out as raw ones.
 
-ghost use Rattle.std.specs.Prelude.{◌≡◌, ◌<◌, All, Some, IfOk, IfErr, IfSome};
+ghost use Rattle.std.specs.Prelude.{◌≡◌, ◌<◌, ◌≤◌, ◌+◌, ◌↔◌, ℕ, All, Some, IfOk, IfErr, IfSome, IfNone, IsSome, length};
 ghost use Rattle.sdd_domain.specs.Cells.{cell_number};
+ghost use Rattle.sdd_domain.specs.CellSteps.{StepsOnNoCell};
+ghost use Rattle.sdd_domain.specs.Sharing.{kept_in};
+ghost use Rattle.sdd_domain.specs.Tokens.{place_of, home_of, own_of, IsInNest};
 
 use crate::owned::Owned;
 use crate::pointer::OwnedPtr;
@@ -12,6 +15,7 @@ use sdd_domain::domain::Domain;
 use sdd_domain::guard::Guard;
 use sdd_domain::holds::Holds;
 use sdd_domain::local::Local;
+use sdd_domain::shared::Shared;
 use std::alloc::Global;
 use thiserror::Error;
 
@@ -28,25 +32,26 @@ pub enum RawRefused {
 
 /// A cell for each slot of a place: it has the owner of the slot's item while that is out as a raw one. They must be spent by
 /// `end`.
-pub struct RawItems {
-    cells: Vec<AtomicShared>,
+pub struct RawItems<T> {
+    cells: Vec<AtomicShared<T>>,
     /// How many cells the place has.
     cells_of_place: usize,
     ghost inside: { All (λ c. cell_number c < cells_of_place) cells.items },
 }
 
-impl RawItems {
+impl<T: Holds> RawItems<T> {
     ghost use Rattle.sdd_base.specs.declared.tag.Tag.TheVariants as tags;
-    ghost use Rattle.sdd_domain.specs.Tokens.{place_of, home_of, own_of, nest_of, nest_in, born_of, waiting_of, cell_count, IsInNest};
-    ghost use Rattle.shared_owned.specs.Alone.{place_in, sole_slot, pointer_slot, pointer_tag, IsAsBefore};
-    ghost use Rattle.shared_owned.specs.Raw.{raw_slot, raw_tag, AreRawItemsOf};
+    ghost use Rattle.sdd_domain.specs.Tokens.{nest_of, nest_in, born_of, waiting_of, cell_count, slot_count};
+    ghost use Rattle.sdd_domain.specs.CellSteps.{HasReadCell, HasExchanged};
+    ghost use Rattle.shared_owned.specs.Alone.{place_in, sole_slot, sole_code, pointer_slot, pointer_tag, IsAsBefore};
+    ghost use Rattle.shared_owned.specs.Raw.{raw_slot, raw_tag, AreRawItemsOf, IsRawCell};
 
     /// None is out as a raw one yet. It takes as many cells as the place has slots, and memory for their names.
-    pub fn new<T: Holds>(
+    pub fn new(
         alloc: Global,
         domain: &Domain<T>,
         local: &mut Local<T>,
-    ) -> Result<RawItems, RawRefused>
+    ) -> Result<RawItems<T>, RawRefused>
         requires home { home_of local.old ≡ place_of domain.now }
         ensures raws { IfOk result (λ raws. AreRawItemsOf raws domain.now) }
         ensures same { IsAsBefore local.old local.new }
@@ -67,58 +72,70 @@ impl RawItems {
         })
     }
 
+    /// The cell of a slot: none where the place has no such slot.
+    fn at(&self, slot: usize) -> Option<&AtomicShared<T>>
+        ensures inside { IfSome result (λ c. cell_number c.now < self.now.cells_of_place) }
+        ensures cell { IfSome result (λ c. IsRawCell self.now slot (cell_number c.now)) }
+        ensures none { IfNone result (length self.now.cells.items ≤ slot) }
+    {
+        self.cells.get(slot)
+    }
+
     /// Lets an item be out as a raw one: a pointer to it, without a tag. The owner is back where the place has no such slot,
     /// which is never so of an item of the same place.
-    pub fn into_raw<T: Holds>(
+    pub fn into_raw(
         &self,
         domain: &Domain<T>,
         owned: Owned<T>,
         local: &mut Local<T>,
-    ) -> Result<RawPtr, Owned<T>>
+    ) -> Result<RawPtr<T>, Owned<T>>
         requires home { home_of local.old ≡ place_of domain.now }
         requires raws { AreRawItemsOf self.now domain.now }
         requires mine { place_in owned ≡ (place_of domain.now).0 }
         ensures exact { IfOk result (λ p. raw_slot p ≡ sole_slot (Some owned)) }
         ensures bare { IfOk result (λ p. raw_tag p ≡ tags.None) }
-        ensures refused { IfErr result (λ back. back ≡ owned) }
+        ensures put { IfOk result (λ p. (cell : ℕ) × (t : ℕ) × (c : ℕ) × IfSome (sole_slot (Some owned)) (λ k. IsRawCell self.now k cell) × HasExchanged local.old cell t c 0 (sole_code (Some owned)) local.new) }
+        ensures refused { IfErr result (λ back. (back ≡ owned) × IfSome (sole_slot (Some owned)) (λ k. slot_count domain.now ≤ k)) }
         ensures same { IsInNest local.old local.new × ((own_of local.new).nesting ≡ (own_of local.old).nesting) }
     {
         let at = owned.slot();
         let Ok(slot) = u32::try_from(at) else {
             return Err(owned);
         };
-        let Some(cell) = self.cells.get(at) else {
+        let Some(cell) = self.at(at) else {
             return Err(owned);
         };
         let (old, _) = cell.swap(domain, (Some(owned.into_shared()), Tag::None), local);
-        if let Some(old) = old {
-            old.release(domain, local);
-        }
-        Ok(RawPtr {
-            slot: Some(slot),
-            tag: Tag::None,
-        })
+        let_go(domain, old, local);
+        Ok(RawPtr::to_slot(Some(slot), Tag::None))
     }
 
     /// The owner of the item in the pointer's slot, which isn't out as a raw one any more. None where that slot has no item
     /// that is out so, or the pointer is to nothing. Whoever takes it first has it: it is one step.
-    pub fn from_raw<T: Holds>(
+    pub fn from_raw(
         &self,
         domain: &Domain<T>,
-        pointer: RawPtr,
+        pointer: RawPtr<T>,
         local: &mut Local<T>,
     ) -> Option<Owned<T>>
         requires home { home_of local.old ≡ place_of domain.now }
         requires raws { AreRawItemsOf self.now domain.now }
         ensures home { IfSome result (λ o. place_in o ≡ (place_of domain.now).0) }
         ensures exact { IfSome result (λ o. sole_slot (Some o) ≡ raw_slot pointer) }
+        ensures taken { IfSome (raw_slot pointer) (λ k. k < slot_count domain.now → (cell : ℕ) × (t : ℕ) × (c : ℕ) × IsRawCell self.now k cell × HasExchanged local.old cell t c 0 0 local.new × (IsSome result ↔ (c ≡ k + 1))) }
         ensures same { IsInNest local.old local.new × ((own_of local.new).nesting ≡ (own_of local.old).nesting) }
     {
-        let slot = pointer.slot? as usize;
-        let cell = self.cells.get(slot)?;
-        let (owner, _) = cell.swap(domain, (None, Tag::None), local);
-        let owner = owner?;
-        if owner.slot() == slot {
+        let Some(slot) = pointer.slot else {
+            return None;
+        };
+        let Some(cell) = self.at(slot as usize) else {
+            return None;
+        };
+        let (found, _) = cell.swap(domain, (None, Tag::None), local);
+        let Some(owner) = found else {
+            return None;
+        };
+        if owner.slot() == slot as usize {
             return Some(Owned { owner });
         }
         // (a cell has the owner of its own slot's item alone)
@@ -128,10 +145,10 @@ impl RawItems {
 
     /// The item in the pointer's slot, with the pointer's tag, for as long as the guard is borrowed. A pointer to nothing gives
     /// one to nothing. None where the slot has no item that is out as a raw one.
-    pub fn into_ptr<'g, T: Holds>(
+    pub fn into_ptr<'g>(
         &self,
         domain: &Domain<T>,
-        pointer: RawPtr,
+        pointer: RawPtr<T>,
         guard: &'g Guard,
         local: &mut Local<T>,
     ) -> Option<OwnedPtr<'g, T>>
@@ -141,21 +158,30 @@ impl RawItems {
         requires raws { AreRawItemsOf self.now domain.now }
         ensures slot { IfSome result (λ p. pointer_slot p ≡ raw_slot pointer) }
         ensures tag { IfSome result (λ p. pointer_tag p ≡ raw_tag pointer) }
+        ensures null { IfNone (raw_slot pointer) (IsSome result) }
+        ensures looked { IfSome (raw_slot pointer) (λ k. k < slot_count domain.now → (cell : ℕ) × (t : ℕ) × (c : ℕ) × IsRawCell self.now k cell × HasReadCell local.old cell t c local.new × (IsSome result ↔ (c ≡ k + 1))) }
         ensures same { IsInNest local.old local.new × (own_of local.new ≡ own_of local.old) × (born_of local.new ≡ born_of local.old) × (waiting_of local.new ≡ waiting_of local.old) }
     {
         let Some(slot) = pointer.slot else {
             return Some(OwnedPtr::null().with_tag(pointer.tag));
         };
-        let cell = self.cells.get(slot as usize)?;
-        let of = cell.load(domain, guard, local).with_tag(pointer.tag);
-        if of.slot()? == slot as usize {
-            return Some(OwnedPtr { of });
+        let Some(cell) = self.at(slot as usize) else {
+            return None;
+        };
+        let of = cell.load(domain, guard, local);
+        let Some(found) = of.slot() else {
+            return None;
+        };
+        if found == slot as usize {
+            return Some(OwnedPtr {
+                of: of.with_tag(pointer.tag),
+            });
         }
         None
     }
 
     /// Gives the cells back, and retires the items that are still out as raw ones.
-    pub fn end<T: Holds>(self, domain: &Domain<T>, local: &mut Local<T>)
+    pub fn end(self, domain: &Domain<T>, local: &mut Local<T>)
         requires home { home_of local.old ≡ place_of domain.now }
         requires raws { AreRawItemsOf self domain.now }
         ensures same { IsInNest local.old local.new × ((own_of local.new).nesting ≡ (own_of local.old).nesting) }
@@ -168,7 +194,7 @@ impl RawItems {
     }
 
     /// Gives cells back, and releases what they own.
-    fn give_back<T: Holds>(domain: &Domain<T>, cells: Vec<AtomicShared>, local: &mut Local<T>)
+    fn give_back(domain: &Domain<T>, cells: Vec<AtomicShared<T>>, local: &mut Local<T>)
         requires home { home_of local.old ≡ place_of domain.now }
         requires inside { All (λ c. cell_number c < cell_count domain.now) cells.items }
         ensures same { IsInNest local.old local.new × ((own_of local.new).nesting ≡ (own_of local.old).nesting) }
@@ -178,5 +204,17 @@ impl RawItems {
             cell.retire(domain, local);
         }
         cells.destroy_empty();
+    }
+}
+
+/// Releases an owner that there may be.
+fn let_go<T: Holds>(domain: &Domain<T>, owner: Option<Shared<T>>, local: &mut Local<T>)
+    requires home { home_of local.old ≡ place_of domain.now }
+    requires mine { IfSome owner (λ s. kept_in s ≡ (place_of domain.now).0) }
+    ensures same { IsInNest local.old local.new × ((own_of local.new).nesting ≡ (own_of local.old).nesting) }
+    ensures cells { StepsOnNoCell local.old local.new }
+{
+    if let Some(owner) = owner {
+        owner.release(domain, local);
     }
 }

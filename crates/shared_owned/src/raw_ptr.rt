@@ -3,40 +3,51 @@
 ghost use Rattle.std.specs.Prelude.{◌≡◌, None, IsTrue, ◌↔◌};
 
 use sdd_base::tag::Tag;
+use std::marker::PhantomData;
 
 /// A pointer to an item that is out as a raw one, or to nothing, with a tag. It is plain data: it tells a slot, and doesn't
 /// keep the item there. Pointers are equal where their slots and their tags are.
-#[derive(Clone, Copy, PartialEq, Eq, Debug)]
-pub struct RawPtr {
+#[derive_where(Clone, Copy, PartialEq, Eq, Debug)]
+pub struct RawPtr<T> {
     pub(crate) slot: Option<u32>,
     pub(crate) tag: Tag,
+    of: PhantomData<T>,
 }
 
 /// The pointer to nothing, without a tag.
-impl Default for RawPtr {
+impl<T> Default for RawPtr<T> {
     ghost use Rattle.sdd_base.specs.declared.tag.Tag.TheVariants as tags;
     ghost use Rattle.shared_owned.specs.Raw.{raw_slot, raw_tag};
 
     ghost is_default = { λ r. (raw_slot r ≡ None) × (raw_tag r ≡ tags.None) };
 
-    fn default() -> RawPtr {
+    fn default() -> RawPtr<T> {
         RawPtr::null()
     }
 }
 
-impl RawPtr {
+impl<T> RawPtr<T> {
     ghost use Rattle.shared_owned.specs.declared.raw_ptr.RawPtr.{RawPtr};
     ghost use Rattle.shared_owned.specs.Raw.{raw_slot, raw_tag, raw_word, IsWithin};
 
+    /// A pointer to the item in this slot, or to nothing.
+    pub(crate) fn to_slot(slot: Option<u32>, tag: Tag) -> RawPtr<T>
+        ensures slot { raw_slot result ≡ slot }
+        ensures tag { raw_tag result ≡ tag }
+    {
+        RawPtr {
+            slot,
+            tag,
+            of: PhantomData,
+        }
+    }
+
     /// The pointer to nothing, without a tag.
-    pub fn null() -> RawPtr
+    pub fn null() -> RawPtr<T>
         ensures slot { raw_slot result ≡ None }
         ensures tag { raw_tag result ≡ Tag.None }
     {
-        RawPtr {
-            slot: None,
-            tag: Tag::None,
-        }
+        RawPtr::to_slot(None, Tag::None)
     }
 
     /// Whether it is to nothing, whatever its tag.
@@ -70,18 +81,15 @@ impl RawPtr {
     }
 
     /// The same pointer with another tag.
-    pub fn with_tag(self, tag: Tag) -> RawPtr
+    pub fn with_tag(self, tag: Tag) -> RawPtr<T>
         ensures slot { raw_slot result ≡ raw_slot self }
         ensures tag { raw_tag result ≡ tag }
     {
-        RawPtr {
-            slot: self.slot,
-            tag,
-        }
+        RawPtr::to_slot(self.slot, tag)
     }
 
     /// The same pointer without a tag.
-    pub fn without_tag(self) -> RawPtr
+    pub fn without_tag(self) -> RawPtr<T>
         ensures slot { raw_slot result ≡ raw_slot self }
         ensures tag { raw_tag result ≡ Tag.None }
     {
@@ -100,8 +108,8 @@ impl RawPtr {
     }
 
     /// The pointer that a word tells.
-    pub(crate) fn of_word(word: u64) -> RawPtr
-        ensures { (p : RawPtr) → IsWithin p → raw_word p ≡ word → result ≡ p }
+    pub(crate) fn of_word(word: u64) -> RawPtr<T>
+        ensures { (p : RawPtr T) → IsWithin p → raw_word p ≡ word → result ≡ p }
     {
         let tag = match word % 4 {
             0 => Tag::None,
@@ -113,6 +121,6 @@ impl RawPtr {
             0 => None,
             code => u32::try_from(code - 1).ok(),
         };
-        RawPtr { slot, tag }
+        RawPtr::to_slot(slot, tag)
     }
 }

@@ -231,7 +231,7 @@ fn a_swap_takes_out_the_owner_and_the_tag(rt: HostRuntime) -> Result<(), Fail> {
 /// What is seen of a cell: whether it is empty, its tag, and the value and the tag that a guard loads.
 type Looked = (bool, Tag, Option<u64>, Tag);
 
-fn looks(domain: &Domain<u64>, cell: &AtomicOwned, local: &mut Local<u64>) -> Looked
+fn looks(domain: &Domain<u64>, cell: &AtomicOwned<u64>, local: &mut Local<u64>) -> Looked
     requires home { (home_of local.old ≡ place_of domain.now) × (hand_of local.old ≡ []) }
     requires closed { (own_of local.old).nesting ≡ 0 }
     requires cell { IsCellOf cell.now domain.now }
@@ -306,7 +306,7 @@ fn exchanges<R: Abort>(rt: &R, domain: &Domain<u64>, local: &mut Local<u64>) -> 
     found
 }
 
-fn exchanges_in(domain: &Domain<u64>, cell: &AtomicOwned, local: &mut Local<u64>) -> Exchanged
+fn exchanges_in(domain: &Domain<u64>, cell: &AtomicOwned<u64>, local: &mut Local<u64>) -> Exchanged
     requires home { (home_of local.old ≡ place_of domain.now) × (hand_of local.old ≡ []) }
     requires closed { (own_of local.old).nesting ≡ 0 }
     requires cell { IsCellOf cell.now domain.now }
@@ -325,7 +325,7 @@ fn exchanges_in(domain: &Domain<u64>, cell: &AtomicOwned, local: &mut Local<u64>
 /// The value in a cell, by a pointer with another tag, and whether its tag is set where it is asked for 14 and for 15.
 fn looked_at(
     domain: &Domain<u64>,
-    cell: &AtomicOwned,
+    cell: &AtomicOwned<u64>,
     guard: &Guard,
     local: &mut Local<u64>,
 ) -> (Option<u64>, [bool; 2])
@@ -357,7 +357,7 @@ fn looked_at(
 /// The value that an exchange for nothing takes out of a cell that is asked for this tag, or 100 where it is refused and the cell has the first tag.
 fn taken(
     domain: &Domain<u64>,
-    cell: &AtomicOwned,
+    cell: &AtomicOwned<u64>,
     tag: Tag,
     guard: &Guard,
     local: &mut Local<u64>,
@@ -393,7 +393,12 @@ fn an_exchange_is_taken_where_item_and_tag_are_the_same(rt: HostRuntime) -> Resu
 /// is had back, and of the one had back once more; whether a pointer to nothing gives one to nothing.
 type Raw = (Option<(u64, Tag)>, Option<u64>, Option<u64>, bool);
 
-fn goes_out<R: Abort>(rt: &R, domain: &Domain<u64>, raws: &RawItems, local: &mut Local<u64>) -> Raw
+fn goes_out<R: Abort>(
+    rt: &R,
+    domain: &Domain<u64>,
+    raws: &RawItems<u64>,
+    local: &mut Local<u64>,
+) -> Raw
     requires home { (home_of local.old ≡ place_of domain.now) × (hand_of local.old ≡ []) }
     requires closed { (own_of local.old).nesting ≡ 0 }
     requires raws { AreRawItemsOf raws.now domain.now }
@@ -411,9 +416,9 @@ fn sent_out<R: Abort>(
     rt: &R,
     domain: &Domain<u64>,
     value: u64,
-    raws: &RawItems,
+    raws: &RawItems<u64>,
     local: &mut Local<u64>,
-) -> RawPtr
+) -> RawPtr<u64>
     requires home { (home_of local.old ≡ place_of domain.now) × (hand_of local.old ≡ []) }
     requires raws { AreRawItemsOf raws.now domain.now }
     ensures same { IsAsBefore local.old local.new }
@@ -431,8 +436,8 @@ fn sent_out<R: Abort>(
 /// What a guard reads by a raw pointer, and its tag; and whether the pointer to nothing gives one to nothing.
 fn seen(
     domain: &Domain<u64>,
-    raws: &RawItems,
-    pointer: RawPtr,
+    raws: &RawItems<u64>,
+    pointer: RawPtr<u64>,
     local: &mut Local<u64>,
 ) -> (Option<(u64, Tag)>, bool)
     requires home { (home_of local.old ≡ place_of domain.now) × (hand_of local.old ≡ []) }
@@ -456,8 +461,8 @@ fn seen(
 /// The value of the owner that is had back.
 fn had_back(
     domain: &Domain<u64>,
-    raws: &RawItems,
-    pointer: RawPtr,
+    raws: &RawItems<u64>,
+    pointer: RawPtr<u64>,
     local: &mut Local<u64>,
 ) -> Option<u64>
     requires home { home_of local.old ≡ place_of domain.now }
@@ -492,7 +497,12 @@ fn an_item_that_is_out_as_a_raw_one_is_had_back_once(rt: HostRuntime) -> Result<
 }
 
 /// A raw pointer to an item in the second slot.
-fn pointer<R: Abort>(rt: &R, alloc: Global, domain: &Domain<u64>, local: &mut Local<u64>) -> RawPtr
+fn pointer<R: Abort>(
+    rt: &R,
+    alloc: Global,
+    domain: &Domain<u64>,
+    local: &mut Local<u64>,
+) -> RawPtr<u64>
     requires home { (home_of local.old ≡ place_of domain.now) × (hand_of local.old ≡ []) }
     ensures same { IsAsBefore local.old local.new }
 {
@@ -606,7 +616,7 @@ impl Out {
 /// Swaps an item of this value into a cell: the value of what came out.
 fn swap_in(
     domain: &Domain<u64>,
-    cell: &AtomicOwned,
+    cell: &AtomicOwned<u64>,
     value: u64,
     local: &mut Local<u64>,
 ) -> Option<u64>
@@ -623,7 +633,7 @@ fn swap_in(
 
 /// Swaps items of two thousand values into a cell, one after the other. Behind each it waits until the item is reclaimed that
 /// came out.
-fn swaps(domain: &Domain<u64>, cell: &AtomicOwned, first: u64) -> Option<Out>
+fn swaps(domain: &Domain<u64>, cell: &AtomicOwned<u64>, first: u64) -> Option<Out>
     requires { IsCellOf cell.now domain.now }
 {
     let Ok(mut local) = domain.register() else {

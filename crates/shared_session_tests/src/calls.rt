@@ -48,7 +48,7 @@ pub fn leave(domain: &Domain<Item>, local: Local<Item>)
 }
 
 /// Ends a cell: whether it had the last owner of its item.
-pub fn retire(domain: &Domain<Item>, cell: AtomicShared, local: &mut Local<Item>) -> bool
+pub fn retire(domain: &Domain<Item>, cell: AtomicShared<Item>, local: &mut Local<Item>) -> bool
     requires home { home_of local.old ≡ place_of domain.now }
     requires inside { cell_number cell < cell_count domain.now }
     ensures same { IsInNest local.old local.new }
@@ -61,7 +61,7 @@ pub fn retire(domain: &Domain<Item>, cell: AtomicShared, local: &mut Local<Item>
 pub fn opened(
     alloc: Global,
     domain: &Domain<Item>,
-    cell: &AtomicShared,
+    cell: &AtomicShared<Item>,
     local: &mut Local<Item>,
     at_least: u64,
 ) -> Result<Twos, OpenRefused>

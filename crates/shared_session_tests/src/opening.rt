@@ -19,7 +19,7 @@ use std::process::Abort;
 fn number_of<const S: usize>(
     alloc: Global,
     domain: &Domain<Item>,
-    cell: &AtomicShared,
+    cell: &AtomicShared<Item>,
     local: &mut Local<Item>,
     at_least: u64,
 ) -> Result<u64, OpenRefused>
@@ -45,7 +45,7 @@ fn number_by<R: Abort>(
     rt: &R,
     alloc: Global,
     domain: &Domain<Item>,
-    cell: &AtomicShared,
+    cell: &AtomicShared<Item>,
     local: &mut Local<Item>,
     width: u8,
     at_least: u64,
@@ -82,7 +82,7 @@ fn taken<R: Abort>(
     rt: &R,
     alloc: Global,
     domain: &Domain<Item>,
-    cell: &AtomicShared,
+    cell: &AtomicShared<Item>,
     reader: &mut Local<Item>,
     writer: &mut Local<Item>,
     step: Step,
@@ -115,7 +115,7 @@ pub fn all_taken<R: Abort>(
     rt: &R,
     alloc: Global,
     domain: &Domain<Item>,
-    cell: &AtomicShared,
+    cell: &AtomicShared<Item>,
     reader: &mut Local<Item>,
     writer: &mut Local<Item>,
     rows: &[Row],
@@ -173,7 +173,7 @@ pub fn within<R: Abort>(
     rt: &R,
     alloc: Global,
     domain: &Domain<Item>,
-    cell: &AtomicShared,
+    cell: &AtomicShared<Item>,
     local: &mut Local<Item>,
 ) -> bool
     requires home { (home_of local.old ≡ place_of domain.now) × (hand_of local.old ≡ []) }
@@ -208,7 +208,7 @@ pub fn of_loaded<R: Abort>(
     rt: &R,
     alloc: Global,
     domain: &Domain<Item>,
-    cell: &AtomicShared,
+    cell: &AtomicShared<Item>,
     local: &mut Local<Item>,
 ) -> bool
     requires home { (home_of local.old ≡ place_of domain.now) × (hand_of local.old ≡ []) }

@@ -206,7 +206,7 @@ pub fn cell<R: Abort>(
     domain: &Domain<Item>,
     owner: Shared<Item>,
     local: &mut Local<Item>,
-) -> AtomicShared
+) -> AtomicShared<Item>
     requires home { home_of local.old ≡ place_of domain.now }
     requires mine { kept_in owner ≡ (place_of domain.now).0 }
     ensures inside { cell_number result < cell_count domain.now }
@@ -237,7 +237,7 @@ pub fn owning<R: Abort>(
     domain: &Domain<Item>,
     local: &mut Local<Item>,
     first: First,
-) -> AtomicShared
+) -> AtomicShared<Item>
     requires home { (home_of local.old ≡ place_of domain.now) × (hand_of local.old ≡ []) }
     requires closed { (own_of local.old).nesting ≡ 0 }
     ensures inside { cell_number result < cell_count domain.now }
@@ -272,7 +272,7 @@ pub fn renew<R: Abort>(
     rt: &R,
     alloc: Global,
     domain: &Domain<Item>,
-    cell: &AtomicShared,
+    cell: &AtomicShared<Item>,
     local: &mut Local<Item>,
     number: u64,
     values: (u64, u64, u64),
@@ -308,7 +308,7 @@ pub fn reclaim(domain: &Domain<Item>, local: &mut Local<Item>)
 }
 
 /// Gives the cell back, and ends the participant and the place.
-pub fn end<R: Abort>(rt: &R, cell: AtomicShared, domain: Domain<Item>, local: Local<Item>)
+pub fn end<R: Abort>(rt: &R, cell: AtomicShared<Item>, domain: Domain<Item>, local: Local<Item>)
     requires home { (home_of local ≡ place_of domain) × (hand_of local ≡ []) }
     requires closed { (own_of local).nesting ≡ 0 }
     requires inside { cell_number cell < cell_count domain }

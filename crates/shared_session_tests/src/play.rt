@@ -50,7 +50,7 @@ fn goes<R: Threads + Abort + Sync>(
     rt: &R,
     alloc: Global,
     domain: &Domain<Item>,
-    cell: &AtomicShared,
+    cell: &AtomicShared<Item>,
     reader: &mut Local<Item>,
     writer: &mut Local<Item>,
     play: Play,

@@ -19,7 +19,7 @@ fn read_one<R: Abort>(
     rt: &R,
     alloc: Global,
     domain: &Domain<Item>,
-    cell: &AtomicShared,
+    cell: &AtomicShared<Item>,
     local: &mut Local<Item>,
     at_least: u64,
 ) -> (Option<u64>, u64)
@@ -43,7 +43,7 @@ pub fn beside<R: Abort>(
     rt: &R,
     alloc: Global,
     domain: &Domain<Item>,
-    cell: &AtomicShared,
+    cell: &AtomicShared<Item>,
     reader: &mut Local<Item>,
     writer: &mut Local<Item>,
 ) -> bool
@@ -83,7 +83,7 @@ pub fn walked<R: Abort>(
     rt: &R,
     alloc: Global,
     domain: &Domain<Item>,
-    cell: &AtomicShared,
+    cell: &AtomicShared<Item>,
     reader: &mut Local<Item>,
     writer: &mut Local<Item>,
 ) -> bool

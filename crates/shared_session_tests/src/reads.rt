@@ -193,7 +193,7 @@ fn answers(session: &Twos, look: Look) -> bool {
 pub fn are_right(
     alloc: Global,
     domain: &Domain<Item>,
-    cell: &AtomicShared,
+    cell: &AtomicShared<Item>,
     local: &mut Local<Item>,
     look: Look,
 ) -> bool
@@ -243,7 +243,7 @@ fn are_recorded<R: Abort>(
     rt: &R,
     alloc: Global,
     domain: &Domain<Item>,
-    cell: &AtomicShared,
+    cell: &AtomicShared<Item>,
     local: &mut Local<Item>,
     rows: &[(Query<u64>, Answer<u64, u64>)],
 ) -> bool
@@ -269,7 +269,7 @@ pub fn each_kind<R: Abort>(
     rt: &R,
     alloc: Global,
     domain: &Domain<Item>,
-    cell: &AtomicShared,
+    cell: &AtomicShared<Item>,
     local: &mut Local<Item>,
 ) -> bool
     requires home { home_of local.old ≡ place_of domain.now }
@@ -301,7 +301,7 @@ pub fn of_nothing<R: Abort>(
     rt: &R,
     alloc: Global,
     domain: &Domain<Item>,
-    cell: &AtomicShared,
+    cell: &AtomicShared<Item>,
     local: &mut Local<Item>,
 ) -> bool
     requires home { home_of local.old ≡ place_of domain.now }

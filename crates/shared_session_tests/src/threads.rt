@@ -20,7 +20,7 @@ const LAST: u64 = 20;
 fn whole(
     alloc: Global,
     domain: &Domain<Item>,
-    cell: &AtomicShared,
+    cell: &AtomicShared<Item>,
     local: &mut Local<Item>,
     at_least: u64,
 ) -> Option<u64>
@@ -46,7 +46,7 @@ fn whole(
 
 /// Two hundred sessions of a participant, each for at least the number of the one before: how many were whole. None if
 /// no participant was free.
-fn reads(alloc: Global, domain: &Domain<Item>, cell: &AtomicShared) -> Option<u32>
+fn reads(alloc: Global, domain: &Domain<Item>, cell: &AtomicShared<Item>) -> Option<u32>
     requires inside { cell_number cell.now < cell_count domain.now }
 {
     let mut local = registered(domain).ok()?;
@@ -63,7 +63,12 @@ fn reads(alloc: Global, domain: &Domain<Item>, cell: &AtomicShared) -> Option<u3
 }
 
 /// Publishes the versions behind the first one. None if no participant was free.
-fn writes<R: Abort>(rt: &R, alloc: Global, domain: &Domain<Item>, cell: &AtomicShared) -> Option<()>
+fn writes<R: Abort>(
+    rt: &R,
+    alloc: Global,
+    domain: &Domain<Item>,
+    cell: &AtomicShared<Item>,
+) -> Option<()>
     requires inside { cell_number cell.now < cell_count domain.now }
 {
     let mut local = registered(domain).ok()?;
@@ -82,7 +87,7 @@ pub fn are_whole<R: Threads + Abort + Sync>(
     rt: &R,
     alloc: Global,
     domain: &Domain<Item>,
-    cell: &AtomicShared,
+    cell: &AtomicShared<Item>,
     local: &mut Local<Item>,
 ) -> bool
     requires home { home_of local.old ≡ place_of domain.now }

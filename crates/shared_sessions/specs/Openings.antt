@@ -9,7 +9,7 @@ use Rattle.shared_sessions.specs.declared.opening.OpenRefused.TheVariants as cau
 use Rattle.shared_sessions.specs.declared.root.Root.{Root}
 
 -- the number of the cell that is lent, among those of its place
-abbrev pub root_number : Root → ℕ
+abbrev pub root_number : {T : Type 0} → Root T → ℕ
 root_number r = cell_number r.cell.now
 
 -- what was loaded is no version of this width; or it is one, and its number, which is told, is below the one asked for

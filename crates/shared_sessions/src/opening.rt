@@ -38,7 +38,7 @@ impl<K: Clone + Ord, V: Clone + Eq, const S: usize> SharedSession<K, V, S> {
     pub fn open(
         alloc: Global,
         domain: &Domain<Node<K, V>>,
-        root: Root<'_>,
+        root: Root<'_, Node<K, V>>,
         at_least: u64,
         local: &mut Local<Node<K, V>>,
     ) -> Result<Self, OpenRefused>

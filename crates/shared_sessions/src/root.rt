@@ -8,14 +8,14 @@ use sdd_domain::atomic_shared::AtomicShared;
 
 /// The cell that names the present version, to be read alone: who has it opens sessions, and can't have the cell name anything
 /// else.
-#[derive(Clone, Copy)]
-pub struct Root<'a> {
-    pub(crate) cell: &'a AtomicShared,
+#[derive_where(Clone, Copy)]
+pub struct Root<'a, T> {
+    pub(crate) cell: &'a AtomicShared<T>,
 }
 
-impl<'a> Root<'a> {
+impl<'a, T> Root<'a, T> {
     /// Lends a cell to be read.
-    pub fn new(cell: &'a AtomicShared) -> Self
+    pub fn new(cell: &'a AtomicShared<T>) -> Self
         ensures { root_number result ≡ cell_number cell.now }
     {
         Root { cell }

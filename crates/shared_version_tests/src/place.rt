@@ -63,7 +63,7 @@ pub(crate) fn cell_of<R: Abort>(
     domain: &Domain<Item>,
     owner: Shared<Item>,
     local: &mut Local<Item>,
-) -> AtomicShared
+) -> AtomicShared<Item>
     requires home { (home_of local.old ≡ place_of domain.now) × (hand_of local.old ≡ []) }
     requires closed { (own_of local.old).nesting ≡ 0 }
     requires mine { kept_in owner ≡ (place_of domain.now).0 }
@@ -78,7 +78,11 @@ pub(crate) fn cell_of<R: Abort>(
 }
 
 /// Ends a cell: whether it had the last owner of its item.
-pub(crate) fn retire(domain: &Domain<Item>, cell: AtomicShared, local: &mut Local<Item>) -> bool
+pub(crate) fn retire(
+    domain: &Domain<Item>,
+    cell: AtomicShared<Item>,
+    local: &mut Local<Item>,
+) -> bool
     requires home { (home_of local.old ≡ place_of domain.now) × (hand_of local.old ≡ []) }
     requires closed { (own_of local.old).nesting ≡ 0 }
     requires inside { cell_number cell < cell_count domain.now }
@@ -102,7 +106,7 @@ pub(crate) fn reclaimed(domain: &Domain<Item>, local: &mut Local<Item>)
 pub(crate) fn opened<const S: usize>(
     domain: &Domain<Item>,
     local: &mut Local<Item>,
-    root: &AtomicShared,
+    root: &AtomicShared<Item>,
 ) -> Option<Session<u64, u64, S>>
     requires home { (home_of local.old ≡ place_of domain.now) × (hand_of local.old ≡ []) }
     requires closed { (own_of local.old).nesting ≡ 0 }

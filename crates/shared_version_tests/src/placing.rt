@@ -39,7 +39,7 @@ fn begun<R: Abort, const S: usize>(
     alloc: Global,
     domain: &Domain<Item>,
     local: &mut Local<Item>,
-) -> (Present<u64, u64, S>, AtomicShared)
+) -> (Present<u64, u64, S>, AtomicShared<Item>)
     requires home { (home_of local.old ≡ place_of domain.now) × (hand_of local.old ≡ []) }
     requires closed { (own_of local.old).nesting ≡ 0 }
     ensures place { result.0.place ≡ (place_of domain.now).0 }
@@ -60,7 +60,7 @@ fn commit<R: Abort, const S: usize>(
     domain: &Domain<Item>,
     local: &mut Local<Item>,
     present: &mut Present<u64, u64, S>,
-    root: &AtomicShared,
+    root: &AtomicShared<Item>,
     writes: &[Write<u64, u64>],
 ) -> bool
     requires home { (home_of local.old ≡ place_of domain.now) × (hand_of local.old ≡ []) }
@@ -108,7 +108,7 @@ fn seen<R: Abort, const S: usize>(
     rt: &R,
     domain: &Domain<Item>,
     local: &mut Local<Item>,
-    root: &AtomicShared,
+    root: &AtomicShared<Item>,
     key: u64,
 ) -> (Option<u64>, usize)
     requires home { (home_of local.old ≡ place_of domain.now) × (hand_of local.old ≡ []) }
@@ -140,7 +140,7 @@ struct Scene<'d, const S: usize> {
     domain: &'d Domain<Item>,
     local: Local<Item>,
     present: Present<u64, u64, S>,
-    root: AtomicShared,
+    root: AtomicShared<Item>,
     ghost home: { home_of local ≡ place_of domain.now },
     ghost bare: { hand_of local ≡ [] },
     ghost closed: { (own_of local).nesting ≡ 0 },

@@ -29,7 +29,7 @@ fn cell_with_empty<R: Abort>(
     alloc: Global,
     domain: &Domain<Item>,
     local: &mut Local<Item>,
-) -> AtomicShared
+) -> AtomicShared<Item>
     requires home { (home_of local.old ≡ place_of domain.now) × (hand_of local.old ≡ []) }
     requires closed { (own_of local.old).nesting ≡ 0 }
     ensures inside { cell_number result < cell_count domain.now }
@@ -47,7 +47,7 @@ fn cell_with_empty<R: Abort>(
 fn read<const S: usize>(
     domain: &Domain<Item>,
     local: &mut Local<Item>,
-    cell: &AtomicShared,
+    cell: &AtomicShared<Item>,
 ) -> Option<usize>
     requires home { (home_of local.old ≡ place_of domain.now) × (hand_of local.old ≡ []) }
     requires closed { (own_of local.old).nesting ≡ 0 }

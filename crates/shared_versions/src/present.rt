@@ -195,7 +195,7 @@ fn node_of_owner<K: Ord + Drop, V: Drop>(owner: &Shared<Node<K, V>>) -> &Node<K,
 /// Makes a placed version the one that a cell names, in one step, and releases the older one.
 pub fn publish<K: Ord + Drop, V: Drop>(
     domain: &Domain<Node<K, V>>,
-    root: &AtomicShared,
+    root: &AtomicShared<Node<K, V>>,
     new: Shared<Node<K, V>>,
     local: &mut Local<Node<K, V>>,
 )

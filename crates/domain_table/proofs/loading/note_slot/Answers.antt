@@ -49,6 +49,9 @@ pub push_back_reserved-requires : goal.push_back_reserved-requires
 push_back_reserved-requires g c = let q = c.requires.found in let m = q.0 in let m1 = c.args.place.now.me in let slot : ℕ = c.args.slot in let f = q.1 in
     let takes = is_new g.H.Holding.holds c.args.life.now.id c.args.rows.now.items m m1 slot f.0 q.4 f.1 c.in_default.ensures.free in let fewer = takes.2 in let many = as_many c.args.life.now.id c.args.rows.now.items m.0.leases q.4 in let room = c.requires.rows.1 in let sizes = ap (λ (z : Sizes). z.slots) q.3 in let long = c.args.rows.now.ok.0 in omega arith
 
+pub returns-clause-view : goal.returns-clause-view
+returns-clause-view g c = ap (λ (z : Me _ Acting). z.0) (c.turn.ensures.2) ∙ ap (λ (z : Me _ Acting). z.0) c.exchange.ensures.3
+
 pub returns-clause-noted : goal.returns-clause-noted
 returns-clause-noted g c = λ m loaded told. let m1 = c.args.place.now.me in let slot : ℕ = c.args.slot in let f = loaded in
     let takes = is_new g.H.Holding.holds c.args.life.now.id c.args.rows.now.items m m1 slot f.0 told f.1 c.in_default.ensures.free in let e = c.exchange.ensures in

@@ -54,4 +54,4 @@ invariant_of-local g c = let l = c.args.local.now in let d = l.place.me.0 in let
 
 pub returns-clause-seen : goal.returns-clause-seen
 returns-clause-seen g c = let l = c.args.local.now in
-    λ j. (l.number, (c.seen_in-seen.ensures.under c.in-Some.life.id c.lease_own-at.new.place.me.0.leases c.lease_own-at.ensures.rows.0 ∙ sym (ap life_number c.in-Some.is)) j)
+    λ j. (l.number, (c.seen_like-seen.ensures.under c.in-Some.life.id c.lease_own-at.new.place.me.0.leases c.lease_own-at.ensures.rows.0 ∙ sym (ap life_number c.in-Some.is)) j)

@@ -1,5 +1,5 @@
 use Rattle.std.proofs.Common.{◌∙◌, sym, arith}
-use Rattle.shared_containers.proofs.StillLemmas.{still, one_more, guarded}
+use Rattle.shared_lists.proofs.StillLemmas.{still, one_more, guarded}
 use Rattle.shared_containers.proofs.stack.Stack.for_each.Goals as goal
 
 pub iter-items-requires-clause-open : goal.iter-items-requires-clause-open

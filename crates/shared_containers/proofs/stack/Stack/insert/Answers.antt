@@ -1,4 +1,4 @@
-use Rattle.shared_containers.proofs.StillLemmas.{as_before, still_ready}
+use Rattle.shared_lists.proofs.StillLemmas.{as_before, still_ready}
 use Rattle.shared_containers.proofs.stack.Stack.insert.Goals as goal
 
 pub try_push-requires-clause-ready : goal.try_push-requires-clause-ready

@@ -1,4 +1,4 @@
-use Rattle.shared_containers.proofs.StillLemmas.{as_before, still_ready}
+use Rattle.shared_lists.proofs.StillLemmas.{as_before, still_ready}
 use Rattle.shared_containers.proofs.TakenLemmas.{some_then, popped_behind}
 use Rattle.shared_containers.proofs.stack.Stack.pop_if.Goals as goal
 

@@ -1,7 +1,7 @@
 use Rattle.std.proofs.Common.{◌≡◌, ap, ◌∙◌, sym, arith}
 use Rattle.sdd_domain.specs.Tokens.{own_of}
 use Rattle.shared_containers.specs.Containers.{IsStill}
-use Rattle.shared_containers.proofs.StillLemmas.{still_itself, one_more, guarded}
+use Rattle.shared_lists.proofs.StillLemmas.{still_itself, one_more, guarded}
 use Rattle.shared_containers.proofs.stack.Stack.try_push.Goals as goal
 use Rattle.shared_containers.proofs.stack.Stack.try_push.Goals.{then-f, else-f}
 

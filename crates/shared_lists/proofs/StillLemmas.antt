@@ -7,7 +7,7 @@ use Rattle.sdd_base.specs.declared.status.LocalState.{LocalState}
 use Rattle.sdd_domain.specs.Tokens.{born_of, own_of, nest_in, waiting_of, begun, closed, IsInNestButMisses, IsSame}
 use Rattle.sdd_domain.specs.declared.domain.Domain.{Domain}
 use Rattle.sdd_domain.specs.declared.local.Local.{Local}
-use Rattle.shared_containers.specs.Containers.{IsAsBefore, IsReady, IsStill}
+use Rattle.shared_lists.specs.Lists.{IsAsBefore, IsReady, IsStill}
 
 -- one guard fewer is open after a closing
 pub one_fewer : (m m' : LocalState) → m' ≡ closed m → 0 < m.nesting → m'.nesting + 1 ≡ m.nesting

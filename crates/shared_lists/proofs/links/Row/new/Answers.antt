@@ -3,8 +3,8 @@ use Rattle.std.specs.List.{All}
 use Rattle.std.proofs.lemmas.List.Elements.{All-push}
 use Rattle.sdd_domain.specs.Cells.{cell_number}
 use Rattle.sdd_domain.specs.Tokens.{cell_count}
-use Rattle.shared_containers.proofs.StillLemmas.{as_before, but_for_misses}
-use Rattle.shared_containers.proofs.links.Row.new.Goals as goal
+use Rattle.shared_lists.proofs.StillLemmas.{as_before, but_for_misses}
+use Rattle.shared_lists.proofs.links.Row.new.Goals as goal
 
 pub loop-i-init : goal.loop-i-init
 loop-i-init g c =

@@ -3,8 +3,8 @@ use Rattle.std.specs.List.{All}
 use Rattle.std.specs.Prelude.{vec_len, vec_capacity}
 use Rattle.sdd_domain.specs.Cells.{cell_number}
 use Rattle.sdd_domain.specs.Tokens.{cell_count}
-use Rattle.shared_containers.specs.Containers.{IsAsBefore}
-use Rattle.shared_containers.proofs.links.Row.new.Given as goal
+use Rattle.shared_lists.specs.Lists.{IsAsBefore}
+use Rattle.shared_lists.proofs.links.Row.new.Given as goal
 
 abbrev pub invariant-loop-i : goal.invariant-loop-i
 invariant-loop-i g l = record {
