@@ -55,7 +55,7 @@ impl<K: Ord, V, const S: usize> Model for LocalStore<K, V, S> {
 
     ghost view = { λ a. store_of a.world (shared_cell a.root) a.readers.items };
 
-    ghost invariant = { λ a. IsStore K.cmp a.world (shared_cell a.root) a.readers.items × IsFreeList gap a.readers.items a.free };
+    ghost invariant = { λ a. IsStore K.cmp a.world (shared_cell a.root) a.readers.items × IsFreeList gap a.readers.items (length a.readers.items) a.free };
 }
 
 impl<K: Clone + Ord, V: Clone, const S: usize> LocalStore<K, V, S> {

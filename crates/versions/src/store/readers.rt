@@ -1,6 +1,6 @@
 //! The places of readers: each has a guard, and the version that it loaded under it.
 
-ghost use Rattle.std.specs.Prelude.{◌≡◌, ◌≤◌, ◌<◌, ℕ, Option, None, Some, [], IfSome, IsTrue, ◌↔◌, map, replicate, slice_get, vec_capacity};
+ghost use Rattle.std.specs.Prelude.{◌≡◌, ◌≤◌, ◌<◌, ℕ, Option, None, Some, [], IfSome, IsTrue, ◌↔◌, length, map, replicate, slice_get, vec_capacity};
 ghost use Rattle.std.specs.List.{All};
 ghost use Rattle.std.specs.Option.{option_map};
 ghost use Rattle.sdd_base.specs.State.{value_at};
@@ -85,7 +85,7 @@ pub(crate) fn free_all<K: Ord, V, const S: usize>(
     requires room { count ≤ vec_capacity readers.old }
     requires names { count ≤ vec_capacity free.old }
     ensures readers { readers.new.items ≡ replicate count None }
-    ensures free { IsFreeList gap readers.new.items free.new }
+    ensures free { IsFreeList gap readers.new.items (length readers.new.items) free.new }
 {
     for place in 0..count {
         readers.push_reserved(None);

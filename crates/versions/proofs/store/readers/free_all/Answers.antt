@@ -1,7 +1,6 @@
 use Rattle.std.proofs.Common.{[], ◌∷◌, ◌++◌, None, length, refl, sym, ap, ◌∙◌, arith}
 use Rattle.std.proofs.lemmas.List.{length-replicate}
-use Rattle.sdd_base.proofs.ListLemmas.{lists_grow}
-use Rattle.sdd_base.proofs.SlotLemmas.{replicate-push}
+use Rattle.sdd_base.proofs.ListLemmas.{lists_grow, replicate-push}
 use Rattle.versions.specs.Store.{gap}
 use Rattle.versions.proofs.store.readers.free_all.Goals as goal
 
