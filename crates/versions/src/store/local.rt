@@ -48,6 +48,7 @@ pub struct LocalStore<K: Ord, V, const S: usize> {
 /// outside; `free` names the places without a reader.
 impl<K: Ord, V, const S: usize> Model for LocalStore<K, V, S> {
     ghost use Rattle.sdd_base.specs.Tokens.{shared_cell};
+    ghost use Rattle.std.specs.Prelude.{length};
     ghost use Rattle.sdd_base.specs.View.{IsFreeList};
     ghost use Rattle.versions.specs.Store.{Store, store_of, IsStore, gap};
 
