@@ -1,5 +1,2 @@
 pub mod Made
-pub mod Pushes
 pub mod StillLemmas
-pub mod TagLemmas
-pub mod WalkLemmas
