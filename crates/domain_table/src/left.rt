@@ -25,10 +25,10 @@ use crate::steps::STRIDE;
 use atomic_table::Play;
 use sdd_base::sizes::Sizes;
 
-/// Where it stands what the first participant left.
+/// The number of the first participant's left word.
 const LEFT: usize = 18;
 
-/// A left word tells the last slot below this, and one more than the first slot in multiples of it.
+/// A left word is the last slot, and one more than the first slot times this.
 const FIRST: u64 = 1 << 31;
 
 struct OnTakeLeft;
