@@ -1,11 +1,11 @@
 //! Steps of cells that keep an owner.
 
 ghost use Rattle.sdd_table.specs.Place.{IsSharedCell};
-ghost use Rattle.sdd_base.specs.Tokens.{shared_cell};
+ghost use Rattle.sdd_world.specs.Tokens.{shared_cell};
 
 use crate::stage::{Stage, Thing, told, value};
 use crate::steps::{Found, G, Step};
-use sdd_base::{AtomicShared, Deferred, Link, Owned, Ptr, Shared, Tag, world};
+use sdd_world::{AtomicShared, Deferred, Link, Owned, Ptr, Shared, Tag, world};
 use std::process::Abort;
 
 /// A thing that may be there.

@@ -2,7 +2,7 @@
 
 use crate::stage::{Stage, Thing, count, told, value};
 use crate::steps::{END, Found, G, Step};
-use sdd_base::{Deferred, world};
+use sdd_world::{Deferred, world};
 use std::process::Abort;
 
 impl<'r, R: Abort, J: Deferred> Stage<'r, R, J> {

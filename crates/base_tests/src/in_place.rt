@@ -8,7 +8,7 @@ use crate::steps::Step::{
     ReadShared, Release, Retire, Share, Slots, WriteCell, WriteOwned, WriteShared,
 };
 use crate::steps::{A, B, G, Table};
-use sdd_base::Job;
+use sdd_world::Job;
 
 const ONE_OF_TWO_OWNERS: Table = Table {
     about: "one of two owners is given back",

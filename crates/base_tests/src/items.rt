@@ -8,7 +8,7 @@ use crate::steps::Step::{
     OwnedCell, Participant, Pass, ReadOwned, ReadShared, Release, Retire, See, Share, Slots,
 };
 use crate::steps::{A, B, G, Table};
-use sdd_base::{Job, NoJob};
+use sdd_world::{Job, NoJob};
 
 const THE_LAST_OF_TWO: Table = Table {
     about: "the last of two owners is told",

@@ -10,7 +10,7 @@ use crate::steps::Step::{
     TagIfMarked, TagOfOwned, TagOfRaw, TagOfShared, TakeOwned, TakeShared, Untag, UpdateRaw,
 };
 use crate::steps::{A, B, C, D, G, Point, Table};
-use sdd_base::{Job, Tag};
+use sdd_world::{Job, Tag};
 
 const SWAPPED: Table = Table {
     about: "an owned cell is swapped",

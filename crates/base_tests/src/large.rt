@@ -11,7 +11,7 @@ use crate::steps::Step::{
     OwnedCell, Pass, RawCell, Release, Retire, See, Share, ShareWith, SharedCell, Slots,
 };
 use crate::steps::{A, B, END, G, Row, Table};
-use sdd_base::NoJob;
+use sdd_world::NoJob;
 
 const MANY: usize = 1_000_000;
 
@@ -165,6 +165,8 @@ const WAITING: Table = Table {
             (Own(A, 7), Back(7)),
             (Pass(0, 3), Is(1_000)),
             (Pass(0, 1), Is(0)),
+            (Collector(B), Done),
+            (HandOver(B, 0), Done),
         ]),
         Times(1_000, &[(Own(A, 8), Done), (Retire(A, 0), Done)]),
         Once(&[(Slots, Is(1_000)), (Pass(0, 4), Is(0))]),

@@ -1,4 +1,4 @@
-//! Tests of `sdd_base`, apart from it so that its proofs aren't made twice.
+//! Tests of `sdd_world`, apart from it so that its proofs aren't made twice.
 #![tactic(auto)]
 
 #[cfg(test)]

@@ -2,13 +2,13 @@
 
 ghost use Rattle.std.specs.Prelude.{◌<◌, length};
 ghost use Rattle.sdd_table.specs.Place.{IsShared};
-ghost use Rattle.sdd_base.specs.Tokens.{shared_slot};
+ghost use Rattle.sdd_world.specs.Tokens.{shared_slot};
 
 use crate::nested::Step::{Clone, Collect, Directory, Drop, Pass, Read, Release, Segment, Slots};
 use crate::stage::{count, told};
 use crate::steps::Found::{Done, Is, Yes};
 use crate::steps::{A, B, Found};
-use sdd_base::{Held, Holds, PrivateCollector, Shared, Sizes, World, world};
+use sdd_world::{Held, Holds, PrivateCollector, Shared, Sizes, World, world};
 use std::alloc::Global;
 use std::mem;
 use std::process::Abort;
@@ -21,8 +21,8 @@ pub(crate) enum Item {
 
 impl Holds for Item {
     ghost use Rattle.std.specs.Prelude.{List, [], map, reverse};
-    ghost use Rattle.sdd_base.specs.Holding.{Hold, SharedItem};
-    ghost use Rattle.sdd_base.specs.Tokens.{shared_slot};
+    ghost use Rattle.sdd_world.specs.Holding.{Hold, SharedItem};
+    ghost use Rattle.sdd_world.specs.Tokens.{shared_slot};
     ghost use Rattle.base_tests.specs.declared.nested.Item.{Item, out-Item};
     ghost use Rattle.base_tests.specs.declared.nested.Item.TheOpen as open1;
 

@@ -1,11 +1,11 @@
 //! Steps of items and their owners.
 
 ghost use Rattle.sdd_table.specs.Place.{IsShared};
-ghost use Rattle.sdd_base.specs.Tokens.{shared_slot};
+ghost use Rattle.sdd_world.specs.Tokens.{shared_slot};
 
 use crate::stage::{Stage, Thing, count, told};
 use crate::steps::{Found, Step};
-use sdd_base::{Deferred, ExclusiveAccess, Kept, NotLent, Shared, world};
+use sdd_world::{Deferred, ExclusiveAccess, Kept, NotLent, Shared, world};
 use std::process::Abort;
 
 /// The value before it was written, or why it isn't lent.

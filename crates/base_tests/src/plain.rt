@@ -1,6 +1,6 @@
 //! Values that hold nothing, as items.
 
-use sdd_base::{Holds, NoJob, Plain, Sizes, World, world};
+use sdd_world::{Holds, NoJob, Plain, Sizes, World, world};
 use std::alloc::{AllocError, Global};
 use std::process::Abort;
 

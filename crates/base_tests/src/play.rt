@@ -2,7 +2,7 @@
 
 use crate::stage::Stage;
 use crate::steps::{Part, Row, Table};
-use sdd_base::Deferred;
+use sdd_world::Deferred;
 use std::alloc::Global;
 use std::process::Abort;
 

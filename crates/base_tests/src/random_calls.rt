@@ -6,7 +6,7 @@ use crate::play::are_right;
 use crate::stage::{Stage, told};
 use crate::steps::Found::{Back, Done, Guarded, Is, Tagged};
 use crate::steps::{A, B, Found, G, Row, Step, Table};
-use sdd_base::{Job, Tag};
+use sdd_world::{Job, Tag};
 use std::alloc::{AllocError, Global};
 use std::mem;
 use std::process::Abort;
@@ -277,7 +277,7 @@ impl Plain {
         (Step::IsGuarded, told(self.guards().0 > 0))
     }
 
-    /// A new item, refused exactly where no slot is free. Its value is the number of the call.
+    /// A new item, refused if and only if no slot is free. Its value is the number of the call.
     fn make(&mut self, kind: Kind, value: u64) -> Row {
         let full = self.used == SLOTS;
         let mut at = self.place;

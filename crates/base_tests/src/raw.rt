@@ -2,7 +2,7 @@
 
 use crate::stage::{Stage, Thing, told};
 use crate::steps::{Found, G, Point, Step};
-use sdd_base::{Deferred, RawPtr, Tag, world};
+use sdd_world::{Deferred, RawPtr, Tag, world};
 use std::process::Abort;
 
 /// What a raw pointer is, which is to nothing or to the item that is out.

@@ -8,8 +8,8 @@ use crate::steps::Step::{
     Accelerate, Close, Collect, Collector, Epoch, HandOver, HasGarbage, Open, Own, Pass, Retire,
     Share, Slots,
 };
-use crate::steps::{A, B, G, Row, Table};
-use sdd_base::{Job, Task};
+use crate::steps::{A, B, C, G, Row, Table};
+use sdd_world::{Job, Task};
 use std::alloc::{AllocError, Global};
 use std::sync::Arc;
 use std::sync::atomic::{AtomicU32, Ordering};
@@ -63,6 +63,57 @@ const LATER: Table = Table {
     ],
 };
 
+/// Two collectors take items in turn, so that their chains lie between one another.
+const IN_TURN: Table = Table {
+    about: "two collectors hand over what each keeps",
+    sizes: [2, 6, 0, 0],
+    parts: &[
+        Once(&[
+            (Collector(A), Done),
+            (Collector(C), Done),
+            (Open(G, 0), Done),
+        ]),
+        Times(
+            3,
+            &[
+                (Own(B, 5), Done),
+                (Collect(A, B, G), Done),
+                (Own(B, 6), Done),
+                (Collect(C, B, G), Done),
+            ],
+        ),
+        Once(&[
+            (Slots, Is(6)),
+            (Close(G), Done),
+            (HandOver(A, 0), Done),
+            (Pass(0, 4), Is(3)),
+            (HandOver(C, 1), Done),
+            (Pass(1, 4), Is(0)),
+        ]),
+    ],
+};
+
+/// What was collected at one count is reclaimed by one collect.
+const AT_ONCE: Table = Table {
+    about: "a collect reclaims all that three raises let go",
+    sizes: [1, 4, 0, 0],
+    parts: &[
+        Once(&[(Collector(A), Done), (Open(G, 0), Done)]),
+        Times(3, &[(Own(B, 5), Done), (Collect(A, B, G), Done)]),
+        Once(&[
+            (Close(G), Done),
+            (Pass(0, 3), Is(3)),
+            (Open(G, 0), Done),
+            (Own(B, 6), Done),
+            (Collect(A, B, G), Done),
+            (Slots, Is(1)),
+            (Close(G), Done),
+            (HandOver(A, 0), Done),
+            (Pass(0, 4), Is(0)),
+        ]),
+    ],
+};
+
 const SIXTY_FOURTH: Table = Table {
     about: "the 64th closing scans where something was retired",
     sizes: [2, 1, 0, 0],
@@ -86,7 +137,7 @@ const SIXTY_FOURTH: Table = Table {
     ],
 };
 
-const TABLES: &[Table] = &[HANDED_OVER, LATER, SIXTY_FOURTH];
+const TABLES: &[Table] = &[HANDED_OVER, LATER, IN_TURN, AT_ONCE, SIXTY_FOURTH];
 
 #[test]
 fn collectors_and_closings_reclaim(rt: HostRuntime) {

@@ -2,9 +2,9 @@
 //! kept, and the same call then succeeds.
 
 ghost use Rattle.std.specs.Prelude.{◌≡◌};
-ghost use Rattle.sdd_base.specs.State.{fresh};
+ghost use Rattle.sdd_world.specs.State.{fresh};
 
-use sdd_base::{PrivateCollector, Sizes, World, world};
+use sdd_world::{PrivateCollector, Sizes, World, world};
 use std::alloc::{AllocError, Global};
 use std::process::Abort;
 
@@ -65,6 +65,30 @@ fn makes_and_retires<R: Abort>(rt: &R, alloc: Global) -> bool {
         Ok(()) if found == (0, 7, 1) => met,
         _ => panic!(rt; "nothing is out, and one slot was in use"),
     }
+}
+
+// A collector made behind the place, which is made whichever allocation is refused: it takes no memory.
+fn makes_a_collector<R: Abort>(rt: &R, alloc: Global) {
+    let mut met = false;
+    let mut w = numbers(rt, alloc, &mut met);
+    let Ok(owned) = world::owned::new(&mut w, 7) else {
+        panic!(rt; "a slot is free");
+    };
+    world::owned::retire(&mut w, owned, 1);
+    let Ok(collector) = world::private_collector::new(alloc, &w) else {
+        panic!(rt; "a collector takes no memory");
+    };
+    world::private_collector::hand_over(&mut w, collector, 1);
+    let used = w.slots_in_use();
+    match w.close() {
+        Ok(()) if used == 1 => {}
+        _ => panic!(rt; "nothing is out, and one slot was in use"),
+    }
+}
+
+#[test]
+fn a_refusal_of_memory_leaves_a_collector_made(rt: HostRuntime) {
+    makes_a_collector(&rt, rt.alloc());
 }
 
 #[test]

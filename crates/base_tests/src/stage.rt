@@ -3,10 +3,10 @@
 
 ghost use Rattle.std.specs.Prelude.{◌≡◌, ◌<◌, length};
 ghost use Rattle.sdd_table.specs.Place.{IsSized, IsOpen, IsOwned, IsShared, IsOwnedCell, IsSharedCell};
-ghost use Rattle.sdd_base.specs.Tokens.{owned_slot, shared_slot, owned_cell, shared_cell, guard_participant};
+ghost use Rattle.sdd_world.specs.Tokens.{owned_slot, shared_slot, owned_cell, shared_cell, guard_participant};
 
 use crate::steps::{Found, G, Table};
-use sdd_base::{
+use sdd_world::{
     AtomicOwned, AtomicRaw, AtomicShared, Deferred, Owned, PrivateCollector, Ptr, RawPtr, Shared,
     Sizes, World, WorldGuard, world,
 };

@@ -1,6 +1,6 @@
 //! Steps of the caller of a place as data, so that a test is a table of what it does and what it finds.
 
-use sdd_base::Tag;
+use sdd_world::Tag;
 
 /// Where the caller has what it made: five places, of which the last one is for a guard, and behind all that there are.
 pub(crate) const A: usize = 0;

@@ -1,7 +1,7 @@
 //! Texts of words and refusals.
 
-use sdd_base::status::{Cell, Status};
-use sdd_base::{GuardsOpen, Nested, NoSlot, NotLent, Plain, Sizes, Tag};
+use sdd_world::status::{Cell, Status};
+use sdd_world::{GuardsOpen, Nested, NoSlot, NotLent, Plain, Sizes, Tag};
 use std::alloc::{AllocError, Global};
 
 /// Refusals by their names, sizes, and words with their parts.

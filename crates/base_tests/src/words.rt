@@ -1,7 +1,7 @@
 //! Epochs, tags, and counts at their ends.
 
-use sdd_base::status::is_last;
-use sdd_base::{Epoch, Tag};
+use sdd_world::status::is_last;
+use sdd_world::{Epoch, Tag};
 
 /// What the epochs 63 and 62 are followed by: the next one, that one's epoch before, that of the next generation, and the one of
 /// the greatest count.

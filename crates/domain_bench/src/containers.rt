@@ -15,7 +15,7 @@ use std::sync::Wait;
 use std::thread;
 use std::thread::Threads;
 
-/// A stack and a queue, which must be spent by `end`.
+/// A stack and a queue, which must be consumed by `end`.
 struct Containers {
     links: Links<u64>,
     stack: Stack<u64>,

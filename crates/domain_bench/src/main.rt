@@ -21,14 +21,14 @@ ghost use Rattle.sdd_domain.specs.Cells.{cell_number};
 ghost use Rattle.sdd_domain.specs.Tokens.{place_of, home_of, hand_of, own_of, cell_count, nest_in, IsSame, IsSameButMisses};
 
 use crate::containers::rounds_of_all;
-use sdd_base::epoch::Epoch;
-use sdd_base::sizes::Sizes;
-use sdd_base::tag::Tag;
 use sdd_domain::atomic_shared::AtomicShared;
 use sdd_domain::domain::Domain;
 use sdd_domain::guard::Guard;
 use sdd_domain::local::Local;
 use sdd_domain::shared::Shared;
+use sdd_plain::epoch::Epoch;
+use sdd_plain::sizes::Sizes;
+use sdd_plain::tag::Tag;
 use std::sync::Wait;
 use std::{env, io, thread};
 

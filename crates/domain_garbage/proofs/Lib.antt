@@ -1,1 +1,2 @@
-pub mod Bagged
+pub mod RunLemmas
+pub mod Keeping

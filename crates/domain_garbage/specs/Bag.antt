@@ -4,27 +4,28 @@ use Rattle.atomic_table.specs.Table.{Me}
 use Rattle.sdd_homes.specs.declared.Garbage.{Garbage}
 use Rattle.sdd_homes.specs.declared.Lease.{Lease}
 use Rattle.sdd_homes.specs.declared.Owner.{Owner}
+use Rattle.domain_table.specs.Bags.{IsBag}
+use Rattle.domain_table.specs.Chains.{AllBelow}
 use Rattle.domain_table.specs.declared.board.Acting.{Acting}
-use Rattle.domain_garbage.specs.declared.private.Noted.{Noted}
+use Rattle.domain_garbage.specs.declared.private.Kept.{Kept}
 
 -- an item in one is told by its slot and its note
-abbrev pub noted_told : Noted → ℕ × ℕ
-noted_told n = (n.slot, n.note)
-
 abbrev pub garbage_told : Garbage → ℕ × ℕ
 garbage_told w = (w.slot, w.age)
 
--- these are the items in the bag, in their order
-abbrev pub Notes : List Garbage → List Noted → Type 0
-Notes ws ns = map garbage_told ws ≡ map noted_told ns
+-- these items are in the bag: they are its chain, and have these notes
+pub record IsKept (n : ℕ) (ws : List Garbage) (k : Kept) : Type 0 where
+  pub chain : IsBag ws k.chain
+  pub notes : k.notes ≡ map (λ (w : Garbage). w.age) ws
+  pub below : AllBelow n ws
 
 -- all that was in the private bag is retired, besides what waited
 abbrev pub HandsAll : {S : Type 0} → Me S Acting → Me S Acting → Type 0
 HandsAll m m' = (ws : List Garbage) × (length ws ≡ length m.0.waits + length m.0.collected) × (m' ≡ (record m.0 { collected = []; waits = ws }, m.1))
 
 -- what has been in the bag the longest was noted less than three below the count
-abbrev pub NoneDue : ℕ → List Noted → Type 0
-NoneDue count ns = (ms : List Noted) (n : Noted) → ns ≡ ms ++ n ∷ [] → count < n.note + 3
+abbrev pub NoneDue : ℕ → List Garbage → Type 0
+NoneDue count ws = (vs : List Garbage) (w : Garbage) → ws ≡ vs ++ w ∷ [] → count < w.age + 3
 
 -- the private bag of the first view
 abbrev pub bag_in : List Acting → List Garbage

@@ -5,5 +5,6 @@
 #![tactic(auto)]
 
 pub mod emptying;
+pub mod notes;
 pub mod private;
 pub mod reclaiming;

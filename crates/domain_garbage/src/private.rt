@@ -1,29 +1,35 @@
 //! Private bags: items that wait beside the bags of participants. Each has a seat of its own, which comes to the seat of a
 //! participant for a call.
+//!
+//! A private bag takes no memory: its items are a chain of link words, of which it knows the ends, and beside that it knows
+//! the notes along it. An item comes in or goes out, and all that is in it is handed over, by two steps at most.
 
 ghost use Rattle.std.specs.Prelude.{◌≡◌, ℕ, ◌+◌, ◌<◌, ◌≤◌, ◌++◌, ◌∷◌, ◌||◌, [], true, List, Some, nat_lt, length, map, IsSome, IfSome, IfNone, IsTrue, IsFalse};
-ghost use Rattle.std.specs.VecDeque.{deque_len, deque_capacity};
+ghost use Rattle.std.specs.VecDeque.{deque_capacity};
+ghost use Rattle.sdd_steps.specs.State.{Has};
 ghost use Rattle.sdd_steps.specs.Steps.{is_ready, is_inside};
 ghost use Rattle.sdd_homes.specs.declared.Garbage.{Garbage};
 ghost use Rattle.domain_table.specs.Fitting.{FitsSizes};
 ghost use Rattle.domain_table.specs.Leases.{row_told, lease_told, row_slots, all_below, IsFirst};
 ghost use Rattle.domain_table.specs.Ledgers.{WaitsIn};
-ghost use Rattle.domain_table.specs.Plays.{reread_then, hand_over_then, handing_over, without_bag, bag_alone, with_bag};
+ghost use Rattle.domain_table.specs.Plays.{reread_then, hand_all_then, without_bag, bag_alone, with_bag};
 ghost use Rattle.domain_table.specs.Views.{spent, gathering, rereading};
-ghost use Rattle.domain_garbage.specs.Bag.{Notes, NoneDue, HandsAll, GivesBack, PutsIn};
+ghost use Rattle.domain_garbage.specs.Bag.{IsKept, NoneDue, HandsAll, GivesBack, PutsIn, garbage_told};
 
+use crate::notes::Notes;
 use atomic_table::{Join, Play, Split};
 use calm::Calm;
 use domain_table::aim::{Collect, Retire};
-use domain_table::bags::Bags;
+use domain_table::bags::{Bags, Ends};
 use domain_table::board::{Acting, Home, Place, Stored, Words};
 use domain_table::holding::Holding;
 use domain_table::owners::release;
+use domain_table::private_chains::{join_noted, take_noted};
 use domain_table::row::Row;
 use domain_table::steps::sit;
 use parted::One;
-use sdd_base::sizes::Sizes;
-use sdd_base::status::LocalState;
+use sdd_plain::local_state::LocalState;
+use sdd_plain::sizes::Sizes;
 use std::collections::VecDeque;
 
 /// An item in a private bag.
@@ -35,16 +41,35 @@ pub struct Noted {
     pub note: u64,
 }
 
+/// What is in a private bag: where its chain begins and ends, and the notes along it.
+#[derive(Drop)]
+pub struct Kept {
+    chain: Option<Ends>,
+    notes: Notes,
+}
+
+impl Kept {
+    /// Nothing.
+    pub fn new() -> Kept
+        ensures { (n : ℕ) → IsKept n [] result }
+    {
+        Kept {
+            chain: None,
+            notes: Notes::new(),
+        }
+    }
+}
+
 struct OnReread;
 
 impl<T> Play<Home<T>, Acting> for OnReread {
     ghost then = { reread_then };
 }
 
-struct OnHandOver;
+struct OnHandAll;
 
-impl<T> Play<Home<T>, Acting> for OnHandOver {
-    ghost then = { hand_over_then };
+impl<T> Play<Home<T>, Acting> for OnHandAll {
+    ghost then = { hand_all_then };
 }
 
 struct Leaving;
@@ -100,61 +125,81 @@ pub fn reread<T, H: Holding<T>>(words: &Words<T, H>, place: &mut Place<T>) -> u6
     ensures noted { place.new.me ≡ (record place.old.me.0 { known = rereading result place.old.me.0.known }, place.old.me.1) }
     ensures least { place.old.me.0.born ≤ result }
     ensures most { result ≤ place.old.me.0.born + 1 }
+    ensures noted_most { (w : Garbage) → Has place.old.me.0.collected w → w.age ≤ result }
 {
     words.load::<OnReread>(place, 0)
 }
 
-/// Retires what is in the private bag the longest. No word changes.
-fn hand_over<T, H: Holding<T>>(words: &Words<T, H>, place: &mut Place<T>)
-    requires table { (place.old.table_id ≡ words.now.table_id) × (1 < words.now.table_id.words) }
-    requires ready { (place.old.me.0.kind ≡ 1) × (is_ready place.old.me.0.known ≡ true) }
-    requires noted { (w : Garbage) × (ws : List Garbage) × (place.old.me.0.collected ≡ ws ++ w ∷ []) }
-    ensures seat { (place.new.table_id ≡ place.old.table_id) × (place.new.id ≡ place.old.id) }
-    ensures low { (w : Garbage) (ws : List Garbage) → place.old.me.0.collected ≡ ws ++ w ∷ [] → w.slot < place.old.me.0.sizes.slots }
-    ensures handed { (w : Garbage) (ws : List Garbage) → place.old.me.0.collected ≡ ws ++ w ∷ [] → place.new.me ≡ (handing_over w ws place.old.me.0, place.old.me.1) }
-{
-    let _ = words.load::<OnHandOver>(place, 1);
-}
-
-/// Retires all that is in the private bag that is at the participant's seat, what is in it the longest first: it is in the
-/// participant's current bag then.
+/// Retires all that is in the private bag that is at the participant's seat, in one step: it is in the participant's current
+/// bag then, in its order, and one link word at most is written.
 pub fn hand_all<T, H: Holding<T>>(
     words: &Words<T, H>,
     place: &mut Place<T>,
     sizes: &Sizes,
-    waiting: VecDeque<Noted>,
+    kept: Kept,
     bags: &mut Bags,
 )
     requires table { FitsSizes words.now.table_id words.now.key.sizes place.old.table_id place.old.me.0.sizes sizes.now }
     requires ready { (place.old.me.0.kind ≡ 1) × (is_ready place.old.me.0.known ≡ true) }
-    requires noted { Notes place.old.me.0.collected waiting.items }
+    requires kept { IsKept sizes.now.slots place.old.me.0.collected kept }
     requires waits { WaitsIn sizes.now.slots place.old.me.0.waits bags.old }
     ensures seat { (place.new.table_id ≡ place.old.table_id) × (place.new.id ≡ place.old.id) }
     ensures handed { HandsAll place.old.me place.new.me }
     ensures waits { WaitsIn sizes.now.slots place.new.me.0.waits bags.new }
     ensures bags { bags.new.due ≡ bags.old.due }
 {
-    let mut waiting = waiting;
-    while let Some(noted) = waiting.pop_back() {
-        hand_over(words, place);
-        bags.retire(words, place, sizes, noted.slot);
-    }
+    let _ = words.load::<OnHandAll>(place, 1);
+    bags.take_over(words, place, sizes, kept.chain);
 }
 
-/// Takes what is in a private bag the longest out of it, if its note lies three or more below the count.
-pub fn take_due(waiting: &mut VecDeque<Noted>, count: u64) -> Option<Noted>
-    ensures taken { IfSome result (λ n. (waiting.old.items ≡ waiting.new.items ++ n ∷ []) × (n.note + 3 ≤ count)) }
-    ensures less { IfSome result (λ _. deque_len waiting.new + 1 ≡ deque_len waiting.old) }
-    ensures none { IfNone result ((waiting.new.items ≡ waiting.old.items) × NoneDue count waiting.old.items) }
-    ensures same { deque_capacity waiting.new ≡ deque_capacity waiting.old }
+/// Takes what is in the private bag at the participant's seat the longest out of its chain, if its note lies three or more
+/// below the count. It stays noted, until it is reclaimed.
+pub fn take_due<T, H: Holding<T>>(
+    words: &Words<T, H>,
+    place: &mut Place<T>,
+    sizes: &Sizes,
+    kept: &mut Kept,
+    count: u64,
+) -> Option<usize>
+    requires table { FitsSizes words.now.table_id words.now.key.sizes place.old.table_id place.old.me.0.sizes sizes.now }
+    requires acts { place.old.me.0.kind ≡ 1 }
+    requires kept { IsKept sizes.now.slots place.old.me.0.collected kept.old }
+    ensures seat { (place.new.table_id ≡ place.old.table_id) × (place.new.id ≡ place.old.id) × (place.new.me ≡ place.old.me) }
+    ensures none { IfNone result (IsKept sizes.now.slots place.old.me.0.collected kept.new × NoneDue count place.old.me.0.collected) }
+    ensures taken { IfSome result (λ slot. (ws : List Garbage) × (w : Garbage) × (place.old.me.0.collected ≡ ws ++ w ∷ []) × (w.slot ≡ slot) × (w.age + 3 ≤ count) × IsKept sizes.now.slots ws kept.new) }
 {
-    let Some(last) = waiting.back() else {
+    let Some(note) = kept.notes.oldest() else {
         return None;
     };
-    if count < 3 || last.note > count - 3 {
+    if count < 3 || note > count - 3 {
         return None;
     }
-    waiting.pop_back()
+    let (slot, chain) = take_noted(words, place, sizes, kept.chain);
+    kept.chain = chain;
+    kept.notes.take();
+    slot
+}
+
+/// What has just come into the private bag, in the slot that is told, comes behind all else of its chain, with its note.
+fn keep<T, H: Holding<T>>(
+    words: &Words<T, H>,
+    place: &mut Place<T>,
+    sizes: &Sizes,
+    kept: &mut Kept,
+    noted: Noted,
+)
+    requires table { FitsSizes words.now.table_id words.now.key.sizes place.old.table_id place.old.me.0.sizes sizes.now × (noted.slot < sizes.now.slots) }
+    requires acts { place.old.me.0.kind ≡ 1 }
+    requires came { (w : Garbage) × (ws : List Garbage) × (place.old.me.0.collected ≡ w ∷ ws) × (w.slot ≡ noted.slot) × (w.age ≡ noted.note) × IsKept sizes.now.slots ws kept.old × (length ws < sizes.now.slots) × ((v : Garbage) → Has ws v → v.age ≤ noted.note) × NoneDue noted.note ws }
+    ensures seat { (place.new.table_id ≡ place.old.table_id) × (place.new.id ≡ place.old.id) }
+    ensures kept { (cs : List Garbage) × IsKept sizes.now.slots cs kept.new × (map garbage_told cs ≡ map garbage_told place.old.me.0.collected) × (place.new.me ≡ (record place.old.me.0 { collected = cs }, place.old.me.1)) }
+{
+    let alone = Ends {
+        first: noted.slot,
+        last: noted.slot,
+    };
+    kept.chain = join_noted(words, place, sizes, Some(alone), kept.chain);
+    kept.notes.put(noted.note);
 }
 
 /// Releases the owner that is first in hand, whose item is in `slot`, under open guards: its part is joined to those of
@@ -194,7 +239,7 @@ pub fn put_in<T, H: Holding<T>>(
     sizes: &Sizes,
     number: usize,
     rows: &mut VecDeque<Row<T>>,
-    waiting: &mut VecDeque<Noted>,
+    kept: &mut Kept,
     noted: Noted,
     owner: One<Stored<T>>,
 ) -> bool
@@ -203,20 +248,22 @@ pub fn put_in<T, H: Holding<T>>(
     requires open { (is_inside place.old.me.0.known ≡ true) × (place.old.me.0.known.reread ≡ Some noted.note) }
     requires owner { IsFirst place.old.me.0 noted.slot owner.part.life.id × IsSome owner.part.seen.value }
     requires rows { ((life : ℕ) × (map row_told rows.old.items ≡ map (lease_told life) place.old.me.0.leases)) × (all_below sizes.now.slots (row_slots rows.old.items) ≡ true) }
-    requires noted { Notes place.old.me.0.collected waiting.old.items × (deque_capacity waiting.old ≡ sizes.now.slots) }
+    requires kept { IsKept sizes.now.slots place.old.me.0.collected kept.old }
+    requires most { (w : Garbage) → Has place.old.me.0.collected w → w.age ≤ noted.note }
+    requires young { NoneDue noted.note place.old.me.0.collected }
     ensures seat { (place.new.table_id ≡ place.old.table_id) × (place.new.id ≡ place.old.id) }
     ensures given { PutsIn place.old.me place.new.me }
     ensures rows { (life : ℕ) → map row_told rows.old.items ≡ map (lease_told life) place.old.me.0.leases → map row_told rows.new.items ≡ map (lease_told life) place.new.me.0.leases }
     ensures same { (deque_capacity rows.new ≡ deque_capacity rows.old) × (row_slots rows.new.items ≡ row_slots rows.old.items) }
-    ensures noted { Notes place.new.me.0.collected waiting.new.items × (deque_capacity waiting.new ≡ deque_capacity waiting.old) }
-    ensures last { IsTrue result → waiting.new.items ≡ noted ∷ waiting.old.items }
-    ensures more { IsFalse result → waiting.new.items ≡ waiting.old.items }
+    ensures kept { IsKept sizes.now.slots place.new.me.0.collected kept.new }
+    ensures last { IsTrue result → map garbage_told place.new.me.0.collected ≡ (noted.slot, noted.note) ∷ map garbage_told place.old.me.0.collected }
+    ensures more { IsFalse result → place.new.me.0.collected ≡ place.old.me.0.collected }
 {
     let left = release::<T, H, Collect>(words, place, sizes, number, rows, noted.slot, owner);
     if left > 0 {
         return false;
     }
-    waiting.push_front_reserved(noted);
+    keep(words, place, sizes, kept, noted);
     true
 }
 

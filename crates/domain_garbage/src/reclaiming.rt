@@ -18,7 +18,7 @@ use domain_table::holding::Holding;
 use domain_table::homes::{deed_of, let_go, parts_of};
 use domain_table::stored::take_out;
 use parted::Part;
-use sdd_base::sizes::Sizes;
+use sdd_plain::sizes::Sizes;
 
 /// Takes the parts of participant `at` out of its home, the last one that has some. The home is empty then.
 fn gather_home<T, H: Holding<T>>(

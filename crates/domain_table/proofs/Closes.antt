@@ -6,7 +6,7 @@ use mathlib.Core.Option.{some, none}
 use native.Mathlib.Decide.{ℕ_discrete}
 use Rattle.atomic_table.specs.Table as table
 use Rattle.atomic_table.specs.Table.{Me, step, Act, keeps, gives, chain, Allows}
-use Rattle.sdd_base.specs.declared.sizes.Sizes.{Sizes}
+use Rattle.sdd_plain.specs.declared.sizes.Sizes.{Sizes}
 use Rattle.sdd_steps.specs.declared.participant.Phase.TheVariants.{Opened}
 use Rattle.sdd_steps.specs.declared.step.Step.TheVariants.{Close}
 use Rattle.sdd_steps.specs.declared.item.Item.{Item}

@@ -17,7 +17,7 @@ use Rattle.sdd_homes.specs.Hands.{items_of}
 use Rattle.sdd_homes.specs.Book.{Content, blank, Book}
 use Rattle.sdd_homes.specs.Lying.{Lying}
 use Rattle.sdd_homes.proofs.LyingLemmas.{gives_high}
-use Rattle.sdd_base.specs.declared.sizes.Sizes.{Sizes}
+use Rattle.sdd_plain.specs.declared.sizes.Sizes.{Sizes}
 use Rattle.domain_table.specs.Views.{IsBare, spent, rested}
 use Rattle.domain_table.specs.Items.{Grip, Rests, Carries, Items}
 use Rattle.domain_table.specs.Layout.{state_word, claim_word, epoch_words, all_homes, all_spares, shown}

@@ -8,7 +8,7 @@ use lib.ListN.{get_elem?}
 use Rattle.atomic_table.specs.Table as table
 use Rattle.atomic_table.specs.Table.{State, Me, step, Act, gives, takes, chain, stepped, Allows}
 use Rattle.atomic_table.proofs.Lists.{set_else}
-use Rattle.sdd_base.specs.declared.sizes.Sizes.{Sizes}
+use Rattle.sdd_plain.specs.declared.sizes.Sizes.{Sizes}
 use Rattle.sdd_steps.specs.declared.item.Cell.{Cell}
 use Rattle.sdd_steps.specs.State.{At, item_at}
 use Rattle.sdd_steps.specs.Steps.{is_inside, is_ready}

@@ -1,10 +1,10 @@
 -- a participant retires what is in the private bag that is at its seat
-use Rattle.std.proofs.Common.{◌≡◌, ◌≢◌, true, ℕ, ◌<◌, List, length, [], ◌∷◌, ◌++◌, get_or, set, sym, refl, ap, ◌∙◌, subst, ⊎_elim, inl, inr}
+use Rattle.std.proofs.Common.{◌≡◌, ◌≢◌, true, ℕ, zero, suc, List, length, [], ◌∷◌, ◌++◌, get_or, set, sym, refl, ap, ◌∙◌, subst, ⊎_elim, inl, inr, arith}
 use mathlib.Core.Option.{some, none}
 use lib.ListN.{get_elem?}
 use lib.Seq.{set-get_or}
 use Rattle.atomic_table.specs.Table.{State, Me, step, keeps, Allows}
-use Rattle.sdd_base.specs.declared.sizes.Sizes.{Sizes}
+use Rattle.sdd_plain.specs.declared.sizes.Sizes.{Sizes}
 use Rattle.sdd_steps.specs.declared.item.Item.{Item}
 use Rattle.sdd_steps.specs.declared.item.ItemState.{ItemState}
 use Rattle.sdd_steps.specs.declared.item.ItemState.TheVariants.{Retired, Collected, Waiting, Reclaimed}
@@ -19,19 +19,19 @@ use Rattle.sdd_homes.specs.Book.{Content}
 use Rattle.sdd_homes.specs.Reasons.{Loads}
 use Rattle.domain_table.specs.Items.{Grip, HasState, IsWaiting, IsNoted, Private, IsLinked, Distinct, Items}
 use Rattle.domain_table.specs.Rule.{Runs, Shows}
-use Rattle.domain_table.specs.Plays.{handing_over, hand_over_then}
+use Rattle.domain_table.specs.Plays.{handing_over, taken_all, hand_all_then}
 use Rattle.domain_table.specs.declared.board.Acting.{Acting}
 use Rattle.domain_table.specs.declared.board.Plan.{Plan}
-use Rattle.domain_table.proofs.Crowds.{fewer_beside}
+use Rattle.atomic_table.proofs.Lists.{set_again}
 use Rattle.domain_table.proofs.Taken as taken
 use Rattle.domain_table.proofs.Taken.{and_true}
 use Rattle.domain_table.proofs.Looks.{has_last, has_more}
 use Rattle.domain_table.proofs.Moves.{items_change, reads_only}
 use Rattle.domain_table.proofs.Privates.{private_new}
-use Rattle.domain_table.proofs.Reclaims.{init_distinct, snoc_same}
+use Rattle.domain_table.proofs.Reclaims.{init_distinct}
 use Rattle.domain_table.proofs.Stirred.{Stirred, still_left, grip_set, seated}
 use Rattle.domain_table.proofs.Stirred as items
-use Rattle.domain_table.proofs.Takeovers.{stirred_set}
+use Rattle.domain_table.proofs.Takeovers.{stirred_set, no_more, set_twice, taken_snoc, unsnoc}
 
 module _ (S : Type 0) (IsIn : Content → S → Type 0) (plan : Plan) where
   module _ (s : State S Acting) (r : Shows IsIn plan s) (id : ℕ) (d : Acting) (w : Garbage) (ws : List Garbage) (at : get_elem? s.views id ≡ some d) (kind : d.kind ≡ 1) (ready : is_ready d.known ≡ true) (last : d.collected ≡ ws ++ w ∷ []) where
@@ -41,7 +41,7 @@ module _ (S : Type 0) (IsIn : Content → S → Type 0) (plan : Plan) where
     abbrev i : ℕ
     i = w.item
 
-    pub there : Has d.collected w
+    there : Has d.collected w
     there = subst (λ (z : List Garbage). Has z w) (sym last) (has_last ws w)
 
     was_noted : IsNoted r.state.items r.book.slot_of w
@@ -123,15 +123,28 @@ module _ (S : Type 0) (IsIn : Content → S → Type 0) (plan : Plan) where
         (λ v _ has. ⊎_elim (λ (e : record w { age = 0 } ≡ v). subst (IsLinked plan.sizes s.words) e (r.items.links.notes id d w at there)) (λ (t : Has d.waits v). r.items.links.waits id d v at kind t) has)
         (λ v has. r.items.links.notes id d v at (was_there v has)) r.items.links.lefts)
 
-    pub shown_hand : (m : ℕ) → Shows IsIn plan record { words = set s.words m (get_or s.words m 0); homes = s.homes; views = views' }
+    shown_hand : (m : ℕ) → Shows IsIn plan record { words = set s.words m (get_or s.words m 0); homes = s.homes; views = views' }
     shown_hand m = subst (λ xs. Shows IsIn plan record { words = xs; homes = s.homes; views = views' }) (sym (set-get_or s.words m 0))
         (items_change S IsIn plan s r id d d' core s.words s.homes r.book at kind refl refl refl refl runs refl refl (reads_only S IsIn plan s r id d d' at kind refl) r.lefts items_now)
 
-  pub hands_over : (slots id i : ℕ) (me : Me S Acting) (w : Garbage) (ws : List Garbage) → me.0.kind ≡ 1 → is_ready me.0.known ≡ true → me.0.collected ≡ ws ++ w ∷ [] → Allows (Shows IsIn plan) slots id me i (λ m. m) (hand_over_then (step slots i 0 0 none) me)
-  hands_over slots id i me w ws kind ready last s r _ at _ = let h = r.items.private.noted id me.0 w at (there s r id me.0 w ws at kind ready last) in let low = (r.items.standing w.item h.0 h.1 (λ q e. let bad : Collected w.age ≡ Reclaimed q = sym h.2 ∙ e in absurd (cc))).0 in (
-    handing_over w ws me.0,
+  abbrev all_of : Acting → Acting
+  all_of d = record d { collected = []; waits = taken_all d.collected d.waits }
+
+  -- one step on one word hands over all that is in the private bag, by as many single steps
+  shown_all : (n : ℕ) (s : State S Acting) (r : Shows IsIn plan s) (id : ℕ) (d : Acting) → get_elem? s.views id ≡ some d → d.kind ≡ 1 → is_ready d.known ≡ true → length d.collected ≡ n → Shows IsIn plan record { words = s.words; homes = s.homes; views = set s.views id (all_of d) }
+  shown_all zero s r id d at kind ready none_ = let nil : d.collected ≡ [] = no_more d.collected none_ in let same : all_of d ≡ d = (λ j. record d { collected = sym nil j; waits = taken_all (nil j) d.waits }) in
+      subst (λ (vs : List Acting). Shows IsIn plan record { words = s.words; homes = s.homes; views = vs }) (sym (ap (set s.views id) same ∙ set_again s.views id d at)) r
+  shown_all (suc m) s r id d at kind ready more = let t = unsnoc d.collected m more in let w = t.1 in let ws = t.0 in let d1 = handing_over w ws d in let s1 : State S Acting = record { words = s.words; homes = s.homes; views = set s.views id d1 } in
+      let r1 : Shows IsIn plan s1 = subst (λ xs. Shows IsIn plan record { words = xs; homes = s.homes; views = set s.views id d1 }) (set-get_or s.words 0 0) (shown_hand s r id d w ws at kind ready t.2 0) in
+      let after = shown_all m s1 r1 id d1 (set_here s.views id d1 d at) kind ready t.3 in
+      let same : all_of d1 ≡ all_of d = (λ j. record d { collected = []; waits = (sym (taken_snoc ws d.waits w) ∙ ap (λ zs. taken_all zs d.waits) (sym t.2)) j }) in
+      subst (λ (vs : List Acting). Shows IsIn plan record { words = s.words; homes = s.homes; views = vs }) (set_twice s.views id d1 (all_of d1) ∙ ap (set s.views id) same) after
+
+  pub hands_all : (slots id i : ℕ) (me : Me S Acting) → me.0.kind ≡ 1 → is_ready me.0.known ≡ true → Allows (Shows IsIn plan) slots id me i (λ m. m) (hand_all_then (step slots i 0 0 none) me)
+  hands_all slots id i me kind ready s r _ at _ = (
+    all_of me.0,
     keeps,
     tt,
-    shown_hand s r id me.0 w ws at kind ready last i,
-    λ w' ws' last'. let same = snoc_same ws ws' w w' (sym last ∙ last') in (subst (λ (z : Garbage). z.slot < me.0.sizes.slots) same.1 (subst (λ (z : Sizes). w.slot < z.slots) (sym (r.items.seats id me.0 at kind).sizes_are) (subst (λ k. k < plan.sizes.slots) h.4 low)), λ j. (handing_over (same.1 j) (same.0 j) me.0, me.1)),
+    subst (λ xs. Shows IsIn plan record { words = xs; homes = s.homes; views = set s.views id (all_of me.0) }) (sym (set-get_or s.words i 0)) (shown_all (length me.0.collected) s r id me.0 at kind ready refl),
+    refl,
   )

@@ -8,7 +8,7 @@ use lib.ListN.{get_elem?}
 use lib.Seq.{set-get_or}
 use Rattle.atomic_table.specs.Table as table
 use Rattle.atomic_table.specs.Table.{State, Me, step, stepped, gives, Allows}
-use Rattle.sdd_base.specs.declared.sizes.Sizes.{Sizes}
+use Rattle.sdd_plain.specs.declared.sizes.Sizes.{Sizes}
 use Rattle.sdd_steps.specs.State.{Has}
 use Rattle.sdd_steps.proofs.ListLemmas.{put, put_here, put_else, set_else, same_at}
 use Rattle.sdd_homes.specs.declared.Lease.{Lease}

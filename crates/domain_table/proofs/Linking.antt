@@ -22,10 +22,10 @@ use Rattle.sdd_homes.proofs.HandLemmas.{owned_set}
 use Rattle.domain_table.specs.Layout.{state_word, claim_word, cell_word, slot_word, link_word, shown}
 use Rattle.domain_table.specs.Items.{owners_in_hand, Grip, Owns, HasState, IsWaiting, IsNoted, IsLeftover, Private, Distinct, IsLinked, Links, Carries, Items}
 use Rattle.domain_table.specs.Rule.{Shows}
-use Rattle.domain_table.specs.Plays.{linked_to, linking, HoldsSlot, SlotsApart, TellsLink, load_link_then, follow_then}
+use Rattle.domain_table.specs.Plays.{linked_to, linking, HoldsSlot, SlotsApart, TellsLink, load_link_then, follow_then, follow_noted_then}
 use Rattle.domain_table.specs.declared.board.Acting.{Acting}
 use Rattle.domain_table.specs.declared.board.Plan.{Plan}
-use Rattle.sdd_base.specs.declared.sizes.Sizes.{Sizes}
+use Rattle.sdd_plain.specs.declared.sizes.Sizes.{Sizes}
 use Rattle.domain_table.proofs.LeftWords.{lefts_behind}
 use Rattle.domain_table.proofs.Moves.{Writes, items_change, idles}
 use Rattle.domain_table.proofs.Stirred.{grip_set, waits_set}
@@ -234,4 +234,16 @@ module _ (S : Type 0) (IsIn : Content → S → Type 0) (plan : Plan) where
     shown_link s r id me.0 at kind v.slot (suc w.slot) (v, inl there, refl),
     λ xs' w' v' ys' is' word first. let words : link_word plan.sizes v.slot ≡ link_word plan.sizes v'.slot = word ∙ ap (λ (z : Sizes). link_word z v'.slot) sizes in let same : v.slot ≡ v'.slot = omega arith in
         λ j. ((ap (λ k. linking k (suc w.slot) me.0) same ∙ (ap (λ n. linking v'.slot n me.0) first ∙ one_linked s r id me.0 at kind (suc w'.slot) xs' w' v' ys' is')) j, me.1),
+  )
+
+  -- the same in a private bag
+  pub follows_noted : (slots id : ℕ) (me : Me S Acting) (xs : List Garbage) (w v : Garbage) (ys : List Garbage) → me.0.kind ≡ 1 → me.0.sizes ≡ plan.sizes → me.0.collected ≡ xs ++ (w ∷ v ∷ ys)
+      → Allows (Shows IsIn plan) slots id me (link_word plan.sizes v.slot) (λ _. suc w.slot) (λ _. follow_noted_then (step slots (link_word plan.sizes v.slot) (suc w.slot) 0 none) me (suc w.slot))
+  follows_noted slots id me xs w v ys kind sizes is s r _ at _ = let there : Has me.0.collected v = subst (λ (zs : List Garbage). Has zs v) (sym is) (has_mid xs w v ys) in (
+    linking v.slot (suc w.slot) me.0,
+    keeps,
+    tt,
+    shown_link s r id me.0 at kind v.slot (suc w.slot) (v, inr there, refl),
+    λ xs' w' v' ys' is' word first. let words : link_word plan.sizes v.slot ≡ link_word plan.sizes v'.slot = word ∙ ap (λ (z : Sizes). link_word z v'.slot) sizes in let same : v.slot ≡ v'.slot = omega arith in
+        λ j. ((ap (λ k. linking k (suc w.slot) me.0) same ∙ (ap (λ n. linking v'.slot n me.0) first ∙ one_noted s r id me.0 at kind (suc w'.slot) xs' w' v' ys' is')) j, me.1),
   )

@@ -24,7 +24,7 @@ use Rattle.domain_table.proofs.Stirred.{Stirred, stirred_none, stirred_older, lo
 use Rattle.domain_table.proofs.Taken as taken
 use Rattle.domain_table.specs.Items.{IsWaiting, IsLeftover, IsNoted, IsLinked, Distinct}
 use Rattle.sdd_homes.specs.declared.Garbage.{Garbage}
-use Rattle.sdd_base.specs.declared.sizes.Sizes.{Sizes}
+use Rattle.sdd_plain.specs.declared.sizes.Sizes.{Sizes}
 
 -- p publishes the count that it read, and rotates if it found another one before
 record Published (core : steps.State) (p e : ℕ) (x : Participant) : Type 0 where

@@ -34,7 +34,7 @@ use Rattle.domain_table.specs.Rule.{Runs, Shows}
 use Rattle.domain_table.specs.Plays.{retiring, collecting, MayNote, HasRoom, releasing_one, release_then}
 use Rattle.domain_table.specs.declared.board.Acting.{Acting}
 use Rattle.domain_table.specs.declared.board.Plan.{Plan}
-use Rattle.sdd_base.specs.declared.sizes.Sizes.{Sizes}
+use Rattle.sdd_plain.specs.declared.sizes.Sizes.{Sizes}
 use Rattle.sdd_homes.proofs.Totals.{total_put}
 use Rattle.domain_table.proofs.Crowds.{fewer_wait, fewer_noted}
 use Rattle.domain_table.proofs.Taken as taken

@@ -61,5 +61,5 @@ module _ (S : Type 0) (IsIn : Content → S → Type 0) (plan : Plan) where
           lefts = λ _ _ h. h;
           notes = λ _ _ h. h;
         }) at kind refl,
-        (let i = opened s r id d at kind inside in let i1 = i.0 in let i2 = i.1 in let here = r.epochs.count_is in (refl, omega arith, omega arith)),
+        (let i = opened s r id d at kind inside in let i1 = i.0 in let i2 = i.1 in let here = r.epochs.count_is in (refl, omega arith, omega arith, λ w has. let h = r.items.private.noted id d w at has in let f = r.kept.1.2.noted w.item h.0 w.age h.1 h.2 in let late = f.1 in omega arith)),
       )

@@ -46,14 +46,14 @@ stirred_set all i it it' here ages = let still : (x : Item) → Ages x x = (λ x
 }
 
 -- what isn't empty has a last one
-unsnoc : {A : Type 0} (xs : List A) (m : ℕ) → length xs ≡ suc m → (ws : List A) × (w : A) × (xs ≡ ws ++ w ∷ []) × (length ws ≡ m)
+pub unsnoc : {A : Type 0} (xs : List A) (m : ℕ) → length xs ≡ suc m → (ws : List A) × (w : A) × (xs ≡ ws ++ w ∷ []) × (length ws ≡ m)
 unsnoc [] m e = absurd (omega arith)
 unsnoc (x ∷ []) zero e = ([], x, refl, refl)
 unsnoc (x ∷ []) (suc m) e = absurd (omega arith)
 unsnoc (x ∷ y ∷ xs) zero e = absurd (omega arith)
 unsnoc (x ∷ y ∷ xs) (suc m) e = let t = unsnoc (y ∷ xs) m (omega arith) in (x ∷ t.0, t.1, ap (λ zs. x ∷ zs) t.2, ap suc t.3)
 
-no_more : {A : Type 0} (xs : List A) → length xs ≡ 0 → xs ≡ []
+pub no_more : {A : Type 0} (xs : List A) → length xs ≡ 0 → xs ≡ []
 no_more [] e = refl
 no_more (x ∷ xs) e = absurd (omega arith)
 
@@ -61,14 +61,14 @@ never_empty : {A : Type 0} (ws : List A) (w : A) → ws ++ w ∷ [] ≢ []
 never_empty [] w e = absurd (cc)
 never_empty (x ∷ ws) w e = absurd (cc)
 
-set_twice : {A : Type 0} (l : List A) (i : ℕ) (a b : A) → set (set l i a) i b ≡ set l i b
+pub set_twice : {A : Type 0} (l : List A) (i : ℕ) (a b : A) → set (set l i a) i b ≡ set l i b
 set_twice [] zero a b = refl
 set_twice [] (suc i) a b = refl
 set_twice (x ∷ l) zero a b = refl
 set_twice (x ∷ l) (suc i) a b = ap (λ zs. x ∷ zs) (set_twice l i a b)
 
 -- what is taken over last of all is the newest
-taken_snoc : (ws vs : List Garbage) (w : Garbage) → taken_all (ws ++ w ∷ []) vs ≡ taken_all ws (record w { age = 0 } ∷ vs)
+pub taken_snoc : (ws vs : List Garbage) (w : Garbage) → taken_all (ws ++ w ∷ []) vs ≡ taken_all ws (record w { age = 0 } ∷ vs)
 taken_snoc [] vs w = refl
 taken_snoc (x ∷ ws) vs w = ap (λ zs. record x { age = 0 } ∷ zs) (taken_snoc ws vs w)
 

@@ -1,7 +1,7 @@
 -- how a seat and the words of a table fit what a call is handed
 use Rattle.std.specs.Prelude.{◌≡◌, ℕ, ◌^◌, ◌<◌, ◌≤◌}
 use Rattle.atomic_table.specs.Seated.{TableId}
-use Rattle.sdd_base.specs.declared.sizes.Sizes.{Sizes}
+use Rattle.sdd_plain.specs.declared.sizes.Sizes.{Sizes}
 use Rattle.domain_table.specs.Layout.{all_words, epoch_words, IsSized}
 use Rattle.domain_table.specs.declared.board.Acting.{Acting}
 

@@ -3,7 +3,7 @@ use Rattle.std.specs.Prelude.{◌≡◌, ◌≢◌, ◌⊎◌, ℕ, suc, ◌+◌
 use mathlib.Core.Option.{some}
 use Rattle.atomic_table.specs.Table.{Me, Step, rest}
 use Rattle.atomic_table.specs.declared.shared.Seat.{Seat}
-use Rattle.sdd_base.specs.declared.sizes.Sizes.{Sizes}
+use Rattle.sdd_plain.specs.declared.sizes.Sizes.{Sizes}
 use Rattle.sdd_steps.specs.declared.participant.Phase.TheVariants.{HasRead, Opened}
 use Rattle.sdd_steps.specs.declared.participant.Participant.{Participant}
 use Rattle.sdd_steps.specs.declared.participant.Loaded.{Loaded}
@@ -40,7 +40,7 @@ module _ {S : Type 0} where
 
   -- under an open guard the count is read again, and known from then on: it was raised at most once since the publication
   abbrev pub reread_then : Step S → Me S Acting → ℕ → Me S Acting → Type 0
-  reread_then t m n m' = (m' ≡ (record m.0 { known = rereading n m.0.known }, m.1)) × (m.0.born ≤ n) × (n ≤ m.0.born + 1)
+  reread_then t m n m' = (m' ≡ (record m.0 { known = rereading n m.0.known }, m.1)) × (m.0.born ≤ n) × (n ≤ m.0.born + 1) × ((w : Garbage) → Has m.0.collected w → w.age ≤ n)
 
   -- a closed word, or that of the published count, is noted
   abbrev pub look_then : Step S → Me S Acting → ℕ → Me S Acting → Type 0
@@ -368,9 +368,9 @@ leave_then t m n m' = m' ≡ (leaving m.0, m.1)
 abbrev pub handing_over : Garbage → List Garbage → Acting → Acting
 handing_over w ws d = record d { collected = ws; waits = record w { age = 0 } ∷ d.waits }
 
--- what is in the private bag the longest is retired
-abbrev pub hand_over_then : {S : Type 0} → Step S → Me S Acting → ℕ → Me S Acting → Type 0
-hand_over_then t m n m' = (w : Garbage) (ws : List Garbage) → m.0.collected ≡ ws ++ w ∷ [] → (w.slot < m.0.sizes.slots) × (m' ≡ (handing_over w ws m.0, m.1))
+-- all that is in the private bag is handed over, in its order
+abbrev pub hand_all_then : {S : Type 0} → Step S → Me S Acting → ℕ → Me S Acting → Type 0
+hand_all_then t m n m' = m' ≡ (record m.0 { collected = []; waits = taken_all m.0.collected m.0.waits }, m.1)
 
 -- the item w is being reclaimed, and has given up the owners hs; the others still wait
 abbrev pub reclaiming : Garbage → List Owner → List Garbage → Acting → Acting
@@ -445,3 +445,8 @@ module _ {S : Type 0} where
 abbrev pub follow_then : {S : Type 0} → Step S → Me S Acting → ℕ → Me S Acting → Type 0
 follow_then t m n m' = (xs : List Garbage) (w v : Garbage) (ys : List Garbage) → m.0.waits ≡ xs ++ (w ∷ v ∷ ys) → t.word ≡ link_word m.0.sizes v.slot → t.first ≡ suc w.slot
     → m' ≡ (record m.0 { waits = xs ++ (w ∷ record v { next = suc w.slot } ∷ ys) }, m.1)
+
+-- what came into the private bag before w is followed by it
+abbrev pub follow_noted_then : {S : Type 0} → Step S → Me S Acting → ℕ → Me S Acting → Type 0
+follow_noted_then t m n m' = (xs : List Garbage) (w v : Garbage) (ys : List Garbage) → m.0.collected ≡ xs ++ (w ∷ v ∷ ys) → t.word ≡ link_word m.0.sizes v.slot → t.first ≡ suc w.slot
+    → m' ≡ (record m.0 { collected = xs ++ (w ∷ record v { next = suc w.slot } ∷ ys) }, m.1)

@@ -17,7 +17,7 @@ ghost use Rattle.domain_table.specs.Views.{older_waits};
 use crate::board::{Place, Words};
 use crate::holding::Holding;
 use crate::links::{follow, load_link};
-use sdd_base::sizes::Sizes;
+use sdd_plain::sizes::Sizes;
 
 /// Where a bag that isn't empty begins and ends: the slots of its oldest and of its newest item.
 #[derive(Clone, Copy, Drop)]

@@ -3,8 +3,8 @@
 use crate::holding::Holding;
 use atomic_table::{Seat, Shared, Table, TableRule};
 use parted::{Deed, Part};
-use sdd_base::sizes::Sizes;
 use sdd_homes::{Filling, Garbage, Lease, Owner};
+use sdd_plain::sizes::Sizes;
 use sdd_steps::{Participant, Seq};
 use std::alloc::Global;
 use std::marker::PhantomData;

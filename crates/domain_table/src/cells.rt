@@ -18,7 +18,7 @@ use crate::aim::Aim;
 use crate::board::{Acting, Home, Place, Words};
 use crate::holding::Holding;
 use atomic_table::Play;
-use sdd_base::sizes::Sizes;
+use sdd_plain::sizes::Sizes;
 use std::marker::PhantomData;
 
 struct OnLoad<H>(PhantomData<H>);

@@ -16,7 +16,7 @@ use crate::board::{Home, Stored};
 use crate::holding::Holding;
 use atomic_table::Closed;
 use parted::{Deed, Part};
-use sdd_base::sizes::Sizes;
+use sdd_plain::sizes::Sizes;
 use std::alloc::{AllocError, Global};
 use std::mem::ManuallyDrop;
 

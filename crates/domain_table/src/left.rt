@@ -6,8 +6,9 @@
 //! take it over takes two steps, whatever is left. A participant that ends once more before any scan takes back what it left
 //! before, and leaves it with the rest.
 
-ghost use Rattle.std.specs.Prelude.{◌≡◌, true, None, ℕ, ◌<◌, ◌≤◌, ◌^◌, [], List, IfSome};
+ghost use Rattle.std.specs.Prelude.{◌≡◌, true, None, ℕ, ◌<◌, ◌≤◌, ◌^◌, ◌++◌, ◌∷◌, [], List, IfSome};
 ghost use Rattle.sdd_homes.specs.declared.Garbage.{Garbage};
+ghost use Rattle.sdd_steps.specs.State.{Has};
 ghost use Rattle.sdd_steps.specs.Steps.{is_ready};
 ghost use Rattle.sdd_steps.specs.declared.participant.Phase.TheVariants.{Idle};
 ghost use Rattle.domain_table.specs.Bags.{IsBag, ends_of};
@@ -23,7 +24,8 @@ use crate::board::{Acting, Home, Place, Words};
 use crate::holding::Holding;
 use crate::steps::STRIDE;
 use atomic_table::Play;
-use sdd_base::sizes::Sizes;
+use ghost_list::GhostList;
+use sdd_plain::sizes::Sizes;
 
 /// The number of the first participant's left word.
 const LEFT: usize = 18;
@@ -142,10 +144,18 @@ pub fn leave<T, H: Holding<T>>(
     tell(words, place, sizes, number, bag);
 }
 
+/// Whose left words were read, for contracts. Only `has_left` adds to it.
+#[derive(Drop)]
+pub(crate) struct Looks {
+    numbers: GhostList,
+}
+
 /// Whether participant `number` left something that nobody has taken over.
-fn has_left<T, H: Holding<T>>(words: &Words<T, H>, number: usize) -> bool
+fn has_left<T, H: Holding<T>>(words: &Words<T, H>, number: usize, looks: &mut Looks) -> bool
     requires { (number < words.now.key.sizes.participants) × (epoch_words words.now.key.sizes.participants ≤ words.now.table_id.words) × (words.now.key.sizes.participants ≤ 2 ^ 30) }
+    ensures { looks.new.numbers.items ≡ looks.old.numbers.items ++ number ∷ [] }
 {
+    looks.numbers.push(number as u64);
     words.peek(STRIDE * number + LEFT) > 0
 }
 
@@ -156,6 +166,7 @@ fn take_if_left<T, H: Holding<T>>(
     sizes: &Sizes,
     bags: &mut Bags,
     number: usize,
+    looks: &mut Looks,
 )
     requires table { FitsNumber words.now.table_id words.now.key.sizes place.old.table_id place.old.me.0.sizes sizes.now number }
     requires ready { (place.old.me.0.kind ≡ 1) × (is_ready place.old.me.0.known ≡ true) }
@@ -164,21 +175,23 @@ fn take_if_left<T, H: Holding<T>>(
     ensures seat { (place.new.table_id ≡ place.old.table_id) × (place.new.id ≡ place.old.id) }
     ensures taken { (ws : List Garbage) × WaitsIn sizes.now.slots ws bags.new × (place.new.me ≡ (record place.old.me.0 { waits = ws }, place.old.me.1)) }
     ensures due { bags.new.due ≡ bags.old.due }
+    ensures looked { looks.new.numbers.items ≡ looks.old.numbers.items ++ number ∷ [] }
 {
-    if !has_left(words, number) {
+    if !has_left(words, number, looks) {
         return;
     }
     let chain = take_left(words, place, sizes, number);
     bags.take_over(words, place, sizes, chain);
 }
 
-/// Takes over all that ended participants left, under the scan lock: it comes into the current bag.
+/// Takes over all that ended participants left, under the scan lock: it comes into the current bag. Each participant's left
+/// word is read.
 pub(crate) fn take_all_left<T, H: Holding<T>>(
     words: &Words<T, H>,
     place: &mut Place<T>,
     sizes: &Sizes,
     bags: &mut Bags,
-)
+) -> Looks
     requires table { FitsSizes words.now.table_id words.now.key.sizes place.old.table_id place.old.me.0.sizes sizes.now }
     requires ready { (place.old.me.0.kind ≡ 1) × (is_ready place.old.me.0.known ≡ true) }
     requires locked { 0 < place.old.me.0.scan }
@@ -186,8 +199,13 @@ pub(crate) fn take_all_left<T, H: Holding<T>>(
     ensures seat { (place.new.table_id ≡ place.old.table_id) × (place.new.id ≡ place.old.id) }
     ensures taken { (ws : List Garbage) × WaitsIn sizes.now.slots ws bags.new × (place.new.me ≡ (record place.old.me.0 { waits = ws }, place.old.me.1)) }
     ensures due { bags.new.due ≡ bags.old.due }
+    ensures looked { (q : ℕ) → q < sizes.now.participants → Has result.numbers.items q }
 {
+    let mut looks = Looks {
+        numbers: GhostList::new(),
+    };
     for number in 0..sizes.participants {
-        take_if_left(words, place, sizes, bags, number);
+        take_if_left(words, place, sizes, bags, number, &mut looks);
     }
+    looks
 }

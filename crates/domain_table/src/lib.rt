@@ -22,6 +22,7 @@ pub mod lives;
 pub mod loading;
 pub mod owners;
 pub mod placing;
+pub mod private_chains;
 pub mod row;
 pub mod scan;
 pub mod slots;

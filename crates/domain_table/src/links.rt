@@ -12,7 +12,7 @@ ghost use Rattle.sdd_homes.specs.declared.Garbage.{Garbage};
 use crate::board::{Acting, Home, Place, Words};
 use crate::holding::Holding;
 use atomic_table::Play;
-use sdd_base::sizes::Sizes;
+use sdd_plain::sizes::Sizes;
 
 struct OnFollow;
 

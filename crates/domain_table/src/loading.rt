@@ -14,7 +14,7 @@ ghost use Rattle.sdd_homes.specs.declared.Owner.{Owner};
 ghost use Rattle.domain_table.specs.declared.board.Acting.{Acting};
 ghost use Rattle.domain_table.specs.declared.board.Home.{Home};
 ghost use Rattle.domain_table.specs.declared.row.Row.{Row};
-ghost use Rattle.sdd_base.specs.Epochs.{tag_number};
+ghost use Rattle.sdd_plain.specs.Epochs.{tag_number};
 
 use crate::board::{Home, Place, Words};
 use crate::cells;
@@ -24,8 +24,8 @@ use crate::leases::row_of;
 use crate::row::Row;
 use crate::tags::tag_in;
 use parted::Life;
-use sdd_base::sizes::Sizes;
-use sdd_base::tag::Tag;
+use sdd_plain::sizes::Sizes;
+use sdd_plain::tag::Tag;
 use std::collections::VecDeque;
 
 /// The slot that a cell's word names, if it names one: one more than it stands above the number of the spare slot and

@@ -26,7 +26,7 @@ use crate::row::Row;
 use atomic_table::{Join, Split};
 use calm::Calm;
 use parted::One;
-use sdd_base::sizes::Sizes;
+use sdd_plain::sizes::Sizes;
 use std::collections::VecDeque;
 use tally::Tally;
 

@@ -17,8 +17,8 @@ use crate::homes::{let_go, room_of};
 use crate::slots;
 use crate::stored::store;
 use parted::{One, Part};
-use sdd_base::refusal::NoSlot;
-use sdd_base::sizes::Sizes;
+use sdd_plain::refusal::NoSlot;
+use sdd_plain::sizes::Sizes;
 use tally::Tally;
 
 /// How many of `left` parts one of `rest` participants gets, so that as many are left as the others need, and one more.

@@ -1,7 +1,7 @@
 //! A scan: whether the count may be raised, and its raise.
 
 ghost use Rattle.std.specs.Prelude.{◌≡◌, ◌≢◌, ℕ, ◌-◌, ◌^◌, ◌<◌, IsTrue, cond};
-ghost use Rattle.sdd_base.specs.Steps.{closings_after, scans};
+ghost use Rattle.sdd_plain.specs.Locals.{closings_after, scans};
 ghost use Rattle.sdd_steps.specs.State.{Has};
 ghost use Rattle.domain_table.specs.Fitting.{HasEpochs, FitsSizes};
 ghost use Rattle.domain_table.specs.Ledgers.{WaitsIn};
@@ -12,8 +12,8 @@ use crate::board::{Place, Words};
 use crate::holding::Holding;
 use crate::left::take_all_left;
 use crate::steps::{give_lock, is_present, look, raise, take_lock};
-use sdd_base::sizes::Sizes;
-use sdd_base::status::LocalState;
+use sdd_plain::local_state::LocalState;
+use sdd_plain::sizes::Sizes;
 
 /// Whether each other participant is closed or has published the count `epoch`. It stops at the first that isn't.
 fn all_agree<T, H: Holding<T>>(
@@ -80,7 +80,7 @@ fn scan<T, H: Holding<T>>(
     if epoch == u64::MAX || !take_lock(words, place, number, epoch) {
         return;
     }
-    take_all_left(words, place, sizes, bags);
+    let _looks = take_all_left(words, place, sizes, bags);
     raise_if_all_agree(words, place, number, sizes.participants, epoch);
 }
 

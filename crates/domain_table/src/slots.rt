@@ -15,7 +15,7 @@ ghost use Rattle.domain_table.specs.declared.board.Home.{Home};
 use crate::board::{Acting, Home, Place, Words};
 use crate::holding::Holding;
 use atomic_table::Play;
-use sdd_base::sizes::Sizes;
+use sdd_plain::sizes::Sizes;
 use std::marker::PhantomData;
 
 struct OnClaim<H>(PhantomData<H>);

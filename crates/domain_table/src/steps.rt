@@ -18,7 +18,7 @@ use crate::board::{Acting, Home, Place, Words};
 use crate::holding::Holding;
 use crate::homes::let_go;
 use atomic_table::Play;
-use sdd_base::sizes::Sizes;
+use sdd_plain::sizes::Sizes;
 use std::marker::PhantomData;
 
 /// The word of the count of raises.

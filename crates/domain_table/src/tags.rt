@@ -1,10 +1,10 @@
 //! The tag in the word of a cell.
 
 ghost use Rattle.std.specs.Prelude.{◌≡◌, ℕ, ◌+◌, ◌*◌, ◌^◌, ◌<◌, ◌↔◌, IsTrue};
-ghost use Rattle.sdd_base.specs.Epochs.{tag_number};
+ghost use Rattle.sdd_plain.specs.Epochs.{tag_number};
 ghost use Rattle.domain_table.specs.Layout.{packed, AreAlike};
 
-use sdd_base::tag::Tag;
+use sdd_plain::tag::Tag;
 
 /// The number of a tag.
 pub fn number_of(tag: Tag) -> u64

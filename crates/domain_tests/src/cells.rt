@@ -14,13 +14,13 @@ use crate::steps::Found::{Is, No, Nothing, Tagged, Yes};
 use crate::steps::Part::{Apart, Crowd, Under};
 use crate::steps::View::{Beside, Do, Exchange, Forget, IsSame, Item, Load, LoadWithin};
 use crate::steps::{Found, Table, Task, View};
-use sdd_base::tag::Tag;
 use sdd_domain::atomic_shared::AtomicShared;
 use sdd_domain::domain::Domain;
 use sdd_domain::guard::Guard;
 use sdd_domain::local::Local;
 use sdd_domain::pointer::Ptr;
 use sdd_domain::shared::Shared;
+use sdd_plain::tag::Tag;
 
 /// What the cell's item is, under a guard of its own.
 pub(crate) fn read(

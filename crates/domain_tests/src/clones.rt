@@ -10,10 +10,10 @@ use crate::steps::Act::{Join, Own, Passes, Peek, Place, Retire, Slots};
 use crate::steps::Found::{Is, Nothing, Yes};
 use crate::steps::Part::{Apart, Crowd, Renew};
 use crate::steps::{Found, Table, Task};
-use sdd_base::tag::Tag;
 use sdd_domain::atomic_shared::AtomicShared;
 use sdd_domain::domain::Domain;
 use sdd_domain::local::Local;
+use sdd_plain::tag::Tag;
 
 /// Takes the owner out of the cell, if it is there, makes two of it, puts one back and releases the other one: whether
 /// there were two.

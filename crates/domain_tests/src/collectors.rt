@@ -61,9 +61,9 @@ pub(crate) fn handed_over(
     }
 }
 
-/// A thousand items, where a slot is free, are collected by a participant of its own, and what is left is handed over: how
-/// many were. None if no participant was free, or memory was refused.
-pub(crate) fn collecting(domain: &Domain<u64>) -> Option<u32> {
+/// So many items, where a slot is free, are collected by a participant of its own, and what is left is handed over: how many
+/// were. None if no participant was free, or memory was refused.
+pub(crate) fn collecting(domain: &Domain<u64>, items: u64) -> Option<u32> {
     let Ok(mut local) = domain.register() else {
         return None;
     };
@@ -72,7 +72,7 @@ pub(crate) fn collecting(domain: &Domain<u64>) -> Option<u32> {
         return None;
     };
     let mut count: u32 = 0;
-    for item in 0..1000u64 {
+    for item in 0..items {
         if let Ok(owner) = Shared::new(domain, item, &mut local) {
             let (next, last) = collected(domain, &mut local, collector, owner, true);
             collector = next;
@@ -81,6 +81,15 @@ pub(crate) fn collecting(domain: &Domain<u64>) -> Option<u32> {
     }
     collector.hand_over(domain, &mut local);
     local.end(domain);
+    Some(count)
+}
+
+/// The same of ten items, a hundred times.
+pub(crate) fn handing_over(domain: &Domain<u64>) -> Option<u32> {
+    let mut count: u32 = 0;
+    for _turn in 0..100u32 {
+        count = count.saturating_add(collecting(domain, 10)?);
+    }
     Some(count)
 }
 
@@ -207,5 +216,17 @@ pub(crate) const BY_THREADS: Table = Table {
         Apart(&[(Join, Is(1)), (Passes(true, 4), Nothing)]),
         Renew,
         Apart(&[(Passes(true, 4), Nothing)]),
+    ],
+};
+
+/// Two threads collect and hand over again and again, while two others scan. Every slot comes back.
+pub(crate) const HANDED_OVER_BESIDE_SCANS: Table = Table {
+    participants: 5,
+    slots: 16,
+    cells: 0,
+    first: 0,
+    parts: &[
+        Crowd([Task::HandsOver, Task::HandsOver, Task::Stays, Task::Stays]),
+        Apart(&[(Passes(true, 4), Nothing), (Slots, Is(0))]),
     ],
 };

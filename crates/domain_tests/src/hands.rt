@@ -7,13 +7,13 @@ ghost use Rattle.sdd_domain.specs.Tokens.{place_of, cell_count};
 ghost use Rattle.domain_tests.specs.Steps.{IsHome, Stays, IsOpen, IsOurs, IsInside};
 
 use crate::steps::{Act, Found, View};
-use sdd_base::tag::Tag;
 use sdd_domain::atomic_shared::AtomicShared;
 use sdd_domain::domain::Domain;
 use sdd_domain::guard::Guard;
 use sdd_domain::local::Local;
 use sdd_domain::pointer::Ptr;
 use sdd_domain::shared::Shared;
+use sdd_plain::tag::Tag;
 
 /// An owner, or none.
 pub(crate) type Hand = Option<Shared<u64>>;

@@ -12,10 +12,10 @@ use crate::steps::Act::{
 use crate::steps::Found::{Is, Nothing, Yes};
 use crate::steps::Part::{Apart, Crowd, Renew};
 use crate::steps::{Found, Table, Task};
-use sdd_base::sizes::Sizes;
 use sdd_domain::domain::Domain;
 use sdd_domain::local::Local;
 use sdd_domain::shared::Shared;
+use sdd_plain::sizes::Sizes;
 
 /// The sizes of a place for so many participants and items.
 pub(crate) fn sized(participants: u8, slots: u8) -> Sizes

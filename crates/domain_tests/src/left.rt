@@ -5,10 +5,10 @@ ghost use Rattle.sdd_domain.specs.Tokens.{place_of, home_of, hand_of, own_of, Is
 
 use crate::domain::{end, member};
 use crate::guard::passes;
-use sdd_base::sizes::Sizes;
 use sdd_domain::domain::Domain;
 use sdd_domain::local::Local;
 use sdd_domain::shared::Shared;
+use sdd_plain::sizes::Sizes;
 
 /// Places and releases so many items, as far as slots are free.
 fn retire(domain: &Domain<u64>, local: &mut Local<u64>, items: u32)

@@ -5,7 +5,7 @@ use crate::steps::Found::{Is, No, Nothing, Tagged, Yes};
 use crate::steps::Part::{Apart, Under};
 use crate::steps::Table;
 use crate::steps::View::{Do, Item, Load};
-use sdd_base::tag::Tag;
+use sdd_plain::tag::Tag;
 
 /// Only the last of two owners is the last, in both orders; each reads the item.
 pub(crate) const THE_LAST: Table = Table {

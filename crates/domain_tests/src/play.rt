@@ -9,10 +9,10 @@ use crate::stage::Stage;
 use crate::steps::{Act, Found, Part, Table, Task, View};
 use crate::views::Seen;
 use crate::{cells, clones, collectors, guard, items, owners, shares, tags, threads};
-use sdd_base::sizes::Sizes;
 use sdd_domain::domain::Domain;
 use sdd_domain::guard::Guard;
 use sdd_domain::pointer::Ptr;
+use sdd_plain::sizes::Sizes;
 use std::alloc::Global;
 use std::process::Abort;
 use std::thread::Threads;
@@ -194,6 +194,7 @@ const TABLES: &[Table] = &[
     collectors::BESIDE_A_GUARD,
     collectors::TAKEN_OVER,
     collectors::BY_THREADS,
+    collectors::HANDED_OVER_BESIDE_SCANS,
     tags::SWAPPED,
     tags::EQUAL,
     tags::REFUSED_FOR_THE_TAG,

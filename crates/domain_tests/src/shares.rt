@@ -15,11 +15,11 @@ use crate::steps::View::{
     Beside, CloneCell, Do, Item, Lend, LendItem, Lent, Load, Share, ShareCell,
 };
 use crate::steps::{Found, Table, Task};
-use sdd_base::tag::Tag;
 use sdd_domain::atomic_shared::AtomicShared;
 use sdd_domain::domain::Domain;
 use sdd_domain::guard::Guard;
 use sdd_domain::local::Local;
+use sdd_plain::tag::Tag;
 
 /// An owner of what the cell names, made under a guard of its own, and what that guard read.
 fn shared(domain: &Domain<u64>, local: &mut Local<u64>, cell: &AtomicShared<u64>) -> (Hand, Found)

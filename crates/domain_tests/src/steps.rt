@@ -1,6 +1,6 @@
 //! Steps of participants as data, so that a test is a table of what they do and what they find.
 
-use sdd_base::tag::Tag;
+use sdd_plain::tag::Tag;
 
 /// What a step finds.
 #[derive(Clone, Copy, PartialEq, Eq)]
@@ -100,6 +100,8 @@ pub(crate) enum Task {
     Clones,
     /// Collects a thousand items, where slots are free, into a private collector.
     Collects,
+    /// Collects ten items and hands them over, a hundred times.
+    HandsOver,
     /// Defers a job.
     Defers,
 }

@@ -7,7 +7,7 @@ use crate::steps::View::{
     Do, Exchange, ExchangeWeak, IsNull, IsSameTagged, IsSameUntagged, Label, Load, Relabel, Retag,
 };
 use crate::steps::{Act, Table};
-use sdd_base::tag::Tag;
+use sdd_plain::tag::Tag;
 
 /// A tag is swapped together with the item.
 pub(crate) const SWAPPED: Table = Table {

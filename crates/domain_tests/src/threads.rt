@@ -7,7 +7,7 @@ ghost use Rattle.domain_tests.specs.Steps.{IsHome, IsInside};
 
 use crate::cells::{adds_one, keeps};
 use crate::clones::clones;
-use crate::collectors::collecting;
+use crate::collectors::{collecting, handing_over};
 use crate::guard::pass;
 use crate::hands::{item, told};
 use crate::items::places;
@@ -18,11 +18,11 @@ use crate::steps::Part::{Apart, Beside, Crowd};
 use crate::steps::Task::{ComesAndGoes, Nothing, Stays};
 use crate::steps::View::Epoch as TheEpoch;
 use crate::steps::{Found, Table, Task};
-use sdd_base::epoch::Epoch;
 use sdd_domain::atomic_shared::AtomicShared;
 use sdd_domain::domain::Domain;
 use sdd_domain::guard::Guard;
 use sdd_domain::local::Local;
+use sdd_plain::epoch::Epoch;
 
 /// What threads share: a place, a cell of it or none, and an item or none that an owner lends.
 #[derive(Drop)]
@@ -137,7 +137,8 @@ pub(crate) fn done(scene: &Scene, task: Task) -> Option<u32> {
                 None
             };
         }
-        Task::Collects => return collecting(scene.domain),
+        Task::Collects => return collecting(scene.domain, 1000),
+        Task::HandsOver => return handing_over(scene.domain),
         Task::ComesAndGoes => (1000, 1),
         Task::Counts => (1, 4000),
         Task::Swaps(_) => (1, 25_000),

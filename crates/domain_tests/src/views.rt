@@ -7,11 +7,11 @@ ghost use Rattle.domain_tests.specs.Steps.{IsHome, Stays, IsOpen};
 use crate::hands::{self, item, told};
 use crate::stage::Stage;
 use crate::steps::{Found, View};
-use sdd_base::tag::Tag;
 use sdd_domain::domain::Domain;
 use sdd_domain::guard::Guard;
 use sdd_domain::local::Local;
 use sdd_domain::pointer::Ptr;
+use sdd_plain::tag::Tag;
 use std::mem;
 
 /// What a participant has for as long as a guard is borrowed: a pointer, and an item that it reads.

@@ -2,11 +2,11 @@
 use Rattle.std.proofs.Common.{◌≡◌, ℕ, List, refl}
 use Rattle.std.specs.Ordering.{nat_cmp}
 use Rattle.version_views.specs.declared.write.Write.{Write}
-use Rattle.ordered_index.specs.Desk.{Machine, Step}
-use Rattle.ordered_index.specs.declared.play.DeskCall.{DeskCall}
-use Rattle.ordered_index.specs.declared.play.DeskCall.TheVariants as calls
-use Rattle.ordered_index.specs.declared.play.DeskReply.{DeskReply}
-use Rattle.ordered_index.specs.declared.play.DeskReply.TheVariants as replies
+use Rattle.local_index.specs.Desk.{Machine, Step}
+use Rattle.local_index.specs.declared.play.DeskCall.{DeskCall}
+use Rattle.local_index.specs.declared.play.DeskCall.TheVariants as calls
+use Rattle.local_index.specs.declared.play.DeskReply.{DeskReply}
+use Rattle.local_index.specs.declared.play.DeskReply.TheVariants as replies
 use Rattle.index_script.specs.Inside.{IsNoCommit}
 use Rattle.index_script.specs.Script.{left_staged}
 
@@ -24,6 +24,7 @@ stays_staged width old new calls.Reclaim (replies.Accepted told) staged other st
 stays_staged width old new calls.Slots (replies.Accepted told) staged other step = absurd step
 stays_staged width old new (calls.Number label) (replies.Accepted told) staged other step = absurd step
 stays_staged width old new (calls.Len label) (replies.Accepted told) staged other step = absurd step
+stays_staged width old new (calls.Checkpoint upto) (replies.Accepted told) staged other step = absurd step
 stays_staged width old new call (replies.Opened number) staged other step = refl
 stays_staged width old new call replies.NoPlace staged other step = refl
 stays_staged width old new call replies.Busy staged other step = refl
@@ -36,3 +37,6 @@ stays_staged width old new call replies.Reclaimed staged other step = refl
 stays_staged width old new call (replies.Slots count) staged other step = refl
 stays_staged width old new call (replies.Number number) staged other step = refl
 stays_staged width old new call (replies.Len count) staged other step = refl
+stays_staged width old new call (replies.Checkpointed number) staged other step = refl
+stays_staged width old new call (replies.Behind number) staged other step = refl
+stays_staged width old new call (replies.Ahead number) staged other step = refl

@@ -11,7 +11,7 @@ use Rattle.index_script.specs.Lines.{Lacks, kept}
 use Rattle.std.specs.Prelude.{MatchOption, Option, IfSome, IfNone}
 use Rattle.std.specs.Borrow.{Bor}
 use Rattle.std.specs.List.{AllByRecursion}
-use Rattle.index_script.specs.Requests.{IsNumber, HasFirst, AreTwo, MissesCommand, Command, Insert, Upsert, Remove, Delete, Clear, Discard, Commit, Open, Close, Get, Has, Range, Near, Audit, Len, Number, Reclaim, Slots, name_of, Form, Alone, WithNumber, WithReads, WithTwo, WithValue, WithBounds, WithRange, MissesWords, form_of, FitsForm, HasWords, IsUnfit, Asks, LineAsksFor}
+use Rattle.index_script.specs.Requests.{IsNumber, HasFirst, AreTwo, MissesCommand, Command, Insert, Upsert, Remove, Delete, Clear, Discard, Commit, Open, Close, Get, Has, Range, Near, Audit, Len, Number, Reclaim, Slots, Checkpoint, name_of, Form, Alone, WithNumber, WithReads, WithTwo, WithValue, WithBounds, WithRange, MissesWords, form_of, FitsForm, HasWords, IsUnfit, Asks, LineAsksFor}
 use Rattle.index_script.specs.declared.request.Request.{Request}
 use Rattle.index_script.specs.declared.request.Request.TheVariants as requests
 use Rattle.index_script.specs.declared.request.Fault.{Fault}
@@ -113,6 +113,7 @@ name_lacks Len = search rules
 name_lacks Number = search rules
 name_lacks Reclaim = search rules
 name_lacks Slots = search rules
+name_lacks Checkpoint = search rules
 
 -- the first of several words is no name
 pub unknown_first : (line word rest : List ℕ) → (line ≡ word ++ 32 ∷ rest) × Lacks 32 word → ((command : Command) → word ≡ name_of command → ⊥) → MissesCommand line
@@ -154,11 +155,11 @@ too_few (command ∷ other ∷ rest) word more lacks (inl is) = (command, inl is
 too_few (command ∷ other ∷ rest) word more lacks (inr is) = too_few (other ∷ rest) word more.1 lacks is
 
 abbrev of_more : List Command
-of_more = Insert ∷ Upsert ∷ Remove ∷ Delete ∷ Commit ∷ Open ∷ Close ∷ Get ∷ Has ∷ Range ∷ Near ∷ Audit ∷ Len ∷ Number ∷ []
+of_more = Insert ∷ Upsert ∷ Remove ∷ Delete ∷ Commit ∷ Open ∷ Close ∷ Get ∷ Has ∷ Range ∷ Near ∷ Audit ∷ Len ∷ Number ∷ Checkpoint ∷ []
 
 have_more : AllByRecursion HasMore of_more
 have_more =
-    ((λ e. absurd cc), ((λ e. absurd cc), ((λ e. absurd cc), ((λ e. absurd cc), ((λ e. absurd cc), ((λ e. absurd cc), ((λ e. absurd cc), ((λ e. absurd cc), ((λ e. absurd cc), ((λ e. absurd cc), ((λ e. absurd cc), ((λ e. absurd cc), ((λ e. absurd cc), ((λ e. absurd cc), tt))))))))))))))
+    ((λ e. absurd cc), ((λ e. absurd cc), ((λ e. absurd cc), ((λ e. absurd cc), ((λ e. absurd cc), ((λ e. absurd cc), ((λ e. absurd cc), ((λ e. absurd cc), ((λ e. absurd cc), ((λ e. absurd cc), ((λ e. absurd cc), ((λ e. absurd cc), ((λ e. absurd cc), ((λ e. absurd cc), ((λ e. absurd cc), tt)))))))))))))))
 
 -- the word is the first of several
 pub first_alone : (word : List ℕ) → Lacks 32 word → IsOneOf of_more word → MissesWords word
@@ -270,6 +271,7 @@ read_text line (requests.Len label) short text asks = (short, text, asks)
 read_text line (requests.Number label) short text asks = (short, text, asks)
 read_text line requests.Reclaim short text asks = (short, text, asks)
 read_text line requests.Slots short text asks = (short, text, asks)
+read_text line (requests.Checkpoint upto) short text asks = (short, text, asks)
 read_text line (requests.Faulty faults.Long) short text asks = absurd asks
 read_text line (requests.Faulty faults.Text) short text asks = absurd asks
 read_text line (requests.Faulty faults.Command) short text asks = (short, text, asks)

@@ -4,10 +4,10 @@ use Rattle.std.specs.Io.KnownBytes.{Consumes, Appends}
 use Rattle.index_script.specs.Lines.{Begins, Splits, kept}
 use Rattle.index_script.specs.Script.{Script, ActsOnLine}
 use Rattle.index_script.specs.Runs.{Answered, Breaks, IsNextLine}
-use Rattle.ordered_index.specs.declared.play.DeskCall.{DeskCall}
-use Rattle.ordered_index.specs.declared.play.DeskCall.TheVariants as calls
-use Rattle.ordered_index.specs.declared.play.DeskReply.{DeskReply}
-use Rattle.ordered_index.specs.declared.play.DeskReply.TheVariants as replies
+use Rattle.local_index.specs.declared.play.DeskCall.{DeskCall}
+use Rattle.local_index.specs.declared.play.DeskCall.TheVariants as calls
+use Rattle.local_index.specs.declared.play.DeskReply.{DeskReply}
+use Rattle.local_index.specs.declared.play.DeskReply.TheVariants as replies
 use Rattle.version_views.specs.declared.write.Write.{Write}
 
 abbrev pub IsNoCommit : DeskCall ℕ (List ℕ) → Type 0

@@ -9,8 +9,8 @@ use Rattle.serial_history.specs.declared.transaction.Audit.{Audit}
 use Rattle.serial_history.specs.declared.transaction.Audit.TheVariants as audits
 use Rattle.serial_history.specs.declared.commit.Cause.{Cause}
 use Rattle.serial_history.specs.declared.commit.Cause.TheVariants as causes
-use Rattle.ordered_index.specs.declared.play.DeskReply.{DeskReply}
-use Rattle.ordered_index.specs.declared.play.DeskReply.TheVariants as replies
+use Rattle.local_index.specs.declared.play.DeskReply.{DeskReply}
+use Rattle.local_index.specs.declared.play.DeskReply.TheVariants as replies
 use Rattle.version_views.specs.declared.write.Reply.{Reply}
 use Rattle.version_views.specs.declared.write.Reply.TheVariants as told
 use Rattle.index_script.specs.declared.request.Fault.{Fault}
@@ -90,6 +90,7 @@ abbrev pub audit_text : Audit → List ℕ
 audit_text audits.Yes = codes "audit yes\n"
 audit_text (audits.No place) = codes "audit no " ++ decimal place ++ codes "\n"
 audit_text audits.Unknown = codes "audit unknown\n"
+audit_text (audits.TooOld number) = codes "audit old\n"
 
 -- the reply to a call, by a line with this number and this label: this is said of its text
 abbrev pub Prints : ℕ → ℕ → DeskReply ℕ (List ℕ) → (List ℕ → Type 0) → Type 0
@@ -106,3 +107,6 @@ Prints line label replies.Reclaimed Is = Is (codes "reclaimed\n")
 Prints line label (replies.Slots count) Is = Is (codes "slots " ++ decimal count ++ codes "\n")
 Prints line label (replies.Number number) Is = Is (codes "number " ++ decimal number ++ codes "\n")
 Prints line label (replies.Len count) Is = Is (codes "len " ++ decimal count ++ codes "\n")
+Prints line label (replies.Checkpointed number) Is = Is (codes "checkpoint " ++ decimal number ++ codes "\n")
+Prints line label (replies.Behind number) Is = Is (codes "behind " ++ decimal number ++ codes "\n")
+Prints line label (replies.Ahead number) Is = Is (codes "ahead " ++ decimal number ++ codes "\n")

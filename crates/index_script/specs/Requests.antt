@@ -72,6 +72,7 @@ pub data Command : Type 0 where
   Number : Command
   Reclaim : Command
   Slots : Command
+  Checkpoint : Command
 
 -- its first word
 abbrev pub name_of : Command → List ℕ
@@ -93,6 +94,7 @@ name_of Len = codes "len"
 name_of Number = codes "number"
 name_of Reclaim = codes "reclaim"
 name_of Slots = codes "slots"
+name_of Checkpoint = codes "checkpoint"
 
 -- what belongs behind the first word: nothing, a number, a number or `-`, two numbers, a number and a value, two bounds,
 -- a number and two bounds
@@ -124,6 +126,7 @@ form_of Len = WithNumber
 form_of Number = WithNumber
 form_of Reclaim = Alone
 form_of Slots = Alone
+form_of Checkpoint = WithNumber
 
 -- what stands behind the first word and a space has as many words as belong there
 abbrev pub FitsForm : Form → List ℕ → Type 0
@@ -200,6 +203,7 @@ Asks line (requests.Len label) = (label < 2 ^ 64) × (line ≡ codes "len " ++ d
 Asks line (requests.Number label) = (label < 2 ^ 64) × (line ≡ codes "number " ++ decimal label)
 Asks line requests.Reclaim = line ≡ codes "reclaim"
 Asks line requests.Slots = line ≡ codes "slots"
+Asks line (requests.Checkpoint upto) = (upto < 2 ^ 64) × (line ≡ codes "checkpoint " ++ decimal upto)
 Asks line (requests.Faulty faults.Command) = MissesCommand line
 Asks line (requests.Faulty faults.Words) = MissesWords line
 Asks line (requests.Faulty faults.Number) = MissesNumber line

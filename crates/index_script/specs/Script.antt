@@ -1,13 +1,13 @@
 -- What the lines of a script do, and what is written for them.
 use Rattle.std.specs.Prelude.{◌≡◌, ℕ, ◌+◌, ◌-◌, ◌^◌, List, [], ◌∷◌, ◌++◌, length, replicate, Some, None}
 use Rattle.std.specs.Ordering.{nat_cmp}
-use Rattle.ordered_index.specs.Desk.{Machine, OpenStep, CloseStep, ReadStep, AuditStep, NumberStep, LenStep, CommitStep, ReclaimStep, SlotsStep}
+use Rattle.local_index.specs.Desk.{Machine, OpenStep, CloseStep, ReadStep, AuditStep, NumberStep, LenStep, CommitStep, ReclaimStep, SlotsStep, CheckpointStep}
 use Rattle.version_views.specs.declared.write.Write.{Write}
 use Rattle.version_views.specs.declared.write.Write.TheVariants as writes
 use Rattle.serial_history.specs.declared.query.Query.TheVariants as queries
-use Rattle.ordered_index.specs.declared.play.ReadSet.TheVariants as sets
-use Rattle.ordered_index.specs.declared.play.DeskReply.{DeskReply}
-use Rattle.ordered_index.specs.declared.play.DeskReply.TheVariants as replies
+use Rattle.local_index.specs.declared.play.ReadSet.TheVariants as sets
+use Rattle.local_index.specs.declared.play.DeskReply.{DeskReply}
+use Rattle.local_index.specs.declared.play.DeskReply.TheVariants as replies
 use Rattle.index_script.specs.declared.request.Request.{Request}
 use Rattle.index_script.specs.declared.request.Request.TheVariants as requests
 use Rattle.index_script.specs.Requests.{LineAsksFor}
@@ -23,7 +23,7 @@ pub record Script : Type 0 where
 abbrev pub fresh_script : ℕ → ℕ → Script
 fresh_script places slots = record {
   machine = record {
-    index = record { history = []; places = replicate places None; last = 2 ^ 64 - 1; slots = slots; used = 1; raises = 0 };
+    index = record { base = record { number = 0; pairs = [] }; history = []; places = replicate places None; last = 2 ^ 64 - 1; slots = slots; used = 1; raises = 0 };
     desk = replicate places None;
   };
   staged = [];
@@ -80,6 +80,7 @@ module _ (width : ℕ) where
   Meets old (requests.Number label) text new = Plays old label (NumberStep nat_cmp width old.machine label) text new
   Meets old requests.Reclaim text new = Plays old 0 (ReclaimStep nat_cmp width old.machine) text new
   Meets old requests.Slots text new = Plays old 0 (SlotsStep nat_cmp width old.machine) text new
+  Meets old (requests.Checkpoint upto) text new = Plays old 0 (CheckpointStep nat_cmp width old.machine upto) text new
   Meets old (requests.Faulty fault) text new = (new ≡ old) × (text ≡ fault_text old.line fault)
 
   -- a line has this reply, and the script goes on so

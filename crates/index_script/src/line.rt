@@ -40,8 +40,8 @@ impl Begun {
         }
     }
 
-    /// Adds what comes next. Refused where memory is; a line that is longer than it may be wants
-    /// none.
+    /// Adds what comes next. Fails only if an allocation fails; a line that is longer than it may be
+    /// allocates nothing.
     pub fn extend(&mut self, part: &[u8]) -> Result<(), AllocError>
         ensures { OnOk result ((line : List ℕ) → self.old ≡ kept line → self.new ≡ kept (line ++ part.now)) }
     {

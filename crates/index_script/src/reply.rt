@@ -6,7 +6,7 @@ ghost use Rattle.std.specs.Fmt.{decimal};
 ghost use Rattle.index_script.specs.Replies.{CausePrints, Prints, answer_text, audit_text, discarded_text, fault_text, near_text, pair_text, pair_texts, staged_text, told_text, told_texts};
 
 use crate::request::Fault;
-use ordered_index::{Accepted, Answer, Audit, Cause, DeskReply, Near, Reply, Text};
+use local_index::{Accepted, Answer, Audit, Cause, DeskReply, Near, Reply, Text};
 use std::alloc::AllocError;
 
 /// How many bytes the longest reply to a line at fault has.
@@ -57,6 +57,9 @@ pub fn write_reply(
         DeskReply::Slots(count) => write!(text, "slots {count}\n"),
         DeskReply::Number(number) => write!(text, "number {number}\n"),
         DeskReply::Len(count) => write!(text, "len {count}\n"),
+        DeskReply::Checkpointed(number) => write!(text, "checkpoint {number}\n"),
+        DeskReply::Behind(number) => write!(text, "behind {number}\n"),
+        DeskReply::Ahead(number) => write!(text, "ahead {number}\n"),
     }
 }
 
@@ -131,6 +134,7 @@ fn write_audit(text: &mut String, found: Audit) -> Result<(), AllocError>
         Audit::Yes => write!(text, "audit yes\n"),
         Audit::No(place) => write!(text, "audit no {place}\n"),
         Audit::Unknown => write!(text, "audit unknown\n"),
+        Audit::TooOld(_) => write!(text, "audit old\n"),
     }
 }
 

@@ -8,7 +8,7 @@ ghost use Rattle.index_script.specs.Replies.{word_of};
 ghost use Rattle.index_script.specs.Requests.{AreTwo, Asks, IsSmall, IsUnfit, LineAsksFor, WithBounds, WithNumber, WithRange, WithTwo, WithValue, bound_text};
 
 use crate::words::{bound, number, split_word};
-use ordered_index::Text;
+use local_index::Text;
 use std::alloc::{AllocError, Global};
 use std::ops::Bound;
 use std::str;
@@ -92,6 +92,8 @@ pub enum Request {
     Reclaim,
     /// To tell how many slots are in use.
     Slots,
+    /// To make the list of this number the base.
+    Checkpoint(u64),
     /// Nothing: the line is at fault.
     Faulty(Fault),
 }
@@ -132,6 +134,7 @@ fn read_text(alloc: Global, line: &str) -> Result<Request, AllocError>
         "audit" => Ok(audit(rest)),
         "len" => Ok(len(rest)),
         "number" => Ok(number_of(rest)),
+        "checkpoint" => Ok(checkpoint(rest)),
         "clear" | "discard" | "reclaim" | "slots" => Ok(Request::Faulty(Fault::Words)),
         _ => Ok(Request::Faulty(Fault::Command)),
     }
@@ -160,7 +163,8 @@ fn bare(word: &str) -> Request
         | "near"
         | "audit"
         | "len"
-        | "number" => Request::Faulty(Fault::Words),
+        | "number"
+        | "checkpoint" => Request::Faulty(Fault::Words),
         _ => Request::Faulty(Fault::Command),
     }
 }
@@ -290,6 +294,15 @@ fn number_of(rest: &str) -> Request
 {
     match only_number(rest) {
         Ok(label) => Request::Number(label),
+        Err(fault) => Request::Faulty(fault),
+    }
+}
+
+fn checkpoint(rest: &str) -> Request
+    ensures { Asks (codes "checkpoint " ++ rest.now) result }
+{
+    match only_number(rest) {
+        Ok(upto) => Request::Checkpoint(upto),
         Err(fault) => Request::Faulty(fault),
     }
 }

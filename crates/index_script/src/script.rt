@@ -4,22 +4,22 @@ ghost use Rattle.std.specs.Prelude.{◌≡◌, ◌+◌, ◌<◌, ◌^◌, [], �
 ghost use Rattle.std.specs.Option.{option_copied};
 ghost use Rattle.std.specs.String.{string_bytes};
 ghost use Rattle.std.specs.Ordering.{nat_cmp};
-ghost use Rattle.ordered_index.specs.Desk.{Step, CommitStep};
+ghost use Rattle.local_index.specs.Desk.{Step, CommitStep};
 ghost use Rattle.version_views.specs.Sizes.{IsStoreSized};
-ghost use Rattle.ordered_index.specs.State.{HasNoSession};
+ghost use Rattle.local_index.specs.State.{HasNoSession};
 ghost use Rattle.index_script.specs.Lines.{kept};
 ghost use Rattle.index_script.specs.Inside.{IsNoCommit, writes_given_back};
 ghost use Rattle.index_script.specs.Script.{Script, ActsOnLine, Discards, Meets, Plays, Stages, fresh_script};
 
 use crate::reply::{write_discarded, write_fault, write_reply, write_staged};
 use crate::request::{Request, read_line};
-use ordered_index::{Desk, DeskCall, DeskReply, LocalIndex, ReadSet, Text, Write, play_one};
+use local_index::{Desk, DeskCall, DeskReply, LocalIndex, ReadSet, Text, Write, play_one};
 use std::alloc::{AllocError, Global};
 use std::marker::Model;
 use std::mem;
 
 /// What the lines of a script act on: an index, the sessions that they opened, by label, and the
-/// writes that they staged. It must be spent, by [`end`](Script::end).
+/// writes that they staged. It must be consumed by [`end`](Script::end).
 pub struct Script<const S: usize> {
     alloc: Global,
     index: LocalIndex<u64, Text, S>,
@@ -28,10 +28,10 @@ pub struct Script<const S: usize> {
     line: u64,
 }
 
-/// Invariant: `ordered_index`'s specs/Desk.antt, Serves and KeepsAll: each session of the desk is open, and each open one sits
+/// Invariant: `local_index`'s specs/Desk.antt, Serves and KeepsAll: each session of the desk is open, and each open one sits
 /// at the desk.
 impl<const S: usize> Model for Script<S> {
-    ghost use Rattle.ordered_index.specs.Desk.{Serves, KeepsAll};
+    ghost use Rattle.local_index.specs.Desk.{Serves, KeepsAll};
     ghost use Rattle.index_script.specs.Script.{Script};
 
     ghost Value = { Script };
@@ -42,7 +42,7 @@ impl<const S: usize> Model for Script<S> {
 }
 
 impl<const S: usize> Script<S> {
-    /// A script before its first line, on an empty index. Refused where memory is.
+    /// A script before its first line, on an empty index. Fails only if an allocation fails.
     pub fn new(alloc: Global, places: usize, slots: usize) -> Result<Self, AllocError>
         requires { IsStoreSized places slots S }
         ensures { IfOk result (λ script. script ≡ fresh_script places slots) }
@@ -64,8 +64,8 @@ impl<const S: usize> Script<S> {
     }
 
     /// Acts on the next line, given by its bytes, or by none where it is longer than it may be, and
-    /// leaves its reply as the text. Refused where memory is; a line at fault wants none where the
-    /// text has room for [`LONGEST_FAULT`](crate::reply::LONGEST_FAULT) bytes.
+    /// leaves its reply as the text. Fails only if an allocation fails; a line at fault allocates nothing
+    /// if the text has room for [`LONGEST_FAULT`](crate::reply::LONGEST_FAULT) bytes.
     pub fn act(&mut self, line: Option<&[u8]>, text: &mut String) -> Result<(), AllocError>
         requires { self.old.line + 1 < 2 ^ 64 }
         ensures ok { OnOk result ((whole : List ℕ) → option_copied line.entry ≡ kept whole → ActsOnLine S self.old whole (string_bytes text.new) self.new) }
@@ -122,6 +122,7 @@ impl<const S: usize> Script<S> {
             Request::Number(label) => self.call(label, DeskCall::Number(label), text),
             Request::Reclaim => self.call(0, DeskCall::Reclaim, text),
             Request::Slots => self.call(0, DeskCall::Slots, text),
+            Request::Checkpoint(upto) => self.call(0, DeskCall::Checkpoint(upto), text),
             Request::Faulty(fault) => write_fault(text, self.line, fault),
         }
     }

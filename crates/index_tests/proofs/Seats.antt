@@ -3,9 +3,9 @@ use Rattle.std.proofs.Common.{◌≡◌, ℕ, List, Option, Some, None, replicat
 use Rattle.std.specs.List.{slice_get}
 use Rattle.std.proofs.lemmas.List.{get_or-replicate, length-replicate}
 use Rattle.std.proofs.lemmas.Option.{slice_get_within, get_or_from_slice_get}
-use Rattle.ordered_index.specs.State.{State}
-use Rattle.ordered_index.specs.Desk.{Serves}
-use Rattle.ordered_index.specs.declared.desk.Seat.{Seat}
+use Rattle.local_index.specs.State.{State}
+use Rattle.local_index.specs.Desk.{Serves}
+use Rattle.local_index.specs.declared.desk.Seat.{Seat}
 
 no_seat : {X : Type 0} (n i : ℕ) (x : X) → slice_get (replicate n None) i ≡ Some (Some x) → ⊥
 no_seat {X = X} n i x e =

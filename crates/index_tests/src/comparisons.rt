@@ -1,9 +1,9 @@
 //! How many comparisons a look-up makes, by keys that count them.
 
-ghost use Rattle.ordered_index.specs.State.{IsSessionOf};
+ghost use Rattle.local_index.specs.State.{IsSessionOf};
 
 use leaf_array::Array;
-use ordered_index::{LocalIndex, Receipt, Session, Write};
+use local_index::{LocalIndex, Receipt, Session, Write};
 use std::alloc::{AllocError, Global};
 use std::cell::Cell;
 use std::cmp::Ordering;

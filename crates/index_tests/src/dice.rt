@@ -1,7 +1,7 @@
 //! What random calls are made of: keys, writes, queries and receipts that a linear congruential generator throws.
 
 use crate::plain;
-use ordered_index::{Answer, Query, Receipt, Recorded, Seq, Write};
+use local_index::{Answer, Query, Receipt, Recorded, Seq, Write};
 use std::alloc::{AllocError, Global};
 use std::ops::Bound;
 
@@ -18,9 +18,17 @@ pub(crate) struct Dice {
     writes: u64,
     // one write in so many is of a range, or of all keys
     wide: u64,
+    // whether checkpoints are made
+    pub(crate) bases: bool,
 }
 
 impl Dice {
+    // The same, for lists of calls with checkpoints.
+    pub(crate) fn with_bases(mut self) -> Self {
+        self.bases = true;
+        self
+    }
+
     // A number below this one.
     pub(crate) fn throw(&mut self, faces: u64) -> u64 {
         self.state = self
@@ -107,5 +115,6 @@ pub(crate) fn thrown(keys: u64, writes: u64, wide: u64) -> Dice {
         keys,
         writes,
         wide,
+        bases: false,
     }
 }

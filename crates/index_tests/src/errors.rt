@@ -1,7 +1,7 @@
 //! What refusals say, and where `?` takes them.
 
 use crate::scene::Scene;
-use ordered_index::{
+use local_index::{
     Cause, DeskCall, LocalIndex, NoPlace, ReadSet, Receipt, Refused, ScopedIndex, Write,
 };
 use std::alloc::{AllocError, Global};

@@ -4,9 +4,7 @@ use crate::scene::Scene;
 use crate::table::Call::{Close, Open};
 use crate::table::Told::{All, Audited, Closed, Opened};
 use crate::table::{Call, Told, is_told};
-use ordered_index::{
-    Answer, Audit, DeskCall, Query, ReadSet, Receipt, Recorded, Reply, Seq, Write,
-};
+use local_index::{Answer, Audit, DeskCall, Query, ReadSet, Receipt, Recorded, Reply, Seq, Write};
 use std::alloc::{AllocError, Global};
 
 const WRITES: u64 = 100_000;

@@ -1,13 +1,19 @@
-//! Tests of the index of one thread and of lists of its calls, apart from `ordered_index` so that its proofs
+//! Tests of the index of one thread and of lists of its calls, apart from `local_index` so that its proofs
 //! aren't made twice.
 #![tactic(auto)]
 
+#[cfg(test)]
+mod checkpoints;
 #[cfg(test)]
 mod comparisons;
 #[cfg(test)]
 mod dice;
 #[cfg(test)]
 mod errors;
+#[cfg(test)]
+mod from_base;
+#[cfg(test)]
+mod hostile;
 #[cfg(test)]
 mod large;
 #[cfg(test)]

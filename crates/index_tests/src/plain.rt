@@ -1,6 +1,6 @@
 //! Answers of plain lists, for tests: what an index is compared with.
 
-use ordered_index::{Answer, Near, Query, Seq};
+use local_index::{Answer, Near, Query, Seq};
 use std::alloc::{AllocError, Global};
 use std::ops::Bound;
 

@@ -9,12 +9,12 @@ use crate::table::Told::{
     Accepted, Audited, Busy, Closed, Done, Holds, NoPlace, NoSession, Opened, Refused,
 };
 use crate::table::{Row, Told, desk_call, is_told};
-use ordered_index::Reply::Inserted;
-use ordered_index::{Audit, Cause, DeskCall, DeskReply};
+use local_index::Reply::Inserted;
+use local_index::{Audit, Cause, DeskCall, DeskReply};
+use local_versions::Write::Insert;
 use std::alloc::{AllocError, Global};
 use std::ops::Bound::Unbounded;
 use std::process::Abort;
-use versions::Write::Insert;
 
 // The calls of a table, from a row on.
 fn calls(alloc: Global, rows: &[Row], from: usize) -> Result<Vec<DeskCall<u64, u64>>, AllocError> {

@@ -5,13 +5,13 @@ use crate::plain;
 use crate::scene::Scene;
 use crate::table::read_of;
 use leaf_array::plain::find_value;
-use ordered_index::{
+use local_index::{
     Accepted, Answer, Audit, Cause, DeskCall, DeskReply, Query, ReadSet, Receipt, Recorded,
     Refused, Seq, Write,
 };
+use local_versions::plain::applied;
 use std::alloc::{AllocError, Global};
 use std::process::Abort;
-use versions::plain::applied;
 
 const PLACES: usize = 2;
 
@@ -51,6 +51,20 @@ const OLDER: u32 = 2048;
 
 const ALL: u32 = 4095;
 
+// Where checkpoints are made: one behind the base's number, and its refusals; an audit of a list that is gone; and a look at a
+// list below the base.
+const BASED: u32 = 4096;
+
+const BEHIND: u32 = 8192;
+
+const AHEAD: u32 = 16_384;
+
+const TOO_OLD: u32 = 32_768;
+
+const DROPPED: u32 = 65_536;
+
+const OF_BASES: u32 = 126_976;
+
 // A session: its label, its number, and what it recorded.
 #[derive(Drop)]
 struct Sitting {
@@ -59,10 +73,11 @@ struct Sitting {
     reads: Vec<Recorded<u64, u64>>,
 }
 
-// What an index has to be: a list for each number, and the sessions; and what was met.
+// What an index has to be: a list for each number, the number of the base, and the sessions; and what was met.
 #[derive(Drop)]
 struct Lists {
     lists: Vec<Seq<(u64, u64)>>,
+    base: usize,
     sessions: Vec<Sitting>,
     met: u32,
 }
@@ -103,6 +118,7 @@ impl Lists {
         lists.push(Seq::new(alloc))?;
         Ok(Lists {
             lists,
+            base: 0,
             sessions: Vec::new(alloc),
             met: 0,
         })
@@ -148,7 +164,8 @@ impl Lists {
             DeskCall::Audit(ReadSet::Receipt(receipt)) => {
                 Some(DeskReply::Audit(self.wanted_of_audit(alloc, receipt)?))
             }
-            DeskCall::Audit(ReadSet::Empty) => Some(DeskReply::Audit(Audit::Yes)),
+            DeskCall::Audit(ReadSet::Empty) => Some(DeskReply::Audit(self.audit_of_own(0))),
+            DeskCall::Checkpoint(upto) => Some(self.wanted_of_checkpoint(*upto)),
             DeskCall::Audit(ReadSet::Session(label))
             | DeskCall::Close(label)
             | DeskCall::Number(label)
@@ -182,9 +199,27 @@ impl Lists {
             }),
             DeskCall::Number(_) => DeskReply::Number(session.number as u64),
             DeskCall::Len(_) => DeskReply::Len(self.list(session.number).len()),
-            // what a session read itself holds of its list
-            _ => DeskReply::Audit(Audit::Yes),
+            _ => DeskReply::Audit(self.audit_of_own(session.number)),
         })
+    }
+
+    // What a session read itself holds of its list, if the index has that.
+    fn audit_of_own(&self, number: usize) -> Audit {
+        if number < self.base {
+            return Audit::TooOld(self.base as u64);
+        }
+        Audit::Yes
+    }
+
+    fn wanted_of_checkpoint(&self, upto: u64) -> DeskReply<u64, u64> {
+        let (first, present) = (self.base as u64, self.number() as u64);
+        if upto < first {
+            return DeskReply::Behind(first);
+        }
+        if upto > present {
+            return DeskReply::Ahead(present);
+        }
+        DeskReply::Checkpointed(upto)
     }
 
     fn wanted_of_read(
@@ -208,6 +243,9 @@ impl Lists {
         receipt: &Receipt<u64, u64>,
     ) -> Result<Audit, AllocError> {
         let number = receipt.number as usize;
+        if number < self.base {
+            return Ok(Audit::TooOld(self.base as u64));
+        }
         if number > self.number() {
             return Ok(Audit::Unknown);
         }
@@ -321,8 +359,20 @@ impl Lists {
                 self.lists.push(Seq::from_vec(turn.after.clone()?))?;
                 Ok(())
             }
+            (_, DeskReply::Checkpointed(number)) => {
+                self.rebase(*number as usize);
+                Ok(())
+            }
             _ => Ok(()),
         }
+    }
+
+    // The list of a number is the base.
+    fn rebase(&mut self, number: usize) {
+        if number > self.base {
+            self.meets(BASED);
+        }
+        self.base = number;
     }
 
     // A session opens on the present list.
@@ -375,6 +425,9 @@ impl Lists {
             DeskReply::NoSession(_) => NO_SESSION,
             DeskReply::Audit(Audit::Unknown) => UNKNOWN,
             DeskReply::Audit(Audit::No(_)) => BROKEN,
+            DeskReply::Audit(Audit::TooOld(_)) => TOO_OLD,
+            DeskReply::Behind(_) => BEHIND,
+            DeskReply::Ahead(_) => AHEAD,
             _ => 0,
         });
     }
@@ -506,7 +559,19 @@ fn play<const S: usize>(
     let (reply, room) = replied(scene, slots, turn.call.clone()?)?;
     let right = is_right(&turn, &reply, &room);
     lists.follow(alloc, &turn, &reply, &room)?;
-    Ok(right)
+    Ok(right && is_based(scene, lists))
+}
+
+// Whether the base is the list of its number, and the transactions behind it lead to the present number.
+fn is_based<const S: usize>(scene: &Scene<S>, lists: &Lists) -> bool {
+    let (number, pairs) = scene.index.base();
+    let behind = match scene.index.since(number) {
+        Ok(transactions) => transactions.len(),
+        Err(_) => return false,
+    };
+    number == lists.base as u64
+        && pairs == lists.list(lists.base)
+        && lists.base.saturating_add(behind) == lists.number()
 }
 
 // Reclaims, and tells whether that leaves as few slots in use as it has to.
@@ -547,6 +612,9 @@ fn look<const S: usize>(scene: &Scene<S>, lists: &mut Lists, label: u64, keys: u
     if number < lists.number() {
         lists.meets(OLDER);
     }
+    if number < lists.base {
+        lists.meets(DROPPED);
+    }
     has_list(scene, label, number, lists.list(number), keys)
 }
 
@@ -583,6 +651,22 @@ fn thrown_on_a_receipt(
     }
 }
 
+// A checkpoint at the base, behind it, or up to two numbers above it; or an audit of a receipt of any number, whose answers are
+// those of its list.
+fn thrown_on_a_base(
+    alloc: Global,
+    dice: &mut Dice,
+    lists: &Lists,
+) -> Result<DeskCall<u64, u64>, AllocError> {
+    if dice.throw(2) == 0 {
+        let upto = (lists.base as u64).saturating_add(dice.throw(4));
+        return Ok(DeskCall::Checkpoint(upto.saturating_sub(1)));
+    }
+    let number = dice.throw(lists.lists.len() as u64) as usize;
+    let receipt = dice.receipt(alloc, lists.list(number), number)?;
+    Ok(DeskCall::Audit(ReadSet::Receipt(receipt)))
+}
+
 // What the dice say, by a session with this label.
 fn thrown_by(
     alloc: Global,
@@ -590,6 +674,9 @@ fn thrown_by(
     lists: &Lists,
     label: u64,
 ) -> Result<Thrown, AllocError> {
+    if dice.bases && dice.throw(10) == 0 {
+        return Ok(Thrown::Play(thrown_on_a_base(alloc, dice, lists)?));
+    }
     let call = match dice.throw(16) {
         0 | 1 => DeskCall::Open(label),
         2 => DeskCall::Close(label),
@@ -663,4 +750,21 @@ fn segments_of_each_size_answer_as_plain_lists(rt: HostRuntime) {
         [Ok((ROUNDS, ALL)); 5],
         "the first call that isn't answered as on lists, and what was met"
     );
+}
+
+#[test]
+fn checkpoints_leave_what_plain_lists_answer(rt: HostRuntime) {
+    let alloc = rt.alloc();
+    let found = [
+        plays::<_, 1>(&rt, alloc, 40, thrown(24, 50, 20).with_bases()),
+        plays::<_, 3>(&rt, alloc, 40, thrown(41, 50, 80).with_bases()),
+        plays::<_, 8>(&rt, alloc, 24, thrown(60, 80, 40).with_bases()),
+    ];
+    let mut all = 0u32;
+    for found in found {
+        let (rounds, met) = found.expect(&rt, "memory");
+        assert_eq!(rt; rounds, ROUNDS);
+        all |= met;
+    }
+    assert_eq!(rt; all & OF_BASES, OF_BASES);
 }

@@ -2,7 +2,7 @@
 
 ghost use Rattle.std.specs.Prelude.{◌≡◌};
 
-use ordered_index::{
+use local_index::{
     Answer, Audit, LocalIndex, Near, Nearby, NoPlace, Query, Reading, Receipt, Recorded,
     ScopedIndex, Seq, Write,
 };

@@ -1,16 +1,16 @@
 //! Recorded reads, conflicts, audits and cursors.
 
-ghost use Rattle.ordered_index.specs.State.{IsSessionOf};
+ghost use Rattle.local_index.specs.State.{IsSessionOf};
 
 use crate::scene::Scene;
 use crate::table::Call::{Audit, Close, Commit, CommitOn, InsertTo, Open, Read};
 use crate::table::Claim::{Between, Exact, Got, Has, Larger, Listed, Mixed, Smaller};
 use crate::table::Told::{Accepted, All, Audited, Closed, Holds, Opened, Refused};
 use crate::table::{Claim, Row, Table, first_wrong};
-use ordered_index::Audit::{No, Unknown, Yes};
-use ordered_index::{Cause, LocalIndex, Reply, Session, Write};
+use local_index::Audit::{No, Unknown, Yes};
+use local_index::{Cause, LocalIndex, Reply, Session, Write};
+use local_versions::Nearby;
 use std::ops::Bound;
-use versions::Nearby;
 
 type Twos = LocalIndex<u64, u64, 2>;
 
@@ -134,42 +134,42 @@ const OF_THE_NUMBER: Table = Table {
 };
 
 // Reads of all pairs, as the lists with the numbers 0 to 6 have them after the commits below.
-const LIST_0: Claim = Listed(Bound::Unbounded, Bound::Unbounded, &[]);
+pub(crate) const LIST_0: Claim = Listed(Bound::Unbounded, Bound::Unbounded, &[]);
 
-const LIST_1: Claim = Listed(Bound::Unbounded, Bound::Unbounded, &[(1, 10)]);
+pub(crate) const LIST_1: Claim = Listed(Bound::Unbounded, Bound::Unbounded, &[(1, 10)]);
 
-const LIST_2: Claim = Listed(Bound::Unbounded, Bound::Unbounded, &[(1, 10), (2, 20)]);
+pub(crate) const LIST_2: Claim = Listed(Bound::Unbounded, Bound::Unbounded, &[(1, 10), (2, 20)]);
 
-const LIST_3: Claim = Listed(Bound::Unbounded, Bound::Unbounded, &[(2, 21)]);
+pub(crate) const LIST_3: Claim = Listed(Bound::Unbounded, Bound::Unbounded, &[(2, 21)]);
 
-const LIST_4: Claim = Listed(Bound::Unbounded, Bound::Unbounded, &[(5, 50)]);
+pub(crate) const LIST_4: Claim = Listed(Bound::Unbounded, Bound::Unbounded, &[(5, 50)]);
 
-const LIST_5: Claim = Listed(Bound::Unbounded, Bound::Unbounded, &[(5, 50), (6, 60)]);
+pub(crate) const LIST_5: Claim = Listed(Bound::Unbounded, Bound::Unbounded, &[(5, 50), (6, 60)]);
 
-const LIST_6: Claim = Listed(
+pub(crate) const LIST_6: Claim = Listed(
     Bound::Unbounded,
     Bound::Unbounded,
     &[(5, 50), (6, 60), (7, 70)],
 );
 
 // The commits with the numbers 1 to 6.
-const COMMIT_1: Row = (Commit(&[Write::Upsert(1, 10)]), Accepted(1, &UPSERTED));
+pub(crate) const COMMIT_1: Row = (Commit(&[Write::Upsert(1, 10)]), Accepted(1, &UPSERTED));
 
-const COMMIT_2: Row = (Commit(&[Write::Upsert(2, 20)]), Accepted(2, &UPSERTED));
+pub(crate) const COMMIT_2: Row = (Commit(&[Write::Upsert(2, 20)]), Accepted(2, &UPSERTED));
 
-const COMMIT_3: Row = (
+pub(crate) const COMMIT_3: Row = (
     Commit(&[Write::Remove(1), Write::Upsert(2, 21)]),
     Accepted(3, &[Reply::Removed, Reply::Upserted]),
 );
 
-const COMMIT_4: Row = (
+pub(crate) const COMMIT_4: Row = (
     Commit(&[Write::Insert(4, 40), Write::Clear, Write::Insert(5, 50)]),
     Accepted(4, &[Reply::Inserted, Reply::Cleared, Reply::Inserted]),
 );
 
-const COMMIT_5: Row = (Commit(&[Write::Insert(6, 60)]), Accepted(5, &ONE_INSERTED));
+pub(crate) const COMMIT_5: Row = (Commit(&[Write::Insert(6, 60)]), Accepted(5, &ONE_INSERTED));
 
-const COMMIT_6: Row = (Commit(&[Write::Insert(7, 70)]), Accepted(6, &ONE_INSERTED));
+pub(crate) const COMMIT_6: Row = (Commit(&[Write::Insert(7, 70)]), Accepted(6, &ONE_INSERTED));
 
 // Audits of each number by its own list, and by the next.
 const AUDITS: &[Row] = &[

@@ -2,11 +2,11 @@
 
 ghost use Rattle.std.specs.Prelude.{◌≡◌, None, replicate, IfSome};
 ghost use Rattle.version_views.specs.Sizes.{IsStoreSized};
-ghost use Rattle.ordered_index.specs.Desk.{Serves};
-ghost use Rattle.ordered_index.specs.State.{IsSessionOf};
+ghost use Rattle.local_index.specs.Desk.{Serves};
+ghost use Rattle.local_index.specs.State.{IsSessionOf};
 
 use crate::table::{Call, Told, desk_call, is_told};
-use ordered_index::{Desk, DeskCall, DeskReply, LocalIndex, Session, play_all, play_one};
+use local_index::{Desk, DeskCall, DeskReply, LocalIndex, Session, Write, play_all, play_one};
 use std::alloc::{AllocError, Global};
 use std::process::Abort;
 
@@ -129,6 +129,24 @@ impl<const S: usize> Scene<S> {
         ))
     }
 
+    // Whether the base is this list with this number.
+    fn is_based(&self, number: u64, pairs: &[(u64, u64)]) -> bool {
+        let (first, list) = self.index.base();
+        first == number && list == pairs
+    }
+
+    // Whether the transactions behind a number have these writes.
+    fn is_fed(&self, number: u64, writes: &[&[Write<u64, u64>]]) -> bool {
+        let Ok(fed) = self.index.since(number) else {
+            return false;
+        };
+        let mut alike = fed.len() == writes.len();
+        for (transaction, wanted) in fed.iter().zip(writes) {
+            alike = transaction.writes.as_slice() == *wanted && alike;
+        }
+        alike
+    }
+
     fn is_played(&mut self, call: Call, told: Told) -> Result<bool, AllocError> {
         let made = desk_call(self.alloc, call)?;
         let reply = self.reply(made)?;
@@ -141,6 +159,9 @@ impl<const S: usize> Scene<S> {
             (Call::Look(label, key), Told::Seen(number, len, value)) => {
                 self.looked_up(label, key) == Some((number, len, value, value.is_some()))
             }
+            (Call::Base, Told::Based(number, pairs)) => self.is_based(number, pairs),
+            (Call::Since(number), Told::Fed(writes)) => self.is_fed(number, writes),
+            (Call::Since(number), Told::Unfed(why)) => self.index.since(number) == Err(why),
             _ => self.is_played(call, told).unwrap_or(false),
         }
     }

@@ -1,12 +1,12 @@
 //! Sessions and commits of an index, by example.
 
-ghost use Rattle.ordered_index.specs.State.{IsSessionOf};
+ghost use Rattle.local_index.specs.State.{IsSessionOf};
 
 use crate::table::Call::{Close, Commit, CommitOn, Look, Open};
 use crate::table::Claim::Got;
 use crate::table::Told::{Accepted, Closed, NoPlace, Opened, Refused, Seen};
 use crate::table::{Table, first_wrong};
-use ordered_index::{
+use local_index::{
     Cause, LocalIndex, Receipt, Reply, Seq, Session, Write, clones_of_lists, equals_of_lists,
 };
 use std::alloc::Global;

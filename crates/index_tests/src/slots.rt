@@ -6,7 +6,7 @@ use crate::table::Call::{
 use crate::table::Claim::Got;
 use crate::table::Told::{Accepted, All, AtMost, Closed, Done, NoPlace, Opened, Refused, Seen};
 use crate::table::{Table, Told, first_wrong};
-use ordered_index::{Cause, Reply, Write};
+use local_index::{Cause, Reply, Write};
 use std::ops::Bound;
 
 // Inserts of five keys, each its own value.

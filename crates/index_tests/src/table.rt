@@ -1,9 +1,9 @@
 //! Calls of an index as data, by a desk that keeps its sessions, so that a test of many calls is a table.
 
 use crate::scene::Scene;
-use ordered_index::{
+use local_index::{
     Accepted, Answer, Audit, Cause, DeskCall, DeskReply, Near, Query, ReadSet, Receipt, Recorded,
-    Refused, Reply, Seq, Write,
+    Refused, Reply, Seq, SinceRefused, Write,
 };
 use std::alloc::{AllocError, Global};
 use std::ops::Bound;
@@ -52,6 +52,10 @@ pub(crate) enum Call {
     AuditOf(u64),
     Reclaim,
     Slots,
+    Checkpoint(u64),
+    /// A look at the base, and at the transactions behind a number.
+    Base,
+    Since(u64),
 }
 
 /// What a call answers.
@@ -78,6 +82,14 @@ pub(crate) enum Told {
     Audited(Audit),
     Slots(usize),
     AtMost(usize),
+    Checkpointed(u64),
+    Behind(u64),
+    Ahead(u64),
+    /// The number of the base, and its pairs.
+    Based(u64, &'static [(u64, u64)]),
+    /// The writes of each transaction, or why they aren't told.
+    Fed(&'static [&'static [Write<u64, u64>]]),
+    Unfed(SinceRefused),
 }
 
 /// A row of a table: a call, and what it answers.
@@ -170,7 +182,8 @@ fn reads_of(alloc: Global, call: Call) -> Result<ReadSet<u64, u64>, AllocError> 
     })
 }
 
-/// The call of a desk that this is. A look-up that isn't recorded is none, and asks what a recorded one does.
+/// The call of a desk that this is. A look-up that isn't recorded is none, and asks what a recorded one does; a look at the base
+/// or the transactions behind it is none, and asks for the slots.
 pub(crate) fn desk_call(alloc: Global, call: Call) -> Result<DeskCall<u64, u64>, AllocError> {
     Ok(match call {
         Call::Open(label) => DeskCall::Open(label),
@@ -181,7 +194,8 @@ pub(crate) fn desk_call(alloc: Global, call: Call) -> Result<DeskCall<u64, u64>,
         Call::Len(label) => DeskCall::Len(label),
         Call::Audit(_, _) | Call::AuditOf(_) => DeskCall::Audit(reads_of(alloc, call)?),
         Call::Reclaim => DeskCall::Reclaim,
-        Call::Slots => DeskCall::Slots,
+        Call::Slots | Call::Base | Call::Since(_) => DeskCall::Slots,
+        Call::Checkpoint(upto) => DeskCall::Checkpoint(upto),
         _ => DeskCall::Commit(reads_of(alloc, call)?, writes_of(alloc, call)?),
     })
 }
@@ -245,6 +259,9 @@ pub(crate) fn wanted(
         (Told::Len(count), _) => DeskReply::Len(count),
         (Told::Slots(count), _) => DeskReply::Slots(count),
         (Told::Audited(audit), _) => DeskReply::Audit(audit),
+        (Told::Checkpointed(number), _) => DeskReply::Checkpointed(number),
+        (Told::Behind(number), _) => DeskReply::Behind(number),
+        (Told::Ahead(number), _) => DeskReply::Ahead(number),
         _ => wanted_of_memory(alloc, call, told)?,
     })
 }

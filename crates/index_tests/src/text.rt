@@ -1,6 +1,6 @@
 //! Texts as keys and values, as a caller has them.
 
-use ordered_index::{Audit, Cause, LocalIndex, Query, Receipt, Reply, Text, Write};
+use local_index::{Audit, Cause, LocalIndex, Query, Receipt, Reply, Text, Write};
 use std::alloc::{AllocError, Global};
 use std::ops::Bound;
 use std::process::Abort;

@@ -1,6 +1,6 @@
 //! What an index is asked and what it tells, as values: cloned, compared and printed.
 
-use ordered_index::{
+use local_index::{
     Accepted, Answer, Audit, Cause, DeskCall, DeskReply, Near, Query, ReadSet, Receipt, Recorded,
     Refused, Reply, Seq, Write,
 };

@@ -38,7 +38,7 @@ pub fn taking_out_is_removing<K: Ord, V>()
     ensures { (key : K) (pairs : List (K × V)) → IsAscending K.cmp pairs → remove_entry (is_at (K.cmp key)) pairs ≡ removed K.cmp key pairs }
 {}
 
-/// A list has a key exactly if std's look-up finds something, and its value is that of the entry found.
+/// A list has a key if and only if std's look-up finds something, and its value is that of the entry found.
 pub fn finding_is_looking_up<K: Ord, V>()
     ensures has { (key : K) (pairs : List (K × V)) → has_key K.cmp key pairs ≡ is_some (lookup (is_at (K.cmp key)) pairs) }
     ensures value { (key : K) (pairs : List (K × V)) → value_of_key K.cmp key pairs ≡ option_map (λ e. e.1) (lookup_entry (is_at (K.cmp key)) pairs) }

@@ -4,7 +4,7 @@ ghost use Rattle.std.specs.Prelude.{◌≡◌};
 
 use crate::reads::{begin, shut};
 use crate::task::Task;
-use ordered_index::{LocalIndex, Receipt, Write};
+use local_index::{LocalIndex, Receipt, Write};
 use std::alloc::Global;
 use std::mem;
 use std::ops::Bound;

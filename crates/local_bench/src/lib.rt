@@ -7,7 +7,7 @@
 #![tactic(auto)]
 
 ghost use Rattle.std.specs.Prelude.{◌≡◌, ◌≤◌};
-ghost use Rattle.ordered_index.specs.State.{HasNoSession};
+ghost use Rattle.local_index.specs.State.{HasNoSession};
 
 mod commits;
 mod reads;
@@ -16,7 +16,7 @@ mod task;
 use crate::commits::{build, commit_task};
 use crate::reads::read_task;
 use crate::task::task_of;
-use ordered_index::LocalIndex;
+use local_index::LocalIndex;
 use std::alloc::Global;
 
 /// Runs a task on an index whose segments have at most 16 pairs. The number of a task is that of [`task_of`].

@@ -1,10 +1,10 @@
 //! Tasks that read.
 
 ghost use Rattle.std.specs.Prelude.{◌≡◌, None, IfSome, IfNone, slice_set};
-ghost use Rattle.ordered_index.specs.State.{IsSessionOf};
+ghost use Rattle.local_index.specs.State.{IsSessionOf};
 
 use crate::task::Task;
-use ordered_index::{Answer, LocalIndex, Query, Receipt, Session};
+use local_index::{Answer, LocalIndex, Query, Receipt, Session};
 use std::ops::Bound;
 
 /// Runs a round of a task that reads; gives the sum of the values that it met, a key that isn't there counting 1.

@@ -1,10 +1,14 @@
-//! A transactional ordered index of one thread.
+//! A transactional ordered index, of one thread or of many.
 //!
-//! Sessions read one version of an ordered list of pairs from their opening to their close, while
-//! commits replace it. A commit conflicts exactly where a read that it rests on no longer holds of
-//! the present list, so that the accepted commits are one serial history (optimistic concurrency
-//! control, validated by answers). `specs/` has the model: [`LocalIndex`] is a `State` of it, and
-//! each call one of its steps.
+//! Sessions read one version of an ordered list of pairs from their opening to their close, while commits replace it. A
+//! commit conflicts if and only if a read that it rests on no longer holds of the present list, so that the accepted
+//! commits are one serial history (optimistic concurrency control, validated by answers). `specs/` has the model:
+//! [`LocalIndex`] is a `State` of it, and each call one of its steps. A [`SharedIndex`] is the same index over a place
+//! that threads share: its sessions read in any thread, and its commits keep their order by a lock.
+//!
+//! This crate is a face: it has no function of its own, and passes on all that the calls of a `LocalIndex`, a `SharedIndex`
+//! and a `Book` take and give. Who uses a `LocalIndex` alone may list `local_index` in its place, which stands on
+//! fewer crates.
 //!
 //! <!-- crates/first_index/src/main.rt -->
 //! ```text
@@ -69,29 +73,23 @@
 //! <!-- end -->
 #![tactic(auto)]
 
-mod desk;
-mod index;
-mod laws;
-mod play;
-mod reading;
-mod refused;
-mod scoped;
-mod session;
-mod text;
-
-pub use desk::Desk;
-pub use index::{LocalIndex, NoPlace};
-pub use laws::{
-    a_changed_range_is_a_conflict, own_receipts_audit_yes, reads_that_hold_are_no_conflict,
+pub use local_index::{
+    Accepted, Answer, Audit, BaseCause, BaseRefused, Cause, CheckpointRefused, Desk, DeskCall,
+    DeskRefused, DeskReply, LocalIndex, Near, Nearby, NoPlace, Query, ReadSet, Reading, Receipt,
+    Recorded, Refused, Reply, ScopedIndex, Seq, Session, SinceRefused, Text, Transaction, Walk,
+    Write, a_changed_range_is_a_conflict, a_feed_leads_to_the_present_list, clones_of_lists,
+    equals_of_lists, ordered_view, own_receipts_audit_yes, play_all, play_one,
+    reads_that_hold_are_no_conflict, replay, transaction, version_view,
 };
-pub use play::{DeskCall, DeskReply, ReadSet, play_all, play_one};
-pub use reading::Reading;
-pub use refused::DeskRefused;
-pub use scoped::ScopedIndex;
-pub use serial_history::{
-    Accepted, Answer, Audit, Cause, Near, Nearby, Query, Receipt, Recorded, Refused, Reply, Seq,
-    Transaction, Walk, Write, clones_of_lists, equals_of_lists, ordered_view, replay, transaction,
-    version_view,
-};
-pub use session::Session;
-pub use text::Text;
+pub use sdd_domain::atomic_shared::AtomicShared;
+pub use sdd_domain::domain::Domain;
+pub use sdd_domain::guard::Guard;
+pub use sdd_domain::local::Local;
+pub use sdd_domain::pointer::Loaded;
+pub use sdd_domain::refusal::RegisterRefused;
+pub use sdd_plain::{Nested, NoSlot, Sizes};
+pub use shared_index::{Book, Naming, NewRefused, Share, SharedIndex, join_over};
+pub use shared_sessions::{OpenRefused, SharedNearby, SharedSession, SharedWalk};
+pub use shared_versions::{Node, Present};
+pub use tree_index::{Proximity, Range, Steps, TreeIndex};
+pub use version_views::WriteRefused;

@@ -11,7 +11,7 @@ use index_script::reply::{LONGEST_FAULT, write_fault, write_reply};
 use index_script::request::Fault;
 use index_script::run::{RunError, outcome, run};
 use index_script::script::Script;
-use ordered_index::{Accepted, Cause, DeskReply, Refused, Reply};
+use local_index::{Accepted, Cause, DeskReply, Refused, Reply};
 use std::alloc::Global;
 use std::io;
 use std::process::Abort;
@@ -74,6 +74,14 @@ const FAULTS: &[Row] = &[
     (b"len x\n", "line 1: number\n"),
     (b"number 07\n", "line 1: number\n"),
     (b"number 7 \n", "line 1: words\n"),
+    (b"checkpoint\n", "line 1: words\n"),
+    (b"checkpoint 1 2\n", "line 1: words\n"),
+    (b"checkpoint -\n", "line 1: number\n"),
+    (b"checkpoint 00\n", "line 1: number\n"),
+    (b"checkpoints 1\n", "line 1: command\n"),
+    (b"checkpoint 0\n", "checkpoint 0\n"),
+    (b"checkpoint 18446744073709551615\n", "ahead 0\n"),
+    (b"checkpoint 18446744073709551616\n", "line 1: number\n"),
     (b" insert 1 a\n", "line 1: command\n"),
     (b"Insert 1 a\n", "line 1: command\n"),
     (b"commit -\r\n", "line 1: number\n"),

@@ -5,17 +5,17 @@ use crate::streams::{
 };
 use index_script::reply::write_reply;
 use index_script::run::RunError;
-use ordered_index::{Audit, DeskReply};
+use local_index::{Audit, DeskReply};
 use std::alloc::Global;
 use std::io;
 use std::process::Abort;
 use std::test::Fail;
 
 // Sessions that read ranges and neighbours, a commit that conflicts, and lines at fault.
-const READS: &[u8] =
+pub(crate) const READS: &[u8] =
     b"upsert 2 a b\nupsert 4 c\ncommit -\nopen 1\nrange 1 !2 *\nnear 1 3\nremove 4\ncommit -\nremove 9\ncommit 1\ndiscard\naudit 1\nlen 1\nopen 1\nget 1 007\nrange 1 2 *\n";
 
-const READS_OUTPUT: &str =
+pub(crate) const READS_OUTPUT: &str =
     "staged 1\nstaged 2\nok 1 upserted upserted\nopen 1 at 1\npairs 1\n4 c\nbetween\n2 a b\n4 c\nstaged 1\nok 2 removed\nstaged 1\nconflict 0\ndiscarded 1\naudit yes\nlen 2\nline 14: busy\nline 15: number\nline 16: bound\n";
 
 #[test]
@@ -26,6 +26,23 @@ fn a_script_reads_conflicts_and_audits(rt: HostRuntime) {
 #[test]
 fn the_cut_of_a_longer_input_changes_nothing(rt: HostRuntime) {
     is_cut_anywhere(&rt, rt.alloc(), (READS, READS_OUTPUT));
+}
+
+// The list of number 2 becomes the base, while a session reads that of number 1.
+const CHECKPOINTS: &[Row] = &[
+    (
+        b"upsert 1 a\ncommit -\nopen 5\nupsert 1 b\ncommit -\ncheckpoint 3\ncheckpoint 2\ncheckpoint 1\nget 5 1\naudit 5\ncommit 5\ncheckpoint x\n",
+        "staged 1\nok 1 upserted\nopen 5 at 1\nstaged 1\nok 2 upserted\nahead 2\ncheckpoint 2\nbehind 2\nsome a\naudit old\nconflict 0\nline 12: number\n",
+    ),
+    (
+        b"upsert 1 a\ncommit -\ncheckpoint 1\ncheckpoint 1\nopen 5\nget 5 1\naudit 5\nslots\ncommit 5\ncheckpoint 2\naudit 5\n",
+        "staged 1\nok 1 upserted\ncheckpoint 1\ncheckpoint 1\nopen 5 at 1\nsome a\naudit yes\nslots 3\nok 2\ncheckpoint 2\naudit old\n",
+    ),
+];
+
+#[test]
+fn a_checkpoint_drops_what_came_before(rt: HostRuntime) {
+    write_what_is_wanted(&rt, rt.alloc(), CHECKPOINTS);
 }
 
 // How many bytes the reply to each line has.

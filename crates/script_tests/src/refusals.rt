@@ -1,13 +1,10 @@
 //! Runs in which any one allocation may be refused. A script has each refused in turn: what is
 //! written is then the replies of the first lines, each of them whole.
 
+use crate::reads::{READS, READS_OUTPUT};
 use index_script::run::{RunError, run};
 use std::alloc::{AllocError, Global};
 use std::process::Abort;
-
-const SCRIPT: &[u8] = b"insert 1 ten\ncommit -\nopen 7\nget 7 1\nopen x\n";
-
-const REPLIES: &[u8] = b"staged 1\nok 1 inserted\nopen 7 at 1\nsome ten\nline 5: number\n";
 
 // A writer with room for all replies, tried again where memory was refused.
 fn writer<R: Abort>(rt: &R, alloc: Global, met: &mut bool) -> Vec<u8> {
@@ -24,12 +21,12 @@ fn writer<R: Abort>(rt: &R, alloc: Global, met: &mut bool) -> Vec<u8> {
 fn answers<R: Abort>(rt: &R, alloc: Global) -> bool {
     let mut met = false;
     let mut out = writer(rt, alloc, &mut met);
-    let mut input = SCRIPT;
+    let mut input = READS;
     match run::<64, _, _>(alloc, &mut input, &mut out, 2, 16) {
-        Ok(()) => assert!(rt; out.as_slice() == REPLIES),
+        Ok(()) => assert!(rt; out.as_slice() == READS_OUTPUT.as_bytes()),
         Err(RunError::Memory) => {
             met = true;
-            assert!(rt; REPLIES.starts_with(out.as_slice()));
+            assert!(rt; READS_OUTPUT.as_bytes().starts_with(out.as_slice()));
             assert!(rt; out.last().is_none_or(|byte| *byte == b'\n'));
         }
         Err(_) => panic!(rt; "a read or a write failed"),

@@ -1,14 +1,16 @@
-pub use Rattle.sdd_lists.specs.Entries
-pub use Rattle.sdd_lists.specs.Chain
-pub use Rattle.sdd_lists.specs.Nodes
-pub use Rattle.sdd_lists.specs.Copies
-mod Calls
-pub mod Stacks
-pub mod Owners
-pub mod Queues
-pub mod Refusals
-pub mod Bags
-pub mod Iters
-pub mod FromIter
-pub mod MutableIteration
-pub mod Guards
+pub use Rattle.shared_lists.specs.Lists
+pub use Rattle.shared_lists.specs.Entries
+pub use Rattle.shared_containers.specs.Containers
+pub use Rattle.shared_containers.specs.Outcomes
+pub use Rattle.shared_containers.specs.Taken
+pub use Rattle.shared_containers.specs.Walks
+pub use Rattle.sdd_base.specs.State
+pub use Rattle.sdd_base.specs.Tokens
+pub use Rattle.sdd_base.specs.Layout
+pub use Rattle.sdd_base.specs.WorldTokens
+pub use Rattle.world_containers.specs.Entries as WorldEntries
+pub use Rattle.world_containers.specs.Stacks
+pub use Rattle.world_containers.specs.Queues
+pub use Rattle.world_containers.specs.Bags
+pub use Rattle.world_containers.specs.Owners
+pub use Rattle.world_containers.specs.Refusals

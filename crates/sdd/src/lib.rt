@@ -1,44 +1,24 @@
-//! Linked lists, queues, stacks and bags of items of a place, each value in an entry of its own.
+//! Containers over both kinds of place: stacks, queues and bags over a [`Domain`], which threads share, and with lists
+//! over a [`World`] of one thread.
 //!
-//! The calls over a place of one thread stand in [`world`]: `Type::call` of a container is `world::type::call`, with the
-//! world first. Clauses see a list as its [`Entry`](linked_entry::LinkedEntry)s in order, each with its slot, the cell
-//! of its link and its tag; the list that a user sees is what isn't deleted of these. A clause is stated for every list
-//! that hangs there, so that it says the same of any list of entries before a call.
-//!
-//! What one call changes of a place is its clause `leaves`: the cells and the items of its own list, and no other. So
-//! containers beside each other stay as they are ([`laws::lists_stay`]). Owners that a call gives can be given back by
-//! [`laws::spare_owners`], [`laws::spare_queue_owners`], [`laws::bags_stay`] and [`laws::releases_leave`]; those that a
-//! refused `pop_if` and `next_shared` give, by the clauses `spare` of these.
-//!
-//! `from_iter` and `clone` of a container make new entries alone: a refused one hands back what it built, and changes
-//! nothing else (clauses `leaves`).
-//!
-//! A bag is two multisets, each as a list in some order: clauses say which entry is added or taken.
-//!
-//! The values of a bag are lent for writing, one after another, while no guard is open: a walk borrows the place, as
-//! [`world::iter_mut`] says. While a guard opens or closes, containers stay what they are ([`laws::guards_leave`]).
-//!
-//! A deleted entry stays linked until it is passed at the front of its list, since `next_ptr` only reads.
+//! The root has the types and calls over a `Domain`; [`world`] has those over a `World`. It passes on `sdd_base`. This
+//! crate is a face: it has no function of its own.
 #![tactic(auto)]
 
-pub use sdd_base;
-
-pub mod bag;
-pub mod iter;
-pub mod laws;
-pub mod queue;
-pub mod refusal;
-pub mod stack;
 pub mod world;
 
-pub use bag::{Bag, IntoIter, IterMut, Stop};
-pub use iter::Iter;
-pub use queue::Queue;
-pub use refusal::{CloneRefused, FromIterRefused, NotMade, PushRefused};
+pub use sdd_base;
 pub use sdd_base::{
-    AtomicOwned, AtomicRaw, AtomicShared, Deferred, Epoch, ExclusiveAccess, GuardsOpen, Held,
-    Holds, Job, Kept, Link, Nested, NoJob, NoSlot, NotLent, Owned, Plain, PrivateCollector, Ptr,
-    RawPtr, Shared, Sizes, Tag, Task, World, WorldGuard,
+    AtomicOwned, AtomicRaw, AtomicShared, Deferred, Domain, Epoch, ExclusiveAccess, Guard,
+    GuardsOpen, Held, Holds, Job, Loaded, Local, LocalState, Named, Nested, NoJob, NoSlot, NotLent,
+    Owned, OwnedPtr, Plain, PrivateCollector, Ptr, RawItems, RawPtr, RawRefused, RegisterRefused,
+    Shared, Sizes, Tag, Task, World, WorldGuard, an_owner_keeps_its_item, collect_owned, epoch,
+    every_moment_is_safe, hold_last, job, own_last, sizes, tag, the_count_is_raised_at_most_once,
+    what_is_loaded_stays,
 };
-pub use sdd_lists::{LinkedEntry, LinkedList, linked_entry, linked_list};
-pub use stack::Stack;
+pub use shared_containers::bag::Bag;
+pub use shared_containers::iter::{IntoIter, Iter};
+pub use shared_containers::outcome::{CloneRefused, FromIterRefused, NotCloned, PushRefused};
+pub use shared_containers::queue::Queue;
+pub use shared_containers::stack::Stack;
+pub use shared_lists::{LinkedEntry, Links, NotMade};

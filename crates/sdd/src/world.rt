@@ -1,13 +1,14 @@
-//! The calls over a `World`.
+//! The calls over a `World`, as `world::queue::push`, and the types that they take and give.
 
-pub mod bag;
-mod copies;
-pub mod into_iter;
-pub mod iter;
-pub mod iter_mut;
-pub mod queue;
-mod row;
-pub mod stack;
-mod tail;
-
-pub use sdd_lists::world::{linked_entry, linked_list};
+pub use sdd_base::world::{
+    AtomicOwned, AtomicRaw, AtomicShared, Held, Holds, Kept, Link, Loaded, Owned, Plain,
+    PrivateCollector, Ptr, RawPtr, Shared, atomic_owned, atomic_raw, atomic_shared, guard, owned,
+    private_collector, ptr, raw_ptr, shared,
+};
+pub use world_containers::world::{
+    bag, into_iter, iter, iter_mut, linked_entry, linked_list, queue, stack,
+};
+pub use world_containers::{
+    Bag, CloneRefused, FromIterRefused, IntoIter, Iter, IterMut, LinkedEntry, LinkedList, NotMade,
+    PushRefused, Queue, Stack, Stop,
+};

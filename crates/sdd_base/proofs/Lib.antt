@@ -1,12 +1,4 @@
-pub use Rattle.sdd_table.proofs.ListLemmas
-pub use Rattle.sdd_table.proofs.SlotLemmas
-pub use Rattle.sdd_table.proofs.BagInvariantLemmas
-pub use Rattle.sdd_table.proofs.PlaceLemmas
-pub mod FrameLemmas
-pub mod CountLemmas
-pub mod PrivateCollectorLemmas
-pub mod PassLemmas
-pub mod NoteLemmas
-pub mod CellLemmas
-pub mod IdleParticipantLemmas
-pub mod CelledLemmas
+pub use Rattle.sdd_world.proofs.ListLemmas
+pub use Rattle.sdd_world.proofs.SlotLemmas
+pub use Rattle.sdd_world.proofs.PlaceLemmas
+pub use Rattle.sdd_world.proofs.CellLemmas

@@ -1,27 +1,36 @@
-//! The reclamation core of one thread: epochs, guards, owners, pointers and cells.
+//! Places that reclaim by epochs: a [`Domain`], which threads share, and a [`World`] of one thread.
 //!
-//! A [`World`] keeps items in numbered slots. Owners and cells name an item; a guard that is open keeps
-//! each item readable that had an owner when it was opened. What its last owner gives back waits in a bag of the
-//! participant that retired it, and is reclaimed when no guard can still name it.
+//! Both keep items in slots, with owners, pointers and cells, and reclaim what nobody reaches. The root has the types
+//! and calls over a `Domain`; [`world`] has those over a `World`. What both have alike, as [`Tag`] and [`Sizes`], stands
+//! at the root. This crate is a face: it has no function of its own.
 #![tactic(auto)]
 
-pub mod cell;
-pub mod collector;
-pub mod exclusive_access;
-pub mod guard;
-pub mod laws;
-pub mod pointer;
-pub mod refusal;
 pub mod world;
 
-pub use cell::{AtomicOwned, AtomicRaw, AtomicShared};
-pub use collector::PrivateCollector;
-pub use exclusive_access::ExclusiveAccess;
-pub use guard::WorldGuard;
-pub use pointer::{Loaded, Ptr, RawPtr};
-pub use refusal::{GuardsOpen, Nested, NoSlot, NotLent};
-pub use sdd_table::{
-    Deferred, Epoch, Held, Holds, Job, Kept, Link, NoJob, Owned, Plain, Shared, Sizes, Tag, Task,
-    epoch, holds, job, link, owner, plain, sizes, status, tag,
+pub use sdd_domain::atomic_shared::AtomicShared;
+pub use sdd_domain::domain::Domain;
+pub use sdd_domain::guard::Guard;
+pub use sdd_domain::held::Held;
+pub use sdd_domain::holding::{hold_last, own_last};
+pub use sdd_domain::holds::Holds;
+pub use sdd_domain::laws::{
+    an_owner_keeps_its_item, every_moment_is_safe, the_count_is_raised_at_most_once,
+    what_is_loaded_stays,
 };
-pub use world::World;
+pub use sdd_domain::local::Local;
+pub use sdd_domain::plain::Plain;
+pub use sdd_domain::pointer::{Loaded, Named, Ptr};
+pub use sdd_domain::private_collector::PrivateCollector;
+pub use sdd_domain::refusal::RegisterRefused;
+pub use sdd_domain::shared::Shared;
+pub use sdd_plain::{Epoch, LocalState, Nested, NoSlot, Sizes, Tag, epoch, sizes, tag};
+pub use sdd_world::{
+    Deferred, ExclusiveAccess, GuardsOpen, Job, NoJob, NotLent, Task, World, WorldGuard, job,
+};
+pub use shared_owned::atomic_owned::AtomicOwned;
+pub use shared_owned::atomic_raw::AtomicRaw;
+pub use shared_owned::collecting::collect_owned;
+pub use shared_owned::owned::Owned;
+pub use shared_owned::pointer::OwnedPtr;
+pub use shared_owned::raw_items::{RawItems, RawRefused};
+pub use shared_owned::raw_ptr::RawPtr;

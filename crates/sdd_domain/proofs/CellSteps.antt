@@ -3,10 +3,10 @@ use Rattle.std.proofs.Common.{◌≡◌, ◌<◌, ◌≤◌, ◌+◌, ℕ, List,
 use Rattle.std.specs.Prelude.{All}
 use Rattle.std.proofs.lemmas.List.Elements.{All-nil, All-cons, All-append}
 use Rattle.atomic_table.specs.Seated.{TableId}
-use Rattle.sdd_base.specs.Epochs.{tag_number}
-use Rattle.sdd_base.specs.declared.tag.Tag.{Tag}
-use Rattle.sdd_base.specs.declared.tag.Tag.TheVariants as tags
-use Rattle.sdd_base.specs.declared.sizes.Sizes.{Sizes}
+use Rattle.sdd_plain.specs.Epochs.{tag_number}
+use Rattle.sdd_plain.specs.declared.tag.Tag.{Tag}
+use Rattle.sdd_plain.specs.declared.tag.Tag.TheVariants as tags
+use Rattle.sdd_plain.specs.declared.sizes.Sizes.{Sizes}
 use Rattle.domain_table.specs.Layout.{cell_word}
 use Rattle.domain_table.specs.declared.board.CellStep.{CellStep}
 use Rattle.sdd_domain.specs.Tokens.{home_of}

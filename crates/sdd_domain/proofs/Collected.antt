@@ -12,8 +12,9 @@ use Rattle.domain_table.specs.Views.{rereading}
 use Rattle.domain_table.specs.declared.board.Acting.{Acting}
 use Rattle.domain_table.specs.declared.board.Home.{Home}
 use Rattle.domain_table.proofs.Rows.{same_homes}
-use Rattle.domain_garbage.specs.Bag.{AreAt, noted_told}
-use Rattle.domain_garbage.specs.declared.private.Noted.{Noted}
+use Rattle.domain_garbage.specs.Bag.{AreAt, garbage_told}
+use Rattle.domain_table.proofs.BagLemmas.{has_left}
+use Rattle.sdd_steps.specs.State.{Has}
 use Rattle.sdd_steps.proofs.ListLemmas.{has_map}
 use Rattle.sdd_domain.specs.Collecting.{IsSwept, IsSweptOf}
 use Rattle.sdd_domain.specs.declared.local.Local.{Local}
@@ -52,25 +53,29 @@ module _ {T : Type 0} (l : Local T) (note : ℕ) (ws0 : List Garbage) (m1 m2 : M
           (ap (λ ks. has_all is_blank (own_spare d l.spare ∷ ks) l.place.me.1) (same_homes d ls' d.leases at_last) ∙ l.has_spare.2)
 
 -- a list whose images end with t ends with what that is the image of
-last_mapped : (ns : List Noted) (ts : List (ℕ × ℕ)) (t : ℕ × ℕ) → map noted_told ns ≡ ts ++ t ∷ [] → (ms : List Noted) × (n : Noted) × (ns ≡ ms ++ n ∷ []) × (noted_told n ≡ t)
+last_mapped : (ws : List Garbage) (ts : List (ℕ × ℕ)) (t : ℕ × ℕ) → map garbage_told ws ≡ ts ++ t ∷ [] → (vs : List Garbage) × (w : Garbage) × (ws ≡ vs ++ w ∷ []) × (garbage_told w ≡ t)
 last_mapped [] [] t e = absurd (cc)
 last_mapped [] (z ∷ zs) t e = absurd (cc)
-last_mapped (n ∷ []) [] t e = let same : noted_told n ≡ t = cc in ([], n, refl, same)
-last_mapped (n ∷ []) (z ∷ []) t e = absurd (cc)
-last_mapped (n ∷ []) (z ∷ y ∷ zs) t e = absurd (cc)
-last_mapped (n ∷ m ∷ ns) [] t e = absurd (cc)
-last_mapped (n ∷ m ∷ ns) (z ∷ zs) t e = let tails : map noted_told (m ∷ ns) ≡ zs ++ t ∷ [] = cc in let r = last_mapped (m ∷ ns) zs t tails in (n ∷ r.0, r.1, ap (λ xs. n ∷ xs) r.2, r.3)
+last_mapped (w ∷ []) [] t e = let same : garbage_told w ≡ t = cc in ([], w, refl, same)
+last_mapped (w ∷ []) (z ∷ []) t e = absurd (cc)
+last_mapped (w ∷ []) (z ∷ y ∷ zs) t e = absurd (cc)
+last_mapped (w ∷ v ∷ ws) [] t e = absurd (cc)
+last_mapped (w ∷ v ∷ ws) (z ∷ zs) t e = let tails : map garbage_told (v ∷ ws) ≡ zs ++ t ∷ [] = cc in let r = last_mapped (v ∷ ws) zs t tails in (w ∷ r.0, r.1, ap (λ xs. w ∷ xs) r.2, r.3)
 
 -- what was swept, as it is told
-pub swept_told : (count : ℕ) (old kept : List Noted) → IsSweptOf count old kept → IsSwept count (map noted_told old) (map noted_told kept)
+pub swept_told : (count : ℕ) (old kept : List Garbage) → IsSweptOf count old kept → IsSwept count (map garbage_told old) (map garbage_told kept)
 swept_told count old kept s = (
-  map noted_told s.0,
-  ap (map noted_told) s.1 ∙ map-append noted_told kept s.0,
-  (λ t h. let p = has_map noted_told s.0 t h in subst (λ (z : ℕ × ℕ). z.1 + 3 ≤ count) p.2 (s.2 p.0 p.1)),
+  map garbage_told s.0,
+  ap (map garbage_told) s.1 ∙ map-append garbage_told kept s.0,
+  (λ t h. let p = has_map garbage_told s.0 t h in subst (λ (z : ℕ × ℕ). z.1 + 3 ≤ count) p.2 (s.2 p.0 p.1)),
   (λ ts t e. let p = last_mapped kept ts t e in subst (λ (z : ℕ × ℕ). count < z.1 + 3) p.3 (s.3 p.0 p.1 p.2)),
 )
 
 -- with the last owner the item is in front of the others
-pub put_told : (b : Bool) (n : Noted) (old new : List Noted) → (IsTrue b → new ≡ n ∷ old) → (IsFalse b → new ≡ old) → map noted_told new ≡ cond b (noted_told n ∷ map noted_told old) (map noted_told old)
-put_told true n old new last more = ap (map noted_told) (last refl)
-put_told false n old new last more = ap (map noted_told) (more refl)
+pub put_told : (b : Bool) (t : ℕ × ℕ) (old new : List Garbage) → (IsTrue b → map garbage_told new ≡ t ∷ map garbage_told old) → (IsFalse b → new ≡ old) → map garbage_told new ≡ cond b (t ∷ map garbage_told old) (map garbage_told old)
+put_told true t old new last more = last refl
+put_told false t old new last more = ap (map garbage_told) (more refl)
+
+-- no note of what is left is above the count
+pub kept_most : (count : ℕ) (old kept : List Garbage) → IsSweptOf count old kept → ((w : Garbage) → Has old w → w.age ≤ count) → (w : Garbage) → Has kept w → w.age ≤ count
+kept_most count old kept s most w has = most w (subst (λ (ws : List Garbage). Has ws w) (sym s.1) (has_left kept s.0 w has))

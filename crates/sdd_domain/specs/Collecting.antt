@@ -2,7 +2,7 @@
 use Rattle.std.specs.Prelude.{◌≡◌, ℕ, ◌+◌, ◌<◌, ◌≤◌, true, List, ◌∷◌, [], ◌++◌, map}
 use Rattle.atomic_table.specs.Seated.{TableId}
 use Rattle.atomic_table.specs.Table.{Me}
-use Rattle.sdd_base.specs.declared.sizes.Sizes.{Sizes}
+use Rattle.sdd_plain.specs.declared.sizes.Sizes.{Sizes}
 use Rattle.sdd_steps.specs.State.{Has}
 use Rattle.sdd_steps.specs.Steps.{is_ready}
 use Rattle.sdd_homes.specs.declared.Garbage.{Garbage}
@@ -10,8 +10,7 @@ use Rattle.sdd_homes.specs.declared.Lease.{Lease}
 use Rattle.sdd_homes.specs.declared.Owner.{Owner}
 use Rattle.domain_table.specs.Owners.{told}
 use Rattle.domain_table.specs.declared.board.Acting.{Acting}
-use Rattle.domain_garbage.specs.Bag.{noted_told, NoneDue, AreAt}
-use Rattle.domain_garbage.specs.declared.private.Noted.{Noted}
+use Rattle.domain_garbage.specs.Bag.{garbage_told, bag_in, NoneDue, AreAt}
 use Rattle.sdd_domain.specs.declared.private_collector.PrivateCollector.{PrivateCollector}
 use Rattle.sdd_domain.specs.declared.shared.Shared.{Shared}
 
@@ -21,7 +20,7 @@ collects_in c = (c.seat.badge.table_id, c.sizes)
 
 -- what is in it, by the slot and the note, what came last in front
 abbrev pub held_in : PrivateCollector → List (ℕ × ℕ)
-held_in c = map noted_told c.waiting.items
+held_in c = map garbage_told (bag_in c.seat.badge.views)
 
 -- the slot of an owner's item
 abbrev pub slot_in : {T : Type 0} → Shared T → ℕ
@@ -32,8 +31,8 @@ abbrev pub IsSwept : ℕ → List (ℕ × ℕ) → List (ℕ × ℕ) → Type 0
 IsSwept count old kept = (gone : List (ℕ × ℕ)) × (old ≡ kept ++ gone) × ((t : ℕ × ℕ) → Has gone t → t.1 + 3 ≤ count) × ((ts : List (ℕ × ℕ)) (t : ℕ × ℕ) → kept ≡ ts ++ t ∷ [] → count < t.1 + 3)
 
 -- the same of the items themselves
-abbrev pub IsSweptOf : ℕ → List Noted → List Noted → Type 0
-IsSweptOf count old kept = (gone : List Noted) × (old ≡ kept ++ gone) × ((n : Noted) → Has gone n → n.note + 3 ≤ count) × NoneDue count kept
+abbrev pub IsSweptOf : ℕ → List Garbage → List Garbage → Type 0
+IsSweptOf count old kept = (gone : List Garbage) × (old ≡ kept ++ gone) × ((w : Garbage) → Has gone w → w.age + 3 ≤ count) × NoneDue count kept
 
 -- the seat acts for p, releases nothing, and may make steps on items
 abbrev pub CanRelease : ℕ → Acting → Type 0

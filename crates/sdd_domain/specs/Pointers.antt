@@ -3,7 +3,7 @@ use Rattle.std.specs.Prelude.{◌≡◌, ℕ, IsSomeAnd, Option, None, Some, opt
 use Rattle.std.specs.Option.{ForSome}
 use Rattle.std.specs.Mem.{manually_drop_value}
 use Rattle.sdd_domain.specs.declared.guard.Guard.{Guard}
-use Rattle.sdd_base.specs.declared.tag.Tag.{Tag}
+use Rattle.sdd_plain.specs.declared.tag.Tag.{Tag}
 use Rattle.sdd_domain.specs.declared.pointer.Loaded.{Loaded}
 use Rattle.sdd_domain.specs.declared.pointer.Named.{Named}
 use Rattle.sdd_domain.specs.declared.pointer.Ptr.{Ptr}

@@ -1,9 +1,9 @@
 -- what places, participants and guards show to clauses
 use Rattle.std.specs.Prelude.{◌≡◌, Bool, false, ℕ, ◌-◌, ◌==◌, List, length, map, cond}
 use Rattle.atomic_table.specs.Seated.{TableId}
-use Rattle.sdd_base.specs.declared.sizes.Sizes.{Sizes}
-use Rattle.sdd_base.specs.declared.status.LocalState.{LocalState}
-use Rattle.sdd_base.specs.Steps.{closings_after, scans}
+use Rattle.sdd_plain.specs.declared.sizes.Sizes.{Sizes}
+use Rattle.sdd_plain.specs.declared.local_state.LocalState.{LocalState}
+use Rattle.sdd_plain.specs.Locals.{closings_after, scans}
 use Rattle.domain_table.specs.Owners.{told}
 use Rattle.domain_table.specs.Leases.{life_number}
 use Rattle.sdd_domain.specs.declared.domain.Domain.{Domain}

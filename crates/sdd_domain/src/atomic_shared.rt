@@ -14,8 +14,8 @@ use crate::swapping::swap_owner;
 use domain_table::cells::word_of;
 use domain_table::loading::slot_named;
 use domain_table::tags::tag_in;
-use sdd_base::refusal::NoSlot;
-use sdd_base::tag::Tag;
+use sdd_plain::refusal::NoSlot;
+use sdd_plain::tag::Tag;
 use std::marker::PhantomData;
 use std::sync::atomic::Ordering;
 use tally::Tally;
@@ -52,7 +52,7 @@ impl<T: Holds> AtomicShared<T> {
     ghost use Rattle.sdd_domain.specs.Sharing.{kept_in};
     ghost use Rattle.sdd_domain.specs.Tokens.{place_of, home_of, number_of, own_of, hand_of, born_of, waiting_of, misses_of, nest_of, nest_in, IsInNest, IsInNestButMisses};
     ghost use Rattle.sdd_domain.specs.CellSteps.{StepsOnNoCell, HasReadCell, HasExchanged, HasFoundLast, HasReadOften, HasRetagged, HasCopied};
-    ghost use Rattle.sdd_base.specs.Epochs.{tag_number};
+    ghost use Rattle.sdd_plain.specs.Epochs.{tag_number};
     ghost use Rattle.sdd_domain.specs.Comparing.{code_of, owner_code};
 
     /// Claims a free cell of the place, trying each once: it owns nothing and has no tag. `NoSlot` if all are taken, which is

@@ -8,7 +8,7 @@ ghost use Rattle.sdd_domain.specs.Comparing.{owner_code, owner_slot, code_of, Is
 ghost use Rattle.domain_table.specs.Fitting.{FitsSizes};
 ghost use Rattle.domain_table.specs.Layout.{cell_word, packed, NamesWith, all_words, IsSized};
 ghost use Rattle.domain_table.specs.Leases.{row_told, lease_told, HasCode, IsFoundAs, HasRows, KeepsRows, CanExchange};
-ghost use Rattle.sdd_base.specs.Epochs.{tag_number};
+ghost use Rattle.sdd_plain.specs.Epochs.{tag_number};
 ghost use Rattle.sdd_domain.specs.Pointers.{ptr_slot, ptr_tag, loaded_slot, named_slot, named_tag};
 ghost use Rattle.domain_table.specs.Plays.{with_step, own_spare};
 ghost use Rattle.sdd_domain.specs.Sharing.{kept_in};
@@ -31,8 +31,8 @@ use domain_table::loading::{note_found, slot_named};
 use domain_table::row::Row;
 use domain_table::tags::{has_tag, tag_in, with_tag};
 use parted::Life;
-use sdd_base::sizes::Sizes;
-use sdd_base::tag::Tag;
+use sdd_plain::sizes::Sizes;
+use sdd_plain::tag::Tag;
 use std::collections::VecDeque;
 
 /// Whether a cell's word names the item in this slot, or nothing where that is none.

@@ -1,7 +1,7 @@
 //! A place that threads share.
 
 ghost use Rattle.std.specs.Prelude.{◌≡◌, ◌+◌, ◌*◌, ◌^◌, ◌<◌, ◌≤◌, [], ◌++◌, replicate, vec_len, IfOk, OnOk, IfErr};
-ghost use Rattle.sdd_base.specs.State.{no_local};
+ghost use Rattle.sdd_plain.specs.Locals.{no_local};
 ghost use Rattle.domain_table.specs.Layout.{all_words, IsSized};
 ghost use Rattle.domain_table.specs.Ledgers.{IsEmpty};
 ghost use Rattle.std.specs.Option.{ForSome};
@@ -18,7 +18,7 @@ use domain_table::homes::{clear, empty, homes_from};
 use domain_table::ledger::Ledger;
 use domain_table::slots::count_used;
 use domain_table::steps::{any_claimed, claim, learn, sit};
-use sdd_base::sizes::Sizes;
+use sdd_plain::sizes::Sizes;
 use std::alloc::{AllocError, Global};
 use std::sync::atomic::AtomicBool;
 

@@ -8,8 +8,8 @@ use crate::local::Local;
 use crate::shared::Shared;
 use domain_table::steps;
 use parted::Life;
-use sdd_base::epoch::Epoch;
-use sdd_base::refusal::Nested;
+use sdd_plain::epoch::Epoch;
+use sdd_plain::refusal::Nested;
 
 /// How many guards of a participant are open after one more opening, where `nesting` of them are. None at the end of
 /// this count, `2^32 - 1`.
@@ -20,7 +20,7 @@ pub fn deeper(nesting: u32) -> Option<u32>
     nesting.checked_add(1)
 }
 
-/// An open guard of a participant. It must be spent by `close`. It belongs to the participant's `Local`, and is used
+/// An open guard of a participant. It must be consumed by `close`. It belongs to the participant's `Local`, and is used
 /// with that alone. While it is borrowed, what was loaded under it can be read.
 pub struct Guard {
     pub(crate) participant: usize,
@@ -114,7 +114,7 @@ impl Guard {
     /// slot was taken when it was tried, the job is back, which is a miss.
     ///
     /// A job is an item that nobody is to own: it is placed and retired at once, so that it is reclaimed as other items are,
-    /// and its `Holds::end`, which spends it, runs it. Condition: it holds just the owners that are in the participant's hand.
+    /// and its `Holds::end`, which consumes it, runs it. Condition: it holds just the owners that are in the participant's hand.
     pub fn defer_execute<T: Holds>(
         &self,
         domain: &Domain<T>,

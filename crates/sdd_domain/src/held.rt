@@ -11,7 +11,7 @@ use domain_table::owners::part_with;
 use parted::One;
 
 /// An owner that an item holds, or that is on its way into one or out of it and in the hand of a participant. It must be
-/// spent by `own`. Whoever has it reads its item, without any step on a word of the place.
+/// consumed by `own`. Whoever has it reads its item, without any step on a word of the place.
 pub struct Held<T> {
     pub(crate) slot: usize,
     pub(crate) part: One<Stored<T>>,

@@ -5,7 +5,7 @@ ghost use Rattle.sdd_domain.specs.Holding.{told_of};
 
 use crate::held::Held;
 
-/// An item that gives up the owners that it holds one at a time, and is then spent.
+/// An item that gives up the owners that it holds one at a time, and is then consumed.
 ///
 /// Whoever reclaims it calls `give_up` until there is no more, releases what it got, and then calls `end`.
 pub trait Holds: Sized {

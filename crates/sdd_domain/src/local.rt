@@ -3,7 +3,7 @@
 ghost use Rattle.std.specs.Prelude.{◌≡◌, ℕ, ◌+◌, ◌-◌, ◌*◌, ◌^◌, ◌<◌, ◌≤◌, ◌==◌, ◌&&◌, true, List, [], ◌∷◌, length, cond, map, nat_lt, None, IfSome, IsSome};
 ghost use Rattle.std.specs.Option.{ForNone, ForSome};
 ghost use Rattle.std.specs.VecDeque.{deque_capacity};
-ghost use Rattle.sdd_base.specs.State.{no_local};
+ghost use Rattle.sdd_plain.specs.Locals.{no_local};
 ghost use Rattle.sdd_steps.specs.declared.participant.Phase.TheVariants.{Idle, Opened};
 ghost use Rattle.sdd_homes.specs.declared.Garbage.{Garbage};
 ghost use Rattle.domain_table.specs.Ledgers.{WaitsIn};
@@ -29,13 +29,13 @@ use domain_table::row::Row;
 use domain_table::scan::scan_due;
 use domain_table::{cells, steps};
 use parted::{Life, Seen};
-use sdd_base::sizes::Sizes;
-use sdd_base::status::LocalState;
-use sdd_base::tag::Tag;
+use sdd_plain::local_state::LocalState;
+use sdd_plain::sizes::Sizes;
+use sdd_plain::tag::Tag;
 use std::collections::VecDeque;
 use tally::Tally;
 
-/// A registered participant. It must be spent by `end`.
+/// A registered participant. It must be consumed by `end`.
 pub struct Local<T> {
     pub(crate) place: Place<T>,
     pub(crate) number: usize,
@@ -101,7 +101,7 @@ impl<T: Holds> Local<T> {
     ghost use Rattle.sdd_domain.specs.Tokens.{cell_count, place_of, home_of, number_of, own_of, hand_of, born_of, begun, closed, waiting_of, nest_in, IsSame, IsInNest};
     ghost use Rattle.sdd_domain.specs.CellSteps.{HasMade, HasReadCell, StepsOnNoCell, step_on};
     ghost use Rattle.domain_table.specs.Layout.{NamesWith};
-    ghost use Rattle.sdd_base.specs.Epochs.{tag_number};
+    ghost use Rattle.sdd_plain.specs.Epochs.{tag_number};
     ghost use Rattle.domain_table.specs.Leases.{code_told};
 
     /// The participant that a seat has just come to act for.

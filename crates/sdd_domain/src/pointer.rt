@@ -10,7 +10,7 @@ use crate::local::Local;
 use crate::shared::Shared;
 use domain_table::board::Stored;
 use parted::Seen;
-use sdd_base::tag::Tag;
+use sdd_plain::tag::Tag;
 
 /// A pointer to an item, or to nothing, with a tag, for as long as the guard is borrowed under which it was loaded.
 /// Pointers are equal where they are to the item in one slot, or both to nothing, and their tags are equal.
@@ -32,7 +32,7 @@ pub struct Named {
 
 /// The pointer to nothing, without a tag.
 impl<'g, T> Default for Ptr<'g, T> {
-    ghost use Rattle.sdd_base.specs.declared.tag.Tag.TheVariants as tags;
+    ghost use Rattle.sdd_plain.specs.declared.tag.Tag.TheVariants as tags;
     ghost use Rattle.sdd_domain.specs.Pointers.{ptr_slot, ptr_tag};
 
     ghost is_default = { λ r. (ptr_slot r ≡ None) × (ptr_tag r ≡ tags.None) };

@@ -1,9 +1,8 @@
 //! Collecting items apart from the bags of the participants.
 
-ghost use Rattle.std.specs.Prelude.{◌≡◌, ◌+◌, ◌<◌, ◌≤◌, ◌∷◌, [], ◌||◌, ℕ, List, cond, length, nat_lt, IfOk};
-ghost use Rattle.std.specs.VecDeque.{deque_capacity};
+ghost use Rattle.std.specs.Prelude.{◌≡◌, ◌+◌, ◌<◌, ◌≤◌, ◌∷◌, [], ◌||◌, ℕ, List, cond, length, nat_lt, IfOk, IsOk};
 ghost use Rattle.domain_table.specs.Views.{gathering};
-ghost use Rattle.domain_garbage.specs.Bag.{Notes, bag_in};
+ghost use Rattle.domain_garbage.specs.Bag.{IsKept, bag_in};
 
 use crate::domain::Domain;
 use crate::guard::Guard;
@@ -13,23 +12,21 @@ use crate::reclaiming::sweep;
 use crate::shared::Shared;
 use calm::Calm;
 use domain_garbage::private::{
-    Noted, flag_waiting, hand_all, new_bag, part_bag, put_in, reread, take_bag,
+    Kept, Noted, flag_waiting, hand_all, new_bag, part_bag, put_in, reread, take_bag,
 };
 use domain_table::board::Acting;
 use domain_table::owners::take_in;
-use sdd_base::sizes::Sizes;
+use sdd_plain::sizes::Sizes;
 use std::alloc::AllocError;
-use std::collections::VecDeque;
 
 /// Items that wait beside the bags of the participants, each with the count of raises at which it was collected. It must be
-/// spent by `hand_over`: until then nobody else reclaims what is in it, and its place isn't closed.
+/// consumed by `hand_over`: until then nobody else reclaims what is in it, and its place isn't closed.
 pub struct PrivateCollector {
     pub(crate) sizes: Sizes,
-    pub(crate) waiting: VecDeque<Noted>,
+    pub(crate) kept: Kept,
     pub(crate) seat: Calm<Acting>,
     ghost at: { seat.badge.views ≡ gathering (bag_in seat.badge.views) ∷ [] },
-    ghost told: { Notes (bag_in seat.badge.views) waiting.items },
-    ghost room: { deque_capacity waiting ≡ sizes.slots },
+    ghost told: { IsKept sizes.slots (bag_in seat.badge.views) kept },
 }
 
 impl PrivateCollector {
@@ -38,17 +35,17 @@ impl PrivateCollector {
     ghost use Rattle.sdd_domain.specs.Sharing.{kept_in};
     ghost use Rattle.sdd_domain.specs.Collecting.{collects_in, held_in, slot_in, IsSwept};
 
-    /// An empty collector, with room for as many items as the place has slots: 16 bytes a slot.
+    /// An empty collector. It takes no memory, so it never fails, and no item finds it full.
     pub fn new<T: Holds>(domain: &Domain<T>) -> Result<PrivateCollector, AllocError>
         ensures home { IfOk result (λ c. collects_in c ≡ place_of domain.now) }
         ensures empty { IfOk result (λ c. held_in c ≡ []) }
+        ensures made { IsOk result }
     {
         let sizes = domain.sizes;
-        let waiting = VecDeque::with_capacity(domain.heap, sizes.slots)?;
         let seat = new_bag(domain.words());
         Ok(PrivateCollector {
             sizes,
-            waiting,
+            kept: Kept::new(),
             seat,
         })
     }
@@ -76,7 +73,7 @@ impl PrivateCollector {
     {
         let PrivateCollector {
             sizes,
-            mut waiting,
+            mut kept,
             seat,
         } = self;
         let Local {
@@ -97,7 +94,7 @@ impl PrivateCollector {
             *number,
             rows,
             bags,
-            &mut waiting,
+            &mut kept,
             note,
         );
         let Shared { slot, part, seat } = shared;
@@ -108,20 +105,13 @@ impl PrivateCollector {
             &domain.sizes,
             *number,
             rows,
-            &mut waiting,
+            &mut kept,
             Noted { slot, note },
             part,
         );
         let seat = part_bag(words, place);
         flag_waiting(own, bags);
-        (
-            PrivateCollector {
-                sizes,
-                waiting,
-                seat,
-            },
-            last,
-        )
+        (PrivateCollector { sizes, kept, seat }, last)
     }
 
     /// Ends the collector: the participant has retired what was in it.
@@ -135,7 +125,7 @@ impl PrivateCollector {
     {
         let PrivateCollector {
             sizes: _,
-            waiting,
+            kept,
             seat,
         } = self;
         let Local {
@@ -145,7 +135,7 @@ impl PrivateCollector {
             ..
         } = local;
         take_bag(domain.words(), place, seat);
-        hand_all(domain.words(), place, &domain.sizes, waiting, bags);
+        hand_all(domain.words(), place, &domain.sizes, kept, bags);
         flag_waiting(own, bags);
     }
 }

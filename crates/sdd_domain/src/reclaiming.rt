@@ -14,20 +14,20 @@ ghost use Rattle.domain_table.specs.Fitting.{FitsSizes};
 ghost use Rattle.domain_table.specs.Owners.{told};
 ghost use Rattle.sdd_domain.specs.Holding.{told_of};
 ghost use Rattle.domain_table.specs.Leases.{row_told, lease_told, row_slots, all_below, IsFirst, IsAtRest};
-ghost use Rattle.domain_garbage.specs.Bag.{Notes, NoneDue, AreAt};
+ghost use Rattle.domain_garbage.specs.Bag.{IsKept, NoneDue, AreAt};
 ghost use Rattle.sdd_domain.specs.Collecting.{CanRelease, GivesUpUnder, IsSweptOf};
 
 use crate::board::{Told, Words};
 use crate::held::Held;
 use crate::holds::Holds;
-use domain_garbage::private::{Noted, give_back, take_due};
+use domain_garbage::private::{Kept, give_back, take_due};
 use domain_garbage::reclaiming::{reclaim, reclaim_noted};
 use domain_table::aim::Retire;
 use domain_table::bags::Bags;
 use domain_table::board::Place;
 use domain_table::owners::release_home;
 use domain_table::row::Row;
-use sdd_base::sizes::Sizes;
+use sdd_plain::sizes::Sizes;
 use std::collections::VecDeque;
 
 /// Releases an owner that a reclaimed item held, which is first in hand: with the last one the participant has retired its
@@ -141,23 +141,23 @@ pub(crate) fn sweep<T: Holds>(
     number: usize,
     rows: &mut VecDeque<Row<T>>,
     bags: &mut Bags,
-    waiting: &mut VecDeque<Noted>,
+    kept: &mut Kept,
     count: u64,
 )
     requires table { FitsSizes words.now.table_id words.now.key.sizes place.old.table_id place.old.me.0.sizes sizes.now × (number < sizes.now.participants) }
     requires ready { CanRelease number place.old.me.0 × (place.old.me.0.filling ≡ None) × (is_inside place.old.me.0.known ≡ true) × (place.old.me.0.known.reread ≡ Some count) }
     requires rows { ((life : ℕ) × (map row_told rows.old.items ≡ map (lease_told life) place.old.me.0.leases)) × (all_below sizes.now.slots (row_slots rows.old.items) ≡ true) }
     requires waits { WaitsIn sizes.now.slots place.old.me.0.waits bags.old }
-    requires noted { Notes place.old.me.0.collected waiting.old.items }
+    requires kept { IsKept sizes.now.slots place.old.me.0.collected kept.old }
     ensures seat { (place.new.table_id ≡ place.old.table_id) × (place.new.id ≡ place.old.id) }
     ensures swept { (k : ℕ) × (ws : List Garbage) × (ls : List Lease) × (cs : List Garbage) × AreAt place.old.me.0.leases ls × (place.new.me ≡ (record place.old.me.0 { slot = k; leases = ls; waits = ws; collected = cs }, place.old.me.1)) }
     ensures rows { ((life : ℕ) → map row_told rows.old.items ≡ map (lease_told life) place.old.me.0.leases → map row_told rows.new.items ≡ map (lease_told life) place.new.me.0.leases) × (deque_capacity rows.new ≡ deque_capacity rows.old) × (row_slots rows.new.items ≡ row_slots rows.old.items) }
     ensures waits { WaitsIn sizes.now.slots place.new.me.0.waits bags.new × (bags.new.due ≡ bags.old.due) }
-    ensures noted { Notes place.new.me.0.collected waiting.new.items × (deque_capacity waiting.new ≡ deque_capacity waiting.old) }
-    ensures left { IsSweptOf count waiting.old.items waiting.new.items }
+    ensures kept { IsKept sizes.now.slots place.new.me.0.collected kept.new }
+    ensures left { IsSweptOf count place.old.me.0.collected place.new.me.0.collected }
 {
-    while let Some(noted) = take_due(waiting, count) {
-        let item = reclaim_noted(words, place, sizes, noted.slot);
+    while let Some(slot) = take_due(words, place, sizes, kept, count) {
+        let item = reclaim_noted(words, place, sizes, slot);
         give_up_under(words, place, sizes, number, rows, bags, item);
     }
 }

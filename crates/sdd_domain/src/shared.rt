@@ -19,9 +19,9 @@ use domain_table::loading::lease_own;
 use domain_table::owners::{clone, own_leased, part_with, release, take_in};
 use domain_table::placing::{place_item, place_made};
 use parted::One;
-use sdd_base::refusal::NoSlot;
+use sdd_plain::refusal::NoSlot;
 
-/// One of the owners of an item, which stays, as it is, while it has owners. It must be spent by `release`. Whoever
+/// One of the owners of an item, which stays, as it is, while it has owners. It must be consumed by `release`. Whoever
 /// has it reads the item, without any step on a word of the place.
 pub struct Shared<T> {
     pub(crate) slot: usize,

@@ -7,7 +7,7 @@ ghost use Rattle.sdd_homes.specs.declared.Owner.{Owner};
 ghost use Rattle.domain_table.specs.Outcomes.{BringsOne, TakesBack, HasSwapped};
 ghost use Rattle.sdd_domain.specs.Comparing.{owner_code, IsInFront};
 ghost use Rattle.domain_table.specs.Contents.{IsIn};
-ghost use Rattle.sdd_base.specs.Epochs.{tag_number};
+ghost use Rattle.sdd_plain.specs.Epochs.{tag_number};
 ghost use Rattle.domain_table.specs.Fitting.{FitsSizes};
 ghost use Rattle.domain_table.specs.Layout.{packed, cell_word};
 ghost use Rattle.domain_table.specs.Plays.{own_spare, with_step, GetsBack};
@@ -26,8 +26,8 @@ use domain_table::homes::{let_go, parts_of, spare_at};
 use domain_table::owners::{part_with, take_in};
 use domain_table::tags::{tag_in, word_with};
 use parted::One;
-use sdd_base::sizes::Sizes;
-use sdd_base::tag::Tag;
+use sdd_plain::sizes::Sizes;
+use sdd_plain::tag::Tag;
 
 /// Puts the part of an owner into the participant's spare slot, and the owner into its hand, or leaves both empty. The
 /// word that says so in a cell, with this tag, is the answer.

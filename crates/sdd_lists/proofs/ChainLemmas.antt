@@ -2,13 +2,13 @@
 use Rattle.std.proofs.Common.{◌≡◌, ◌≢◌, ℕ, zero, suc, ◌<◌, Bool, true, false, Option, None, Some, List, [], ◌∷◌, length, get_or, set, refl, sym, ap, ◌∙◌, arith, length-set, subst, get_or-set_same, get_or-set_other}
 use Rattle.std.proofs.lemmas.List.{set-get_or, set-set}
 use Rattle.std.proofs.lemmas.Bool.{false≢true}
-use Rattle.sdd_base.specs.State.{State, status_at, value_at, cell_at, vacancy, emptiness, with_cell, IsFree, IsFreeCell, is_used}
-use Rattle.sdd_base.specs.Place.{IsShared, IsSharedCell, IsReadable}
-use Rattle.sdd_base.specs.declared.tag.Tag.{Tag}
-use Rattle.sdd_base.specs.declared.status.Status.{Status}
-use Rattle.sdd_base.specs.declared.status.Status.TheVariants as status
-use Rattle.sdd_base.specs.declared.status.Cell.{Cell}
-use Rattle.sdd_base.specs.declared.status.Cell.TheVariants as cell
+use Rattle.sdd_world.specs.State.{State, status_at, value_at, cell_at, vacancy, emptiness, with_cell, IsFree, IsFreeCell, is_used}
+use Rattle.sdd_world.specs.Place.{IsShared, IsSharedCell, IsReadable}
+use Rattle.sdd_world.specs.declared.tag.Tag.{Tag}
+use Rattle.sdd_world.specs.declared.status.Status.{Status}
+use Rattle.sdd_world.specs.declared.status.Status.TheVariants as status
+use Rattle.sdd_world.specs.declared.status.Cell.{Cell}
+use Rattle.sdd_world.specs.declared.status.Cell.TheVariants as cell
 use Rattle.sdd_lists.specs.Chain.{Entry, slots, links, IsOut, AreOut, IsItem, IsList, IsDetached, FitsBefore, TookFirst, first_slot, Leaves, Stays, HasLink, BeginsWithItem, deleted}
 
 -- what isn't the default lies within the list

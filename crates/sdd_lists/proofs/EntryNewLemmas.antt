@@ -1,11 +1,11 @@
 -- new entries
 use Rattle.std.proofs.Common.{◌≡◌, ◌≢◌, ◌⊎◌, ℕ, zero, suc, ◌+◌, ◌<◌, Option, None, Some, List, [], ◌∷◌, length, get_or, set, refl, ap, ◌∙◌, subst, get_or-set_same, IfSome, inl, arith}
-use Rattle.sdd_base.specs.State.{State, status_at, value_at, cell_at, placed, with_cell, with_status, IsFree, IsFreeCell, NoneFree, NoCellFree}
-use Rattle.sdd_base.specs.declared.tag.Tag.TheVariants as tag
-use Rattle.sdd_base.specs.declared.status.Status.{Status}
-use Rattle.sdd_base.specs.declared.status.Status.TheVariants as status
-use Rattle.sdd_base.specs.declared.status.Cell.{Cell}
-use Rattle.sdd_base.specs.declared.status.Cell.TheVariants as cell
+use Rattle.sdd_world.specs.State.{State, status_at, value_at, cell_at, placed, with_cell, with_status, IsFree, IsFreeCell, NoneFree, NoCellFree}
+use Rattle.sdd_world.specs.declared.tag.Tag.TheVariants as tag
+use Rattle.sdd_world.specs.declared.status.Status.{Status}
+use Rattle.sdd_world.specs.declared.status.Status.TheVariants as status
+use Rattle.sdd_world.specs.declared.status.Cell.{Cell}
+use Rattle.sdd_world.specs.declared.status.Cell.TheVariants as cell
 use Rattle.sdd_lists.specs.Entries.{entry_value, entry_link}
 use Rattle.sdd_lists.specs.Making.{IsMade}
 use Rattle.sdd_lists.specs.declared.linked_entry.LinkedEntry.{LinkedEntry}

@@ -1,9 +1,9 @@
 -- the first undeleted entry of a list
 use Rattle.std.proofs.Common.{◌≡◌, ◌≢◌, ◌<◌, IfSome, ℕ, true, false, Option, None, Some, List, [], ◌∷◌, sym, ap, ◌∙◌, refl, cond}
-use Rattle.sdd_base.specs.State.{State, value_at, status_at, cell_at}
-use Rattle.sdd_base.specs.declared.status.Status.TheVariants as status
-use Rattle.sdd_base.specs.declared.tag.Tag.{Tag}
-use Rattle.sdd_base.specs.declared.status.Cell.TheVariants as cell
+use Rattle.sdd_world.specs.State.{State, value_at, status_at, cell_at}
+use Rattle.sdd_world.specs.declared.status.Status.TheVariants as status
+use Rattle.sdd_world.specs.declared.tag.Tag.{Tag}
+use Rattle.sdd_world.specs.declared.status.Cell.TheVariants as cell
 use Rattle.sdd_lists.specs.Chain.{Entry, IsList, IsOut, Leaves, links, slots, skip, undeleted, deleted, first_item}
 use Rattle.sdd_lists.proofs.ChainLemmas.{starts, starts_not, leaves_then, leaves_more}
 use Rattle.sdd_lists.proofs.ListHeadLemmas.{none_skipped, some_skipped, skipped_links}

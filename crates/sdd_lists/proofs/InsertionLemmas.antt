@@ -1,10 +1,10 @@
 -- entries that are put behind others
 use Rattle.std.proofs.Common.{◌≡◌, ◌≢◌, ◌==◌, ℕ, Bool, true, false, Option, None, Some, List, [], ◌∷◌, refl, sym, ap, ◌∙◌, subst, cond, inl, inr}
 use Rattle.std.proofs.lemmas.Bool.Decides.{eqb_tells}
-use Rattle.sdd_base.specs.State.{State, cell_at, vacancy, emptiness}
-use Rattle.sdd_base.specs.Place.{IsShared}
-use Rattle.sdd_base.specs.declared.tag.Tag.{Tag}
-use Rattle.sdd_base.specs.declared.status.Cell.TheVariants as cell
+use Rattle.sdd_world.specs.State.{State, cell_at, vacancy, emptiness}
+use Rattle.sdd_world.specs.Place.{IsShared}
+use Rattle.sdd_world.specs.declared.tag.Tag.{Tag}
+use Rattle.sdd_world.specs.declared.status.Cell.TheVariants as cell
 use Rattle.sdd_lists.specs.Chain.{Entry, slots, links, IsOut, IsItem, IsList, IsDetached, Leaves, FitsBefore, CanHang}
 use Rattle.sdd_lists.specs.Nodes.{NamesEntry, CanInsert, Inserts, IsApart, Retags, retagged, inserted_behind, HasSlot}
 use Rattle.sdd_lists.specs.Entries.{entry_link}

@@ -1,11 +1,11 @@
 -- the front of a list: what is skipped, taken off and put there
 use Rattle.std.proofs.Common.{◌≡◌, ◌≢◌, ℕ, ◌<◌, true, false, Option, None, Some, IfSome, List, [], ◌∷◌, length, refl, sym, ap, ◌∙◌, arith, subst, cond}
-use Rattle.sdd_base.specs.State.{State, status_at, cell_at, with_cell, emptiness, vacancy}
-use Rattle.sdd_base.specs.Place.{IsSharedCell}
-use Rattle.sdd_base.specs.declared.tag.Tag.{Tag}
-use Rattle.sdd_base.specs.declared.tag.Tag.TheVariants as tag
-use Rattle.sdd_base.specs.declared.status.Status.TheVariants as status
-use Rattle.sdd_base.specs.declared.status.Cell.TheVariants as cell
+use Rattle.sdd_world.specs.State.{State, status_at, cell_at, with_cell, emptiness, vacancy}
+use Rattle.sdd_world.specs.Place.{IsSharedCell}
+use Rattle.sdd_world.specs.declared.tag.Tag.{Tag}
+use Rattle.sdd_world.specs.declared.tag.Tag.TheVariants as tag
+use Rattle.sdd_world.specs.declared.status.Status.TheVariants as status
+use Rattle.sdd_world.specs.declared.status.Cell.TheVariants as cell
 use Rattle.sdd_lists.specs.Chain.{Entry, slots, links, IsOut, IsList, IsDetached, Leaves, SameUses, TookFirst, FitsBefore, CanHang, first_item, first_slot, skip, undeleted, deleted}
 use Rattle.sdd_lists.specs.Entries.{entry_link}
 use Rattle.sdd_lists.specs.Making.{IsNew, IsMade}

@@ -3,11 +3,11 @@ use Rattle.std.proofs.Common.{◌≡◌, ◌≢◌, ◌==◌, ℕ, Bool, true, f
 use Rattle.std.proofs.lemmas.List.{set-set}
 use Rattle.std.proofs.lemmas.Bool.{false≢true}
 use Rattle.std.proofs.lemmas.Bool.Decides.{eqb_tells}
-use Rattle.sdd_base.specs.State.{State, value_at, cell_at, with_cell}
-use Rattle.sdd_base.specs.Place.{IsSharedCell}
-use Rattle.sdd_base.specs.declared.tag.Tag.{Tag}
-use Rattle.sdd_base.specs.declared.status.Cell.{Cell}
-use Rattle.sdd_base.specs.declared.status.Cell.TheVariants as cell
+use Rattle.sdd_world.specs.State.{State, value_at, cell_at, with_cell}
+use Rattle.sdd_world.specs.Place.{IsSharedCell}
+use Rattle.sdd_world.specs.declared.tag.Tag.{Tag}
+use Rattle.sdd_world.specs.declared.status.Cell.{Cell}
+use Rattle.sdd_world.specs.declared.status.Cell.TheVariants as cell
 use Rattle.sdd_lists.specs.Chain.{Entry, slots, links, IsOut, IsItem, IsList, Leaves, first_slot, undeleted, deleted}
 use Rattle.sdd_lists.specs.Nodes.{NamesEntry, NamesSomeEntry, IsListed, Retags, retagged, HasSlot}
 use Rattle.sdd_lists.proofs.ChainLemmas.{cell_left, item_left, leaves_write, leaves_all, out_of_none, wrote_same, inside_cells, some_same, the_same, hung_out, hung_first, kept_same, rehung, some_nothing}

@@ -1,14 +1,14 @@
 -- owners that are given back
 use Rattle.std.proofs.Common.{◌≡◌, ℕ, zero, suc, ◌+◌, ◌-◌, ◌<◌, ◌≤◌, Bool, true, false, Option, None, Some, List, [], ◌∷◌, length, get_or, set, refl, sym, ap, ◌∙◌, arith, subst, get_or-set_same, get_or-set_other, cond, leb, inl, inr}
 use Rattle.std.proofs.lemmas.Bool.Decides.{eqb_tells, nat_tests}
-use Rattle.sdd_base.specs.State.{State, status_at, value_at, local_at, with_status, retired, is_used, vacancy, in_use}
-use Rattle.sdd_base.specs.Steps.{released, released_as}
-use Rattle.sdd_base.specs.Frame.{Frame}
-use Rattle.sdd_base.specs.Place.{IsShared, IsSharedCell}
-use Rattle.sdd_base.specs.declared.tag.Tag.{Tag}
-use Rattle.sdd_base.specs.declared.status.Status.{Status}
-use Rattle.sdd_base.specs.declared.status.Status.TheVariants as status
-use Rattle.sdd_base.specs.declared.status.Cell.TheVariants as cell
+use Rattle.sdd_world.specs.State.{State, status_at, value_at, local_at, with_status, retired, is_used, vacancy, in_use}
+use Rattle.sdd_world.specs.Steps.{released, released_as}
+use Rattle.sdd_world.specs.Frame.{Frame}
+use Rattle.sdd_world.specs.Place.{IsShared, IsSharedCell}
+use Rattle.sdd_world.specs.declared.tag.Tag.{Tag}
+use Rattle.sdd_world.specs.declared.status.Status.{Status}
+use Rattle.sdd_world.specs.declared.status.Status.TheVariants as status
+use Rattle.sdd_world.specs.declared.status.Cell.TheVariants as cell
 use Rattle.sdd_lists.specs.Chain.{Entry, slots, links, IsOut, AreOut, IsItem, IsList, IsDetached, Leaves, Stays, TookFirst, Hangs, BeginsWithItem, Cut, CutDeleted, SameUses, OneMore, skip}
 use Rattle.sdd_lists.proofs.ChainLemmas.{hung_left, leaves_then, leaves_more, leaves_all, out_of_none, some_same, inside_cells, inside_states}
 use Rattle.sdd_lists.proofs.WalkLemmas.{skipped_first, kept_first, hung_length}
@@ -46,7 +46,7 @@ module _ {L : Type 0} (p i : ℕ) (w : State L) where
   released_cases P a b c status.Owned = a
   released_cases P a b c (status.Shared n) = elim (leb n 1) as (λ v. P (cond v (retired p i w) (with_status i (status.Shared (n - 1)) w))) [ true ↦ b | false ↦ c (n - 1) ]
   released_cases P a b c status.Raw = a
-  released_cases P a b c (status.Collected n) = a
+  released_cases P a b c (status.Collected n k) = a
   released_cases P a b c status.Retired = a
   released_cases P a b c status.Idle = a
   released_cases P a b c status.Deferred = a

@@ -1,10 +1,10 @@
 -- the first entry of a list is taken off, shared and put back
 use Rattle.std.proofs.lemmas.Bool.{cases_eq}
 use Rattle.std.proofs.Common.{◌≤◌, ◌+◌, None, Some, arith, get_or-set_same, inl, inr, ◌≡◌, ◌≢◌, ℕ, Option, List, [], ◌∷◌, refl, sym, ap, ◌∙◌, subst, get_or-set_other}
-use Rattle.sdd_base.specs.State.{State, status_at, cell_at, with_status}
-use Rattle.sdd_base.specs.declared.tag.Tag.{Tag}
-use Rattle.sdd_base.specs.declared.status.Status.TheVariants as status
-use Rattle.sdd_base.specs.declared.status.Cell.TheVariants as cell
+use Rattle.sdd_world.specs.State.{State, status_at, cell_at, with_status}
+use Rattle.sdd_world.specs.declared.tag.Tag.{Tag}
+use Rattle.sdd_world.specs.declared.status.Status.TheVariants as status
+use Rattle.sdd_world.specs.declared.status.Cell.TheVariants as cell
 use Rattle.sdd_lists.specs.Chain.{Entry, slots, links, IsOut, IsList, IsDetached, Leaves, FitsBefore, CanHang, TookFirst, MoreOwners, OneMore}
 use Rattle.sdd_lists.proofs.ChainLemmas.{full_empty, kept_same, some_same, hung_out, leaves_then, leaves_more, leaves_all, inside_states}
 use Rattle.sdd_lists.proofs.ReleaseLemmas.{item_owners, hung_owners}

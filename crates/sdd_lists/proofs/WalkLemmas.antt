@@ -3,10 +3,10 @@ use Rattle.std.proofs.Common.{◌≡◌, ℕ, zero, suc, ◌+◌, ◌<◌, ◌�
 use Rattle.std.specs.List.{sum_by}
 use Rattle.std.proofs.lemmas.List.{nil_from_length}
 use Rattle.std.proofs.lemmas.List.Sums.{sum_by-set}
-use Rattle.sdd_base.specs.State.{State, usage, in_use}
-use Rattle.sdd_base.specs.declared.tag.Tag.{Tag}
-use Rattle.sdd_base.specs.declared.status.Status.{Status}
-use Rattle.sdd_base.specs.declared.status.Status.TheVariants as status
+use Rattle.sdd_world.specs.State.{State, usage, in_use}
+use Rattle.sdd_world.specs.declared.tag.Tag.{Tag}
+use Rattle.sdd_world.specs.declared.status.Status.{Status}
+use Rattle.sdd_world.specs.declared.status.Status.TheVariants as status
 use Rattle.sdd_lists.specs.Chain.{Entry, front_tag, slots, IsOut, IsList, Hangs, BeginsWithItem, Skipped, PassedEntries, deleted, skip, undeleted}
 
 -- slots with items, none of them twice

@@ -1,13 +1,13 @@
 -- what calls say of a list or an entry, in a line each
 use Rattle.std.specs.Prelude.{◌≡◌, ◌≢◌, ℕ, ◌⊎◌, Option, None, Some, IfSome, List, [], ◌∷◌, ◌<◌}
-use Rattle.sdd_base.specs.State.{State, IsFreeCell, NoneFree, NoCellFree, status_at, with_cell, cell_at}
-use Rattle.sdd_base.specs.Tokens.{shared_cell, shared_slots}
-use Rattle.sdd_base.specs.declared.cell.AtomicShared.{AtomicShared}
-use Rattle.sdd_base.specs.declared.owner.Shared.{Shared}
-use Rattle.sdd_base.specs.declared.status.Cell.TheVariants as cell
-use Rattle.sdd_base.specs.declared.status.Status.TheVariants as status
-use Rattle.sdd_base.specs.declared.tag.Tag.{Tag}
-use Rattle.sdd_base.specs.declared.tag.Tag.TheVariants as tag
+use Rattle.sdd_world.specs.State.{State, IsFreeCell, NoneFree, NoCellFree, status_at, with_cell, cell_at}
+use Rattle.sdd_world.specs.Tokens.{shared_cell, shared_slots}
+use Rattle.sdd_world.specs.declared.cell.AtomicShared.{AtomicShared}
+use Rattle.sdd_world.specs.declared.owner.Shared.{Shared}
+use Rattle.sdd_world.specs.declared.status.Cell.TheVariants as cell
+use Rattle.sdd_world.specs.declared.status.Status.TheVariants as status
+use Rattle.sdd_world.specs.declared.tag.Tag.{Tag}
+use Rattle.sdd_world.specs.declared.tag.Tag.TheVariants as tag
 use Rattle.sdd_lists.specs.Chain.{Entry, IsList, IsDetached, Leaves, first_slot, links, slots, undeleted, FitsBefore}
 use Rattle.sdd_lists.specs.Entries.{entry_link, entry_value}
 use Rattle.sdd_lists.specs.Nodes.{IsApart, NamesEntry}

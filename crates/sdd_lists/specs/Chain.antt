@@ -1,12 +1,12 @@
 -- lists of entries that hang in a place, and what a change of the place leaves of them
 use Rattle.std.specs.Prelude.{◌≡◌, ◌≢◌, ◌≤◌, ℕ, Bool, true, false, Option, None, Some, List, [], ◌∷◌, cond, length, ◌+◌}
-use Rattle.sdd_base.specs.Frame.{Protects}
-use Rattle.sdd_base.specs.Place.{IsOpen}
-use Rattle.sdd_base.specs.State.{State, local_at, status_at, value_at, cell_at, vacancy, emptiness, is_used}
-use Rattle.sdd_base.specs.declared.tag.Tag.{Tag}
-use Rattle.sdd_base.specs.declared.tag.Tag.TheVariants as tag
-use Rattle.sdd_base.specs.declared.status.Status.TheVariants as status
-use Rattle.sdd_base.specs.declared.status.Cell.TheVariants as cell
+use Rattle.sdd_world.specs.Frame.{Protects}
+use Rattle.sdd_world.specs.Place.{IsOpen}
+use Rattle.sdd_world.specs.State.{State, local_at, status_at, value_at, cell_at, vacancy, emptiness, is_used}
+use Rattle.sdd_world.specs.declared.tag.Tag.{Tag}
+use Rattle.sdd_world.specs.declared.tag.Tag.TheVariants as tag
+use Rattle.sdd_world.specs.declared.status.Status.TheVariants as status
+use Rattle.sdd_world.specs.declared.status.Cell.TheVariants as cell
 
 -- an entry of a list: its slot, its item, the cell of its link, and the tag there
 pub record Entry (L : Type 0) : Type 0 where

@@ -1,8 +1,8 @@
 -- what an entry shows to clauses: its value and the cell of its link
 use Rattle.std.specs.Prelude.{ℕ, Option, None, Some, List, [], ◌∷◌}
 use Rattle.std.specs.Option.{option_map}
-use Rattle.sdd_base.specs.Holding.{Hold, SharedIn}
-use Rattle.sdd_base.specs.Tokens.{shared_cell}
+use Rattle.sdd_world.specs.Holding.{Hold, SharedIn}
+use Rattle.sdd_world.specs.Tokens.{shared_cell}
 use Rattle.sdd_lists.specs.declared.linked_entry.LinkedEntry.{LinkedEntry, out-LinkedEntry, roll-LinkedEntry}
 
 abbrev pub entry_value : {T : Type 0} → LinkedEntry T → T

@@ -1,7 +1,7 @@
 -- entries that were made
 use Rattle.std.specs.Prelude.{◌≡◌, ℕ}
-use Rattle.sdd_base.specs.State.{State, IsFree, IsFreeCell}
-use Rattle.sdd_base.specs.declared.tag.Tag.TheVariants as tag
+use Rattle.sdd_world.specs.State.{State, IsFree, IsFreeCell}
+use Rattle.sdd_world.specs.declared.tag.Tag.TheVariants as tag
 use Rattle.sdd_lists.specs.Chain.{Entry, IsDetached}
 use Rattle.sdd_lists.specs.Entries.{entry_value, entry_link}
 use Rattle.sdd_lists.specs.declared.linked_entry.LinkedEntry.{LinkedEntry}

@@ -1,9 +1,9 @@
 -- single entries, as the calls of a linked list see and change them
 use Rattle.std.specs.Prelude.{◌≡◌, ◌≢◌, ℕ, Bool, true, false, Option, Some, List, [], ◌∷◌, ◌==◌, cond}
-use Rattle.sdd_base.specs.State.{State, cell_at}
-use Rattle.sdd_base.specs.declared.tag.Tag.{Tag}
-use Rattle.sdd_base.specs.declared.tag.Tag.TheVariants as tag
-use Rattle.sdd_base.specs.declared.status.Cell.TheVariants as cell
+use Rattle.sdd_world.specs.State.{State, cell_at}
+use Rattle.sdd_world.specs.declared.tag.Tag.{Tag}
+use Rattle.sdd_world.specs.declared.tag.Tag.TheVariants as tag
+use Rattle.sdd_world.specs.declared.status.Cell.TheVariants as cell
 use Rattle.sdd_lists.specs.Chain.{Entry, IsItem, IsList, IsDetached, IsOut, slots, links}
 
 -- a pointer to slot o names this entry: its item is there, and its link keeps a next one or none

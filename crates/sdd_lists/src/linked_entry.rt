@@ -6,12 +6,12 @@ ghost use Rattle.sdd_lists.specs.contracts.linked_entry.LinkedEntry.{the_row};
 ghost use Rattle.sdd_lists.specs.Entries.{entry_value, entry_link, entry_with_value};
 
 use crate::linked_list::LinkedList;
-use sdd_base::cell::AtomicShared;
-use sdd_base::holds::{Held, Holds};
+use sdd_world::cell::AtomicShared;
+use sdd_world::holds::{Held, Holds};
 use std::fmt;
 use std::fmt::{Debug, Display};
 
-/// A value with a link to the next entry. It must be spent, as its link.
+/// A value with a link to the next entry. It must be consumed, as its link.
 pub struct LinkedEntry<T> {
     pub(crate) instance: T,
     pub(crate) next: Option<AtomicShared<LinkedEntry<T>>>,

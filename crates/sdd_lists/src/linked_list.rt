@@ -1,9 +1,9 @@
 //! What can stand in a linked list.
 
 ghost use Rattle.std.specs.Prelude.{◌≡◌, ℕ, Option, Some, IsSome};
-ghost use Rattle.sdd_base.specs.Tokens.{shared_cell};
+ghost use Rattle.sdd_world.specs.Tokens.{shared_cell};
 
-use sdd_base::cell::AtomicShared;
+use sdd_world::cell::AtomicShared;
 
 /// An item with a link: a cell that keeps the next item of a list, with a tag for the item itself.
 ///

@@ -38,7 +38,7 @@ impl Model for State {
 
 impl State {
     /// The start: the count is 0, no participant has a guard, all cells are empty and stand by themselves, and there
-    /// is no item. Cell 0 is the root. Refused where memory is.
+    /// is no item. Cell 0 is the root. Fails only if an allocation fails.
     pub fn start(alloc: Global, participants: usize, cells: usize) -> Result<State, AllocError>
         requires participants { (1 ≤ participants) × (participants ≤ 2 ^ 30) }
         requires cells { (1 ≤ cells) × (cells ≤ 2 ^ 30) }
@@ -103,7 +103,7 @@ impl State {
     }
 }
 
-/// The next state, exactly where the step is enabled, else `None`. Refused where memory is, and where so many items
+/// The next state if the step is enabled, else `None`. Fails only if an allocation fails, or if so many items
 /// were placed that one more can't be kept. The state that is given stays as it is in each case.
 ///
 /// ```text

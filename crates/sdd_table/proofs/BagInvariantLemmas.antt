@@ -14,7 +14,7 @@ use Rattle.sdd_table.specs.declared.status.Status.{Status}
 use Rattle.sdd_table.specs.declared.status.Status.TheVariants as status
 use Rattle.sdd_table.specs.declared.status.Cell.{Cell}
 use Rattle.sdd_table.specs.declared.status.Cell.TheVariants as cell
-use Rattle.sdd_table.specs.declared.status.LocalState.{LocalState}
+use Rattle.sdd_plain.specs.declared.local_state.LocalState.{LocalState}
 use Rattle.sdd_table.proofs.ListLemmas.{hit-same, hit-other, times-append}
 
 pub heavy_inside : (ss : List Status) (i : ℕ) → 1 ≤ weight (get_or ss i status.Free) → i < length ss
@@ -27,7 +27,7 @@ weight-at_most status.Free = omega arith
 weight-at_most status.Owned = omega arith
 weight-at_most (status.Shared n) = omega arith
 weight-at_most status.Raw = omega arith
-weight-at_most (status.Collected n) = omega arith
+weight-at_most (status.Collected n b) = omega arith
 weight-at_most status.Retired = omega arith
 weight-at_most status.Idle = omega arith
 weight-at_most status.Deferred = omega arith
@@ -76,13 +76,13 @@ used_same ss i j s inside even =
     ]
 
 -- a note of the count is in a state only if it was there before
-pub noted_set : (ss : List Status) (i j n : ℕ) (s : Status) → i < length ss → ((m : ℕ) → s ≢ status.Collected m) → get_or (set ss i s) j status.Free ≡ status.Collected n → get_or ss j status.Free ≡ status.Collected n
-noted_set ss i j n s inside new e =
+pub noted_set : (ss : List Status) (i j n b : ℕ) (s : Status) → i < length ss → ((m c : ℕ) → s ≢ status.Collected m c) → get_or (set ss i s) j status.Free ≡ status.Collected n b → get_or ss j status.Free ≡ status.Collected n b
+noted_set ss i j n b s inside new e =
     elim (eqb_tells j i) [
       | inl t ↦
-          let P : ℕ → Type 0 = λ k. get_or (set ss i s) k status.Free ≡ status.Collected n in
+          let P : ℕ → Type 0 = λ k. get_or (set ss i s) k status.Free ≡ status.Collected n b in
           let here : P i = subst P t.1 e in
-          absurd (new n (sym (get_or-set_same ss i s status.Free inside) ∙ here))
+          absurd (new n b (sym (get_or-set_same ss i s status.Free inside) ∙ here))
       | inr t ↦ sym (get_or-set_other ss i j s status.Free t.1) ∙ e
     ]
 
@@ -96,7 +96,7 @@ vacated-light status.Free = refl
 vacated-light status.Owned = refl
 vacated-light (status.Shared n) = refl
 vacated-light status.Raw = refl
-vacated-light (status.Collected n) = refl
+vacated-light (status.Collected n b) = refl
 vacated-light status.Retired = refl
 vacated-light status.Idle = refl
 vacated-light status.Deferred = refl
@@ -106,27 +106,27 @@ vacated-unused status.Free = refl
 vacated-unused status.Owned = refl
 vacated-unused (status.Shared n) = refl
 vacated-unused status.Raw = refl
-vacated-unused (status.Collected n) = refl
+vacated-unused (status.Collected n b) = refl
 vacated-unused status.Retired = refl
 vacated-unused status.Idle = refl
 vacated-unused status.Deferred = refl
 
-pub vacated-new : (s : Status) (m : ℕ) → vacated s ≢ status.Collected m
-vacated-new status.Free m e = cc
-vacated-new status.Owned m e = cc
-vacated-new (status.Shared n) m e = cc
-vacated-new status.Raw m e = cc
-vacated-new (status.Collected n) m e = cc
-vacated-new status.Retired m e = cc
-vacated-new status.Idle m e = cc
-vacated-new status.Deferred m e = cc
+pub vacated-new : (s : Status) (m c : ℕ) → vacated s ≢ status.Collected m c
+vacated-new status.Free m c e = cc
+vacated-new status.Owned m c e = cc
+vacated-new (status.Shared n) m c e = cc
+vacated-new status.Raw m c e = cc
+vacated-new (status.Collected n b) m c e = cc
+vacated-new status.Retired m c e = cc
+vacated-new status.Idle m c e = cc
+vacated-new status.Deferred m c e = cc
 
 pub used-occupied : (s : Status) → is_used s ≡ true → occupied s ≡ 1
 used-occupied status.Free h = absurd (false≢true h)
 used-occupied status.Owned h = refl
 used-occupied (status.Shared n) h = refl
 used-occupied status.Raw h = refl
-used-occupied (status.Collected n) h = refl
+used-occupied (status.Collected n b) h = refl
 used-occupied status.Retired h = refl
 used-occupied status.Idle h = absurd (false≢true h)
 used-occupied status.Deferred h = absurd (false≢true h)
@@ -136,7 +136,7 @@ heavy-occupied status.Free h = absurd (omega (arith, h))
 heavy-occupied status.Owned h = absurd (omega (arith, h))
 heavy-occupied (status.Shared n) h = absurd (omega (arith, h))
 heavy-occupied status.Raw h = absurd (omega (arith, h))
-heavy-occupied (status.Collected n) h = absurd (omega (arith, h))
+heavy-occupied (status.Collected n b) h = absurd (omega (arith, h))
 heavy-occupied status.Retired h = refl
 heavy-occupied status.Idle h = absurd (omega (arith, h))
 heavy-occupied status.Deferred h = refl
@@ -146,7 +146,7 @@ vacated-empty status.Free = refl
 vacated-empty status.Owned = refl
 vacated-empty (status.Shared n) = refl
 vacated-empty status.Raw = refl
-vacated-empty (status.Collected n) = refl
+vacated-empty (status.Collected n b) = refl
 vacated-empty status.Retired = refl
 vacated-empty status.Idle = refl
 vacated-empty status.Deferred = refl
@@ -257,7 +257,7 @@ pub record Gives {T : Type 0} (p : ℕ) (w w' : State T) : Type 0 where
   pub due : (participant_at w' p).due ≡ (participant_at w p).due
   pub calm : calm (participant_at w' p) ≡ calm (participant_at w p)
   pub others : (k : ℕ) → k ≢ p → participant_at w' k ≡ participant_at w k
-  pub noted : (i n : ℕ) → status_at w' i ≡ status.Collected n → status_at w i ≡ status.Collected n
+  pub noted : (i n b : ℕ) → status_at w' i ≡ status.Collected n b → status_at w i ≡ status.Collected n b
   pub occupied : sum_by occupied w'.states ≡ sum_by occupied w.states
   pub sound : Sound w'
 
@@ -271,14 +271,14 @@ pub record Leaves {T : Type 0} (p : ℕ) (w w' : State T) : Type 0 where
   pub due : (participant_at w' p).due ≡ (participant_at w p).due
   pub calm : calm (participant_at w' p) ≡ calm (participant_at w p)
   pub others : (k : ℕ) → k ≢ p → participant_at w' k ≡ participant_at w k
-  pub noted : (i n : ℕ) → status_at w' i ≡ status.Collected n → status_at w i ≡ status.Collected n
+  pub noted : (i n b : ℕ) → status_at w' i ≡ status.Collected n b → status_at w i ≡ status.Collected n b
   pub sound : Sound w'
 
 pub leaves : {T : Type 0} (p : ℕ) (w w' : State T) → Gives p w w' → Leaves p w w'
 leaves p w w' g = record { count = g.count; values = g.values; places = g.places; cells = g.cells; known = g.known; due = g.due; calm = g.calm; others = g.others; noted = g.noted; sound = g.sound }
 
 pub leaves_refl : {T : Type 0} (p : ℕ) (w : State T) → Sound w → Leaves p w w
-leaves_refl p w h = record { count = refl; values = refl; places = refl; cells = refl; known = refl; due = refl; calm = refl; others = λ k n. refl; noted = λ i n e. e; sound = h }
+leaves_refl p w h = record { count = refl; values = refl; places = refl; cells = refl; known = refl; due = refl; calm = refl; others = λ k n. refl; noted = λ i n f e. e; sound = h }
 
 pub leaves_then : {T : Type 0} (p : ℕ) (u v w : State T) → Leaves p u v → Leaves p v w → Leaves p u w
 leaves_then p u v w a b = record {
@@ -290,7 +290,7 @@ leaves_then p u v w a b = record {
   due = b.due ∙ a.due;
   calm = b.calm ∙ a.calm;
   others = λ k n. b.others k n ∙ a.others k n;
-  noted = λ i n e. a.noted i n (b.noted i n e);
+  noted = λ i n f e. a.noted i n f (b.noted i n f e);
   sound = b.sound;
 }
 
@@ -307,7 +307,7 @@ pub calms : {T : Type 0} (p : ℕ) (w w' : State T) → Leaves p w w' → Calms 
 calms p w w' g = record { count = g.count; known = g.known; due = g.due; calm = g.calm; others = g.others; sound = g.sound }
 
 -- place i, which didn't wait, waits
-pub leaves_waiting : {T : Type 0} (w : State T) (p i : ℕ) (s : Status) → Sound w → p < length w.participants → i < length w.states → weight (status_at w i) ≡ 0 → weight s ≡ 1 → is_used s ≡ is_used (status_at w i) → ((m : ℕ) → s ≢ status.Collected m) → Leaves p w (waiting_as s p i w)
+pub leaves_waiting : {T : Type 0} (w : State T) (p i : ℕ) (s : Status) → Sound w → p < length w.participants → i < length w.states → weight (status_at w i) ≡ 0 → weight s ≡ 1 → is_used s ≡ is_used (status_at w i) → ((m b : ℕ) → s ≢ status.Collected m b) → Leaves p w (waiting_as s p i w)
 leaves_waiting w p i s h known inside light heavy even new =
     let at : participant_at (waiting_as s p i w) p ≡ put_participant i (participant_at w p) = get_or-set_same w.participants p (put_participant i (participant_at w p)) nobody known in
     record {
@@ -319,12 +319,12 @@ leaves_waiting w p i s h known inside light heavy even new =
       due = ap (λ (m : ParticipantState). m.due) at;
       calm = ap calm at;
       others = λ k n. get_or-set_other w.participants p k (put_participant i (participant_at w p)) nobody n;
-      noted = λ j n e. noted_set w.states i j n s inside new e;
+      noted = λ j n b e. noted_set w.states i j n b s inside new e;
       sound = sound_waiting w p i s h known inside light heavy even;
     }
 
 pub gives_refl : {T : Type 0} (p : ℕ) (w : State T) → Sound w → Gives p w w
-gives_refl p w h = record { count = refl; values = refl; places = refl; cells = refl; known = refl; due = refl; calm = refl; others = λ k n. refl; noted = λ i n e. e; occupied = refl; sound = h }
+gives_refl p w h = record { count = refl; values = refl; places = refl; cells = refl; known = refl; due = refl; calm = refl; others = λ k n. refl; noted = λ i n f e. e; occupied = refl; sound = h }
 
 pub gives_then : {T : Type 0} (p : ℕ) (u v w : State T) → Gives p u v → Gives p v w → Gives p u w
 gives_then p u v w a b = record {
@@ -336,7 +336,7 @@ gives_then p u v w a b = record {
   due = b.due ∙ a.due;
   calm = b.calm ∙ a.calm;
   others = λ k n. b.others k n ∙ a.others k n;
-  noted = λ i n e. a.noted i n (b.noted i n e);
+  noted = λ i n f e. a.noted i n f (b.noted i n f e);
   occupied = b.occupied ∙ a.occupied;
   sound = b.sound;
 }
@@ -353,12 +353,12 @@ gives_retired w p i h known inside light used =
       due = ap (λ (m : ParticipantState). m.due) at;
       calm = ap calm at;
       others = λ k n. get_or-set_other w.participants p k (put_participant i (participant_at w p)) nobody n;
-      noted = λ j n e. noted_set w.states i j n status.Retired inside (λ m f. cc) e;
+      noted = λ j n b e. noted_set w.states i j n b status.Retired inside (λ m c f. cc) e;
       occupied = omega (arith, sum_by-set occupied w.states i status.Retired status.Free inside, used-occupied _ used);
       sound = sound_waiting w p i status.Retired h known inside light refl (sym used);
     }
 
-pub gives_status : {T : Type 0} (w : State T) (p i : ℕ) (s : Status) → Sound w → i < length w.states → weight (status_at w i) ≡ 0 → weight s ≡ 0 → is_used (status_at w i) ≡ true → is_used s ≡ true → ((m : ℕ) → s ≢ status.Collected m) → Gives p w (with_status i s w)
+pub gives_status : {T : Type 0} (w : State T) (p i : ℕ) (s : Status) → Sound w → i < length w.states → weight (status_at w i) ≡ 0 → weight s ≡ 0 → is_used (status_at w i) ≡ true → is_used s ≡ true → ((m b : ℕ) → s ≢ status.Collected m b) → Gives p w (with_status i s w)
 gives_status w p i s h inside light even used same new = record {
   count = refl;
   values = refl;
@@ -368,7 +368,7 @@ gives_status w p i s h inside light even used same new = record {
   due = refl;
   calm = refl;
   others = λ k n. refl;
-  noted = λ j n e. noted_set w.states i j n s inside new e;
+  noted = λ j n b e. noted_set w.states i j n b s inside new e;
   occupied = omega (arith, sum_by-set occupied w.states i s status.Free inside, used-occupied _ used, used-occupied s same);
   sound = sound_status w i s h inside (even ∙ sym light) (same ∙ sym used);
 }
@@ -387,10 +387,10 @@ gives_released_as w p i (status.Shared n) e h known =
     let light : weight (status_at w i) ≡ 0 = ap weight (sym e) in
     let used : is_used (status_at w i) ≡ true = ap is_used (sym e) in
     let last = gives_retired w p i h known inside light used in
-    let more : Gives p w (with_status i (status.Shared (n - 1)) w) = gives_status w p i (status.Shared (n - 1)) h inside light refl used refl (λ m f. cc) in
+    let more : Gives p w (with_status i (status.Shared (n - 1)) w) = gives_status w p i (status.Shared (n - 1)) h inside light refl used refl (λ m c f. cc) in
     elim (leb n 1) as (λ b. Gives p w (cond b (retired p i w) (with_status i (status.Shared (n - 1)) w))) [ true ↦ last | false ↦ more ]
 gives_released_as w p i status.Raw e h known = gives_refl p w h
-gives_released_as w p i (status.Collected n) e h known = gives_refl p w h
+gives_released_as w p i (status.Collected n b) e h known = gives_refl p w h
 gives_released_as w p i status.Retired e h known = gives_refl p w h
 gives_released_as w p i status.Idle e h known = gives_refl p w h
 gives_released_as w p i status.Deferred e h known = gives_refl p w h
@@ -400,13 +400,13 @@ gives_disowned_as w p i status.Free e h known = gives_refl p w h
 gives_disowned_as w p i status.Owned e h known = gives_retired w p i h known (inside_by w.states i status.Owned e (λ f. cc)) (ap weight (sym e)) (ap is_used (sym e))
 gives_disowned_as w p i (status.Shared n) e h known = gives_refl p w h
 gives_disowned_as w p i status.Raw e h known = gives_refl p w h
-gives_disowned_as w p i (status.Collected n) e h known = gives_refl p w h
+gives_disowned_as w p i (status.Collected n b) e h known = gives_refl p w h
 gives_disowned_as w p i status.Retired e h known = gives_refl p w h
 gives_disowned_as w p i status.Idle e h known = gives_refl p w h
 gives_disowned_as w p i status.Deferred e h known = gives_refl p w h
 
 pub gives_cell : {T : Type 0} (w : State T) (p c : ℕ) (k : Cell) → Sound w → Gives p w (with_cell c k w)
-gives_cell w p c k h = record { count = refl; values = refl; places = refl; cells = length-set w.cells c k; known = refl; due = refl; calm = refl; others = λ k n. refl; noted = λ i n e. e; occupied = refl; sound = record { sizes = h.sizes; once = h.once; filled = h.filled } }
+gives_cell w p c k h = record { count = refl; values = refl; places = refl; cells = length-set w.cells c k; known = refl; due = refl; calm = refl; others = λ k n. refl; noted = λ i n f e. e; occupied = refl; sound = record { sizes = h.sizes; once = h.once; filled = h.filled } }
 
 pub gives_owned_ended_as : {T : Type 0} (w : State T) (p c : ℕ) (k : Cell) → Sound w → p < length w.participants → Gives p w (owned_ended_as k p c w)
 gives_owned_ended_as w p c cell.Free h known = gives_refl p w h
@@ -450,7 +450,7 @@ pub record Reclaims {T : Type 0} (p i : ℕ) (is : List ℕ) (w w' : State T) : 
   pub due : (participant_at w' p).due ≡ is
   pub calm : calm (participant_at w' p) ≡ calm (participant_at w p)
   pub others : (k : ℕ) → k ≢ p → participant_at w' k ≡ participant_at w k
-  pub noted : (i n : ℕ) → status_at w' i ≡ status.Collected n → status_at w i ≡ status.Collected n
+  pub noted : (i n b : ℕ) → status_at w' i ≡ status.Collected n b → status_at w i ≡ status.Collected n b
   pub occupied : sum_by occupied w'.states + 1 ≡ sum_by occupied w.states
   pub sound : Sound w'
 
@@ -473,7 +473,7 @@ reclaims_next {T} holds w p i is h known was =
       due = gu.due ∙ ap (λ (m : ParticipantState). m.due) at;
       calm = gu.calm ∙ ap calm at;
       others = λ k n. gu.others k n ∙ get_or-set_other w.participants p k (left_due is (participant_at w p)) nobody n;
-      noted = λ j n e. noted_set w.states i j n s r.0 (vacated-new (status_at w i)) (gu.noted j n e);
+      noted = λ j n b e. noted_set w.states i j n b s r.0 (vacated-new (status_at w i)) (gu.noted j n b e);
       occupied = let same = gu.occupied in omega (arith, same, sum_by-set occupied w.states i s status.Free r.0, heavy-occupied _ r.1, vacated-empty (status_at w i));
       sound = gu.sound;
     } in
@@ -489,12 +489,12 @@ pub record RunsOut {T : Type 0} (p : ℕ) (w w' : State T) : Type 0 where
   pub due : (participant_at w' p).due ≡ []
   pub calm : calm (participant_at w' p) ≡ calm (participant_at w p)
   pub others : (k : ℕ) → k ≢ p → participant_at w' k ≡ participant_at w k
-  pub noted : (i n : ℕ) → status_at w' i ≡ status.Collected n → status_at w i ≡ status.Collected n
+  pub noted : (i n b : ℕ) → status_at w' i ≡ status.Collected n b → status_at w i ≡ status.Collected n b
   pub occupied : sum_by occupied w'.states + length (participant_at w p).due ≡ sum_by occupied w.states
   pub sound : Sound w'
 
 pub runs_out : {T : Type 0} (holds : T → List Hold) (p n : ℕ) (w : State T) (due : List ℕ) → due ≡ (participant_at w p).due → length due ≡ n → Sound w → p < length w.participants → RunsOut p w (reclaimed holds p n w)
-runs_out holds p zero w due e size h known = record { count = refl; stays = λ j none. refl; places = refl; cells = refl; known = refl; due = sym e ∙ nil_from_length due size; calm = refl; others = λ k n. refl; noted = λ i n e. e; occupied = omega (arith, ap length e, size); sound = h }
+runs_out holds p zero w due e size h known = record { count = refl; stays = λ j none. refl; places = refl; cells = refl; known = refl; due = sym e ∙ nil_from_length due size; calm = refl; others = λ k n. refl; noted = λ i n f e. e; occupied = omega (arith, ap length e, size); sound = h }
 runs_out holds p (suc n) w [] e size h known = absurd (omega arith)
 runs_out holds p (suc n) w (i ∷ is) e size h known =
     let r = reclaims_next holds w p i is h known (sym e) in
@@ -515,7 +515,7 @@ runs_out holds p (suc n) w (i ∷ is) e size h known =
       due = o.due;
       calm = o.calm ∙ r.calm;
       others = λ k n. o.others k n ∙ r.others k n;
-      noted = λ j m f. r.noted j m (o.noted j m f);
+      noted = λ j m b f. r.noted j m b (o.noted j m b f);
       occupied = omega (arith, o.occupied, r.occupied, ap length e, ap length r.due);
       sound = o.sound;
     }

@@ -14,7 +14,7 @@ use Rattle.sdd_table.specs.declared.status.Status.{Status}
 use Rattle.sdd_table.specs.declared.status.Status.TheVariants as status
 use Rattle.sdd_table.specs.declared.status.Cell.{Cell}
 use Rattle.sdd_table.specs.declared.status.Cell.TheVariants as cell
-use Rattle.sdd_table.specs.declared.status.LocalState.{LocalState}
+use Rattle.sdd_plain.specs.declared.local_state.LocalState.{LocalState}
 use Rattle.sdd_table.proofs.BagInvariantLemmas.{times_recalled, Calm, calm, reclaims_next, due_waiting, sound_taken, gives_given, times_set, sound_local}
 
 -- what giving owners back adds to the current bag of p
@@ -36,7 +36,7 @@ grows_released_as w p i status.Owned known = grows_same p w w refl
 grows_released_as w p i (status.Shared n) known =
     elim (leb n 1) as (λ b. Grows p w (cond b (retired p i w) (with_status i (status.Shared (n - 1)) w))) [ true ↦ grows_retired w p i known | false ↦ grows_same p w (with_status i (status.Shared (n - 1)) w) refl ]
 grows_released_as w p i status.Raw known = grows_same p w w refl
-grows_released_as w p i (status.Collected n) known = grows_same p w w refl
+grows_released_as w p i (status.Collected n b) known = grows_same p w w refl
 grows_released_as w p i status.Retired known = grows_same p w w refl
 grows_released_as w p i status.Idle known = grows_same p w w refl
 grows_released_as w p i status.Deferred known = grows_same p w w refl
@@ -46,7 +46,7 @@ grows_disowned_as w p i status.Free known = grows_same p w w refl
 grows_disowned_as w p i status.Owned known = grows_retired w p i known
 grows_disowned_as w p i (status.Shared n) known = grows_same p w w refl
 grows_disowned_as w p i status.Raw known = grows_same p w w refl
-grows_disowned_as w p i (status.Collected n) known = grows_same p w w refl
+grows_disowned_as w p i (status.Collected n b) known = grows_same p w w refl
 grows_disowned_as w p i status.Retired known = grows_same p w w refl
 grows_disowned_as w p i status.Idle known = grows_same p w w refl
 grows_disowned_as w p i status.Deferred known = grows_same p w w refl

@@ -5,6 +5,7 @@ pub mod BagInvariantLemmas
 pub mod SlotLemmas
 pub mod RotationLemmas
 pub mod PlaceLemmas
+pub mod PrivateBagLemmas
 pub mod SweepLemmas
 pub mod DropLemmas
 pub mod EndLemmas

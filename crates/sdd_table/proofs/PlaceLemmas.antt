@@ -9,9 +9,9 @@ use Rattle.sdd_table.specs.Holding.{Hold}
 use Rattle.sdd_table.specs.State.{State, ParticipantState, participant_at, nobody, bags_moved_on, rotated_bags, with_local, with_local_state, weight, status_at, value_at, is_used, local_at, raised, is_present, fresh, occupied}
 use Rattle.sdd_table.specs.Steps.{times, reclaimed, participant_rotated, count_published, guard_opened, guard_closed, scanned, bags_empty, scans, closings_after}
 use Rattle.sdd_table.specs.Place.{IsPlace, IsOpen, held_times}
-use Rattle.sdd_table.specs.declared.sizes.Sizes.{Sizes}
+use Rattle.sdd_plain.specs.declared.sizes.Sizes.{Sizes}
 use Rattle.sdd_table.specs.declared.status.Status.TheVariants as status
-use Rattle.sdd_table.specs.declared.status.LocalState.{LocalState}
+use Rattle.sdd_plain.specs.declared.local_state.LocalState.{LocalState}
 use Rattle.sdd_table.proofs.BagInvariantLemmas.{sound_turned, sound_local, times_reversed, Gives, Leaves, leaves, Calms, calms, Calm, calm, runs_out}
 
 -- what giving leaves of every participant
@@ -92,7 +92,7 @@ pub record Rotates {T : Type 0} (p : ℕ) (w w' : State T) : Type 0 where
   pub published : (local_at w' p).published ≡ (local_at w p).published
   pub previous : (local_at w' p).previous ≡ (local_at w p).previous
   pub others : (k : ℕ) → k ≢ p → participant_at w' k ≡ participant_at w k
-  pub noted : (i n : ℕ) → status_at w' i ≡ status.Collected n → status_at w i ≡ status.Collected n
+  pub noted : (i n b : ℕ) → status_at w' i ≡ status.Collected n b → status_at w i ≡ status.Collected n b
   pub occupied : sum_by occupied w'.states + length (participant_at w p).oldest ≡ sum_by occupied w.states
   pub current : (participant_at w p).oldest ≡ [] → (participant_at w' p).current ≡ []
   pub place : IsPlace w'

@@ -31,7 +31,7 @@ used-vacancy status.Free h = cc
 used-vacancy status.Owned h = refl
 used-vacancy (status.Shared n) h = refl
 used-vacancy status.Raw h = refl
-used-vacancy (status.Collected n) h = refl
+used-vacancy (status.Collected n b) h = refl
 used-vacancy status.Retired h = refl
 used-vacancy status.Idle h = refl
 used-vacancy status.Deferred h = refl
@@ -41,7 +41,7 @@ used-idleness status.Free h = refl
 used-idleness status.Owned h = refl
 used-idleness (status.Shared n) h = refl
 used-idleness status.Raw h = refl
-used-idleness (status.Collected n) h = refl
+used-idleness (status.Collected n b) h = refl
 used-idleness status.Retired h = refl
 used-idleness status.Idle h = cc
 used-idleness status.Deferred h = refl
@@ -51,7 +51,7 @@ used-job status.Free h = refl
 used-job status.Owned h = refl
 used-job (status.Shared n) h = refl
 used-job status.Raw h = refl
-used-job (status.Collected n) h = refl
+used-job (status.Collected n b) h = refl
 used-job status.Retired h = refl
 used-job status.Idle h = sym h
 used-job status.Deferred h = sym h
@@ -61,7 +61,7 @@ idle-is status.Free h = absurd (omega arith)
 idle-is status.Owned h = absurd (omega arith)
 idle-is (status.Shared n) h = absurd (omega arith)
 idle-is status.Raw h = absurd (omega arith)
-idle-is (status.Collected n) h = absurd (omega arith)
+idle-is (status.Collected n b) h = absurd (omega arith)
 idle-is status.Retired h = absurd (omega arith)
 idle-is status.Idle h = refl
 idle-is status.Deferred h = absurd (omega arith)
@@ -71,7 +71,7 @@ vacant-is status.Free h = refl
 vacant-is status.Owned h = absurd (omega arith)
 vacant-is (status.Shared n) h = absurd (omega arith)
 vacant-is status.Raw h = absurd (omega arith)
-vacant-is (status.Collected n) h = absurd (omega arith)
+vacant-is (status.Collected n b) h = absurd (omega arith)
 vacant-is status.Retired h = absurd (omega arith)
 vacant-is status.Idle h = absurd (omega arith)
 vacant-is status.Deferred h = absurd (omega arith)
@@ -88,6 +88,7 @@ changed_invariant {T} {J} a p f s h known is same =
       tally = h.tally;
       links = h.links;
       held = λ j. omega (arith, h.held j, times_set ms p j (f (participant_in ms p)) known, same j);
+      small = h.small;
       kinds = h.kinds;
       slots = h.slots;
       places = h.places;
@@ -121,6 +122,7 @@ states_invariant a v jb u m fr idl i s h many kind fill tally links held slots r
       tally = tally;
       links = links ∙ h.links ∙ sym size;
       held = held;
+      small = omega (arith, size, h.small);
       kinds = map-set_same is_job a.states.items i s status.Free kind ∙ h.kinds ∙ ap (λ (n : ℕ). replicate a.slots false ++ replicate n true) (sym many);
       slots = record { lists = slots; room = roomy };
       places = record { lists = places; room = roomier };
@@ -196,6 +198,7 @@ written_invariant a i v h is = record {
   tally = h.tally;
   links = h.links;
   held = h.held;
+  small = h.small;
   kinds = h.kinds;
   slots = h.slots;
   places = h.places;
@@ -268,7 +271,7 @@ vacancy-slot status.Free = omega arith
 vacancy-slot status.Owned = omega arith
 vacancy-slot (status.Shared n) = omega arith
 vacancy-slot status.Raw = omega arith
-vacancy-slot (status.Collected n) = omega arith
+vacancy-slot (status.Collected n b) = omega arith
 vacancy-slot status.Retired = omega arith
 vacancy-slot status.Idle = omega arith
 vacancy-slot status.Deferred = omega arith
@@ -278,7 +281,7 @@ idleness-job status.Free = omega arith
 idleness-job status.Owned = omega arith
 idleness-job (status.Shared n) = omega arith
 idleness-job status.Raw = omega arith
-idleness-job (status.Collected n) = omega arith
+idleness-job (status.Collected n b) = omega arith
 idleness-job status.Retired = omega arith
 idleness-job status.Idle = omega arith
 idleness-job status.Deferred = omega arith
@@ -387,7 +390,7 @@ waits_item status.Free h u = absurd (omega (arith, h))
 waits_item status.Owned h u = absurd (omega (arith, h))
 waits_item (status.Shared k) h u = absurd (omega (arith, h))
 waits_item status.Raw h u = absurd (omega (arith, h))
-waits_item (status.Collected k) h u = absurd (omega (arith, h))
+waits_item (status.Collected k b) h u = absurd (omega (arith, h))
 waits_item status.Retired h u = refl
 waits_item status.Idle h u = absurd (omega (arith, h))
 waits_item status.Deferred h u = cc
@@ -397,7 +400,7 @@ waits_job status.Free h u = absurd (omega (arith, h))
 waits_job status.Owned h u = absurd (omega (arith, h))
 waits_job (status.Shared k) h u = absurd (omega (arith, h))
 waits_job status.Raw h u = absurd (omega (arith, h))
-waits_job (status.Collected k) h u = absurd (omega (arith, h))
+waits_job (status.Collected k b) h u = absurd (omega (arith, h))
 waits_job status.Retired h u = cc
 waits_job status.Idle h u = absurd (omega (arith, h))
 waits_job status.Deferred h u = refl
@@ -473,7 +476,7 @@ run_invariant a x jb p i is m idl h many known inside was gone due to pushed cap
 pub cell_invariant : {T J : Type 0} (a : Inside T J) (c : ℕ) (k : Cell) (fr : Vec ℕ) → IsTable a → Lists emptiness (set a.cells.items c k) fr.items → length a.cells.items ≤ vec_capacity fr → IsTable (record a { cells = with_item a.cells c k; free_cells = fr })
 cell_invariant a c k fr h lists cap =
     let size = length-set {A = Cell} a.cells.items c k in
-    record { filled = h.filled; tally = h.tally; links = h.links; held = h.held; kinds = h.kinds; slots = h.slots; places = h.places; cells = record { lists = lists; room = omega (arith, size, cap) } }
+    record { filled = h.filled; tally = h.tally; links = h.links; held = h.held; small = h.small; kinds = h.kinds; slots = h.slots; places = h.places; cells = record { lists = lists; room = omega (arith, size, cap) } }
 
 pub cell_in : {T J : Type 0} (a : Inside T J) (w : State T) (c : ℕ) → state_of a ≡ w → c < length w.cells → c < length a.cells.items
 cell_in a w c e h = let P : State _ → Type 0 = λ s. c < length s.cells in subst P (sym e) h
@@ -500,8 +503,8 @@ none_waits : (m n j : ℕ) (ss : List Status) → ss ≡ replicate m status.Free
 none_waits m n j ss s = ap (λ (xs : List Status). weight (get_or xs j status.Free)) s ∙ light_at m n j
 
 -- a new store
-pub table_fresh : {T J : Type 0} (a : Inside T J) (m n : ℕ) → a.used ≡ 0 → a.slots ≡ m → length a.jobs.items ≡ n → a.values.items ≡ replicate (m + n) None → a.states.items ≡ replicate m status.Free ++ replicate n status.Idle → (k : ℕ) → a.participants ≡ record { places = m + n; all = replicate k nobody } → Lists vacancy a.states.items a.free.items → m ≤ vec_capacity a.free → Lists idleness a.states.items a.idle.items → n ≤ vec_capacity a.idle → IsFreeList emptiness a.cells.items (length a.cells.items) a.free_cells → IsTable a
-table_fresh a m n u first many v s k new free roomy idle roomier cells =
+pub table_fresh : {T J : Type 0} (a : Inside T J) (m n : ℕ) → a.used ≡ 0 → a.slots ≡ m → length a.jobs.items ≡ n → a.values.items ≡ replicate (m + n) None → a.states.items ≡ replicate m status.Free ++ replicate n status.Idle → (k : ℕ) → a.participants ≡ record { places = m + n; all = replicate k nobody } → Lists vacancy a.states.items a.free.items → m ≤ vec_capacity a.free → Lists idleness a.states.items a.idle.items → n ≤ vec_capacity a.idle → IsFreeList emptiness a.cells.items (length a.cells.items) a.free_cells → m + n < 4294967296 → IsTable a
+table_fresh a m n u first many v s k new free roomy idle roomier cells least =
     let size : length a.states.items ≡ m + n = ap length s ∙ length-append (replicate m status.Free) (replicate n status.Idle) ∙ omega (arith, length-replicate m status.Free, length-replicate n status.Idle) in
     let count : sum_by usage a.states.items ≡ 0 = ap (sum_by usage) s ∙ sum_by-append usage (replicate m status.Free) (replicate n status.Idle) ∙ omega (arith, sum_by-replicate usage m status.Free, sum_by-replicate usage n status.Idle) in
     record {
@@ -509,6 +512,7 @@ table_fresh a m n u first many v s k new free roomy idle roomier cells =
       tally = u ∙ sym count;
       links = ap (λ (z : Shown). z.places) new ∙ sym size;
       held = λ j. ap (λ (z : Shown). sum_by (held_times j) z.all) new ∙ none_held k j ∙ sym (none_waits m n j a.states.items s);
+      small = omega (arith, size, least);
       kinds = ap (map is_job) s ∙ map-append is_job (replicate m status.Free) (replicate n status.Idle) ∙ ap (λ (bs : List Bool). bs ++ map is_job (replicate n status.Idle)) (map-replicate is_job m status.Free) ∙ ap (λ (bs : List Bool). replicate m false ++ bs) (map-replicate is_job n status.Idle) ∙ ap (λ (k : ℕ). replicate k false ++ replicate n true) (sym first) ∙ ap (λ (k : ℕ). replicate a.slots false ++ replicate k true) (sym many);
       slots = record { lists = free; room = omega (arith, first, roomy) };
       places = record { lists = idle; room = omega (arith, many, roomier) };

@@ -11,7 +11,7 @@ use lib.Seq.{set-get_or}
 use Rattle.sdd_table.specs.State.{ParticipantState, no_local, is_present, nobody, put_participant, bags_moved_on, left_due, recalled, with_local_state}
 use Rattle.sdd_table.specs.Steps.{hit, times, is_nil, bags_empty}
 use Rattle.sdd_table.specs.Place.{held_times}
-use Rattle.sdd_table.specs.declared.status.LocalState.{LocalState}
+use Rattle.sdd_plain.specs.declared.local_state.LocalState.{LocalState}
 use Rattle.sdd_table.specs.Chains.{Shown, participant_in, follow, Spells, IsChain, participant_of, AreChains, no_participant, shown_of, AreThreaded}
 use Rattle.sdd_table.specs.declared.bags.Participant.{Participant}
 use Rattle.sdd_table.specs.declared.bags.Participants.TheInside.{Inside}

@@ -12,7 +12,7 @@ has_owner status.Free = false
 has_owner status.Owned = true
 has_owner (status.Shared n) = true
 has_owner status.Raw = true
-has_owner (status.Collected n) = false
+has_owner (status.Collected n b) = false
 has_owner status.Retired = false
 has_owner status.Idle = false
 has_owner status.Deferred = false
@@ -26,7 +26,7 @@ pub record Protects {T : Type 0} (w : State T) (q i : ℕ) : Type 0 where
   pub used : is_used (status_at w i) ≡ true
   pub prior : (k : ℕ) → 1 ≤ times i (participant_at w k).prior → (local_at w q).published ≤ (local_at w k).previous
   pub oldest : (k : ℕ) → 1 ≤ times i (participant_at w k).oldest → (local_at w q).published < (local_at w k).previous
-  pub noted : (n : ℕ) → status_at w i ≡ status.Collected n → (local_at w q).published ≤ n
+  pub noted : (n b : ℕ) → status_at w i ≡ status.Collected n b → (local_at w q).published ≤ n
 
 -- what every call leaves
 pub record Frame {T : Type 0} (w w' : State T) : Type 0 where

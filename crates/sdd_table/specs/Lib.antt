@@ -1,10 +1,11 @@
-pub mod Epochs
+pub use Rattle.sdd_plain.specs.Epochs
 pub mod Holding
 pub mod Tokens
 pub mod State
 pub mod Steps
 pub mod Place
 pub mod Chains
+pub mod PrivateBags
 pub mod View
 pub mod Frame
 pub mod Dropping

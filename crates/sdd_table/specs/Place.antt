@@ -3,8 +3,8 @@ use Rattle.std.specs.Prelude.{◌≡◌, ◌≢◌, ℕ, ◌+◌, ◌<◌, ◌�
 use Rattle.std.specs.List.{sum_by}
 use Rattle.sdd_table.specs.State.{State, ParticipantState, status_at, value_at, cell_at, participant_at, local_at, weight, is_used, with_status, with_cell}
 use Rattle.sdd_table.specs.Steps.{times}
-use Rattle.sdd_table.specs.declared.tag.Tag.{Tag}
-use Rattle.sdd_table.specs.declared.sizes.Sizes.{Sizes}
+use Rattle.sdd_plain.specs.declared.tag.Tag.{Tag}
+use Rattle.sdd_plain.specs.declared.sizes.Sizes.{Sizes}
 use Rattle.sdd_table.specs.declared.status.Status.TheVariants as status
 use Rattle.sdd_table.specs.declared.status.Cell.TheVariants as cell
 
@@ -12,7 +12,7 @@ use Rattle.sdd_table.specs.declared.status.Cell.TheVariants as cell
 abbrev pub held_times : ℕ → ParticipantState → ℕ
 held_times j m = times j m.current + times j m.prior + times j m.oldest + times j m.due
 
--- each place that waits does so in one bag, no other place is in a bag; a slot has a value exactly if it is used
+-- each place that waits does so in one bag, no other place is in a bag; a slot has a value if and only if it is used
 pub record Sound {T : Type 0} (w : State T) : Type 0 where
   pub sizes : length w.values ≡ length w.states
   pub once : (j : ℕ) → sum_by (held_times j) w.participants ≡ weight (status_at w j)

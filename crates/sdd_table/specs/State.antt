@@ -4,9 +4,10 @@ use Rattle.sdd_table.specs.declared.status.Status.{Status}
 use Rattle.sdd_table.specs.declared.status.Status.TheVariants as status
 use Rattle.sdd_table.specs.declared.status.Cell.{Cell}
 use Rattle.sdd_table.specs.declared.status.Cell.TheVariants as cell
-use Rattle.sdd_table.specs.declared.status.LocalState.{LocalState}
-use Rattle.sdd_table.specs.declared.sizes.Sizes.{Sizes}
-use Rattle.sdd_table.specs.declared.tag.Tag.{Tag}
+use Rattle.sdd_plain.specs.declared.local_state.LocalState.{LocalState}
+use Rattle.sdd_plain.specs.declared.sizes.Sizes.{Sizes}
+use Rattle.sdd_plain.specs.declared.tag.Tag.{Tag}
+pub use Rattle.sdd_plain.specs.Locals.{no_local}
 
 -- a participant: its notes on itself, the places in its three bags (of age 0, 1 and 2), and those that are being reclaimed
 pub record ParticipantState : Type 0 where
@@ -25,9 +26,6 @@ pub record State (T : Type 0) : Type 0 where
   pub participants : List ParticipantState
 
 -- reading: numbers out of range name nothing
-abbrev pub no_local : LocalState
-no_local = record { nesting = 0; published = 0; previous = 0; accelerated = false; garbage = false; closings = 0 }
-
 abbrev pub nobody : ParticipantState
 nobody = record { local = no_local; current = []; prior = []; oldest = []; due = [] }
 
@@ -52,7 +50,7 @@ is_used status.Free = false
 is_used status.Owned = true
 is_used (status.Shared n) = true
 is_used status.Raw = true
-is_used (status.Collected n) = true
+is_used (status.Collected n b) = true
 is_used status.Retired = true
 is_used status.Idle = false
 is_used status.Deferred = false
@@ -67,7 +65,7 @@ weight status.Free = 0
 weight status.Owned = 0
 weight (status.Shared n) = 0
 weight status.Raw = 0
-weight (status.Collected n) = 0
+weight (status.Collected n b) = 0
 weight status.Retired = 1
 weight status.Idle = 0
 weight status.Deferred = 1
@@ -78,7 +76,7 @@ occupied status.Free = 0
 occupied status.Owned = 1
 occupied (status.Shared n) = 1
 occupied status.Raw = 1
-occupied (status.Collected n) = 1
+occupied (status.Collected n b) = 1
 occupied status.Retired = 1
 occupied status.Idle = 0
 occupied status.Deferred = 1
@@ -89,7 +87,7 @@ vacancy status.Free = 1
 vacancy status.Owned = 0
 vacancy (status.Shared n) = 0
 vacancy status.Raw = 0
-vacancy (status.Collected n) = 0
+vacancy (status.Collected n b) = 0
 vacancy status.Retired = 0
 vacancy status.Idle = 0
 vacancy status.Deferred = 0
@@ -100,7 +98,7 @@ idleness status.Free = 0
 idleness status.Owned = 0
 idleness (status.Shared n) = 0
 idleness status.Raw = 0
-idleness (status.Collected n) = 0
+idleness (status.Collected n b) = 0
 idleness status.Retired = 0
 idleness status.Idle = 1
 idleness status.Deferred = 0
@@ -111,7 +109,7 @@ is_job status.Free = false
 is_job status.Owned = false
 is_job (status.Shared n) = false
 is_job status.Raw = false
-is_job (status.Collected n) = false
+is_job (status.Collected n b) = false
 is_job status.Retired = false
 is_job status.Idle = true
 is_job status.Deferred = true
@@ -129,10 +127,29 @@ vacated status.Free = status.Free
 vacated status.Owned = status.Free
 vacated (status.Shared n) = status.Free
 vacated status.Raw = status.Free
-vacated (status.Collected n) = status.Free
+vacated (status.Collected n b) = status.Free
 vacated status.Retired = status.Free
 vacated status.Idle = status.Idle
 vacated status.Deferred = status.Idle
+
+-- what the use of an item in a private bag names: the count that was noted, and the place that came into the bag behind it
+abbrev pub mark_of : Status → Option (ℕ × ℕ)
+mark_of status.Free = None
+mark_of status.Owned = None
+mark_of (status.Shared n) = None
+mark_of status.Raw = None
+mark_of (status.Collected n b) = Some (n, b)
+mark_of status.Retired = None
+mark_of status.Idle = None
+mark_of status.Deferred = None
+
+abbrev pub named_by : Option (ℕ × ℕ) → ℕ
+named_by None = 0
+named_by (Some m) = m.1
+
+-- the place that came into a private bag behind place i, as the use of i names it
+abbrev pub behind_at : {T : Type 0} → State T → ℕ → ℕ
+behind_at w i = named_by (mark_of (status_at w i))
 
 abbrev pub IsFree : {T : Type 0} → State T → ℕ → Type 0
 IsFree w i = (i < length w.states) × (status_at w i ≡ status.Free)

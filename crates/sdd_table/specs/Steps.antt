@@ -2,12 +2,13 @@
 use Rattle.std.specs.Prelude.{◌≡◌, ℕ, zero, suc, ◌+◌, ◌-◌, ◌==◌, Bool, true, false, not, ◌&&◌, ◌||◌, cond, Option, None, Some, List, [], ◌∷◌, ◌++◌, length, replicate, min, leb, ltb}
 use Rattle.std.specs.List.{list_all, sum_by}
 use Rattle.sdd_table.specs.Holding.{Hold, OwnedItem, SharedItem, OwnedIn, SharedIn}
-use Rattle.sdd_table.specs.State.{State, ParticipantState, status_at, value_at, cell_at, participant_at, local_at, with_status, with_cell, with_local, retired, slot_freed, rotated_bags, taken, raised, is_present}
+use Rattle.sdd_table.specs.State.{State, ParticipantState, status_at, value_at, cell_at, participant_at, local_at, with_status, with_cell, with_local, retired, slot_freed, rotated_bags, taken, raised, is_present, behind_at}
 use Rattle.sdd_table.specs.declared.status.Status.{Status}
 use Rattle.sdd_table.specs.declared.status.Status.TheVariants as status
 use Rattle.sdd_table.specs.declared.status.Cell.{Cell}
 use Rattle.sdd_table.specs.declared.status.Cell.TheVariants as cell
-use Rattle.sdd_table.specs.declared.status.LocalState.{LocalState}
+use Rattle.sdd_plain.specs.declared.local_state.LocalState.{LocalState}
+pub use Rattle.sdd_plain.specs.Locals.{closings_after, scans}
 
 -- 1 where two numbers are equal
 abbrev pub hit : ℕ → ℕ → ℕ
@@ -23,7 +24,7 @@ released_as status.Free p i w = w
 released_as status.Owned p i w = w
 released_as (status.Shared n) p i w = cond (leb n 1) (retired p i w) (with_status i (status.Shared (n - 1)) w)
 released_as status.Raw p i w = w
-released_as (status.Collected n) p i w = w
+released_as (status.Collected n b) p i w = w
 released_as status.Retired p i w = w
 released_as status.Idle p i w = w
 released_as status.Deferred p i w = w
@@ -37,7 +38,7 @@ disowned_as status.Free p i w = w
 disowned_as status.Owned p i w = retired p i w
 disowned_as (status.Shared n) p i w = w
 disowned_as status.Raw p i w = w
-disowned_as (status.Collected n) p i w = w
+disowned_as (status.Collected n b) p i w = w
 disowned_as status.Retired p i w = w
 disowned_as status.Idle p i w = w
 disowned_as status.Deferred p i w = w
@@ -133,13 +134,6 @@ guard_opened holds p w =
 abbrev pub scanned : {T : Type 0} → State T → State T
 scanned w = cond (list_all (is_present w.count) w.participants && ltb w.count 18446744073709551615) (raised w) w
 
-abbrev pub closings_after : LocalState → ℕ
-closings_after m = min 64 (m.closings + 1)
-
--- whether an outermost closing scans
-abbrev pub scans : LocalState → Bool
-scans m = m.accelerated || (m.garbage && leb 64 (closings_after m))
-
 -- p closes a guard
 abbrev pub guard_closed : {T : Type 0} → ℕ → State T → State T
 guard_closed p w =
@@ -155,7 +149,7 @@ overdue count status.Free = false
 overdue count status.Owned = false
 overdue count (status.Shared n) = false
 overdue count status.Raw = false
-overdue count (status.Collected n) = leb (n + 3) count
+overdue count (status.Collected n b) = leb (n + 3) count
 overdue count status.Retired = false
 overdue count status.Idle = false
 overdue count status.Deferred = false
@@ -165,19 +159,55 @@ abbrev pub IsTimely : {T : Type 0} → State T → List ℕ → Type 0
 IsTimely w [] = Unit {0}
 IsTimely w (i ∷ is) = overdue w.count (status_at w i) ≡ false
 
--- p reclaims what is overdue at the front of a private bag
+-- what is left of a private bag whose first place is out of it, where that names n: the next place is the one that is named,
+-- and the last place is known by itself
+abbrev pub left_behind : ℕ → List ℕ → List ℕ
+left_behind n [] = []
+left_behind n (i ∷ []) = i ∷ []
+left_behind n (i ∷ j ∷ is) = n ∷ j ∷ is
+
+-- the item in slot i, which waited in no bag of a participant, is reclaimed by p
+abbrev pub noted_reclaimed : {T : Type 0} → (T → List Hold) → ℕ → ℕ → State T → State T
+noted_reclaimed holds p i w = given_all p (held_in holds (value_at w i)) (slot_freed i w)
+
+-- p reclaims what is overdue at the front of a private bag, n places of it at most
+abbrev pub purged_within : {T : Type 0} → (T → List Hold) → ℕ → ℕ → List ℕ → State T → State T
+purged_within holds p zero is w = w
+purged_within holds p (suc n) [] w = w
+purged_within holds p (suc n) (i ∷ is) w = cond (overdue w.count (status_at w i)) (purged_within holds p n (left_behind (behind_at w i) is) (noted_reclaimed holds p i w)) w
+
 abbrev pub purged : {T : Type 0} → (T → List Hold) → ℕ → List ℕ → State T → State T
-purged holds p [] w = w
-purged holds p (i ∷ is) w = cond (overdue w.count (status_at w i)) (purged holds p is (given_all p (held_in holds (value_at w i)) (slot_freed i w))) w
+purged holds p is w = purged_within holds p (length is) is w
 
 -- what that leaves in the bag
+abbrev pub left_within : {T : Type 0} → (T → List Hold) → ℕ → ℕ → List ℕ → State T → List ℕ
+left_within holds p zero is w = is
+left_within holds p (suc n) [] w = []
+left_within holds p (suc n) (i ∷ is) w = cond (overdue w.count (status_at w i)) (left_within holds p n (left_behind (behind_at w i) is) (noted_reclaimed holds p i w)) (i ∷ is)
+
 abbrev pub left_waiting : {T : Type 0} → (T → List Hold) → ℕ → List ℕ → State T → List ℕ
-left_waiting holds p [] w = []
-left_waiting holds p (i ∷ is) w = cond (overdue w.count (status_at w i)) (left_waiting holds p is (given_all p (held_in holds (value_at w i)) (slot_freed i w))) (i ∷ is)
+left_waiting holds p is w = left_within holds p (length is) is w
+
+-- an item in a private bag names place i, which comes behind it
+abbrev pub followed_as : {T : Type 0} → Status → ℕ → ℕ → State T → State T
+followed_as status.Free j i w = w
+followed_as status.Owned j i w = w
+followed_as (status.Shared n) j i w = w
+followed_as status.Raw j i w = w
+followed_as (status.Collected n b) j i w = with_status j (status.Collected n i) w
+followed_as status.Retired j i w = w
+followed_as status.Idle j i w = w
+followed_as status.Deferred j i w = w
+
+-- the last place of a private bag names place i
+abbrev pub followed : {T : Type 0} → List ℕ → ℕ → State T → State T
+followed [] i w = w
+followed (j ∷ []) i w = followed_as (status_at w j) j i w
+followed (j ∷ k ∷ is) i w = followed (k ∷ is) i w
 
 -- an item waits in a private bag with room for n, which notes the count; where that is full, p retires it
 abbrev pub set_aside : {T : Type 0} → ℕ → ℕ → List ℕ → ℕ → State T → State T
-set_aside p n is i w = cond (ltb (length is) n) (with_status i (status.Collected w.count) w) (retired p i w)
+set_aside p n is i w = cond (ltb (length is) n) (with_status i (status.Collected w.count 0) (followed is i w)) (retired p i w)
 
 abbrev pub enqueued : ℕ → List ℕ → ℕ → List ℕ
 enqueued n is i = cond (ltb (length is) n) (is ++ i ∷ []) is
@@ -188,14 +218,18 @@ handed_over_as status.Free p i w = w
 handed_over_as status.Owned p i w = w
 handed_over_as (status.Shared n) p i w = w
 handed_over_as status.Raw p i w = w
-handed_over_as (status.Collected n) p i w = retired p i w
+handed_over_as (status.Collected n b) p i w = retired p i w
 handed_over_as status.Retired p i w = w
 handed_over_as status.Idle p i w = w
 handed_over_as status.Deferred p i w = w
 
+abbrev pub handed_within : {T : Type 0} → ℕ → ℕ → List ℕ → State T → State T
+handed_within p zero is w = w
+handed_within p (suc n) [] w = w
+handed_within p (suc n) (i ∷ is) w = handed_within p n (left_behind (behind_at w i) is) (handed_over_as (status_at w i) p i w)
+
 abbrev pub handed_over : {T : Type 0} → ℕ → List ℕ → State T → State T
-handed_over p [] w = w
-handed_over p (i ∷ is) w = handed_over p is (handed_over_as (status_at w i) p i w)
+handed_over p is w = handed_within p (length is) is w
 
 -- participants rotate one after the other
 abbrev pub rotated_each : {T : Type 0} → (T → List Hold) → List ℕ → State T → State T

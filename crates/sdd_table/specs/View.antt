@@ -32,6 +32,8 @@ pub record IsTable {T J : Type 0} (w : Inside T J) : Type 0 where
   -- each place has a link word, and those in bags are those that wait
   pub links : w.participants.places ≡ length w.states.items
   pub held : (j : ℕ) → sum_by (held_times j) w.participants.all ≡ weight (get_or w.states.items j status.Free)
+  -- a number of a place fits into 32 bits
+  pub small : length w.states.items ≤ 4294967295
   -- the slots come first, then the job places
   pub kinds : map is_job w.states.items ≡ replicate w.slots false ++ replicate (length w.jobs.items) true
   pub slots : IsFreeList vacancy w.states.items w.slots w.free

@@ -1,4 +1,4 @@
-//! Cells: numbered words of a place that keep an item and a tag. They must be spent, as owners.
+//! Cells: numbered words of a place that keep an item and a tag. They must be consumed, as owners.
 
 use std::marker::PhantomData;
 

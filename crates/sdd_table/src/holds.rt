@@ -15,7 +15,7 @@ pub enum Held<T> {
     SharedCell(AtomicShared<T>),
 }
 
-/// An item that gives up what it owns one at a time, and is then spent.
+/// An item that gives up what it owns one at a time, and is then consumed.
 ///
 /// A reclaim calls `give_up` until there is no more, and then `end`.
 pub trait Holds: Sized {

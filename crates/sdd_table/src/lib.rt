@@ -2,35 +2,32 @@
 //!
 //! A [`Table`] keeps items, jobs and cells in numbered places, and what each participant notes of itself. Clauses see it as a
 //! `State`, and each step of [`reclaim`] as a function of states. Owners and cells are numbers of it, which a place makes
-//! and spends by [`tokens`]. `sdd_base` makes the place of them, `World`, and passes on what its users name.
+//! and spends by [`tokens`]. `sdd_world` makes the place of them, `World`, and passes on what its users name.
 #![tactic(auto)]
 
 mod bags;
 pub mod cell;
-pub mod epoch;
 pub mod holds;
 pub mod job;
 pub mod link;
 pub mod loaded;
 pub mod owner;
 pub mod plain;
+pub mod private_bag;
 pub mod reclaim;
-pub mod sizes;
 pub mod status;
 pub mod store;
 pub mod table;
-pub mod tag;
 pub mod tokens;
 
 pub use cell::{AtomicOwned, AtomicShared};
-pub use epoch::Epoch;
 pub use holds::{Held, Holds};
 pub use job::{Deferred, Job, NoJob, Task};
 pub use link::Link;
 pub use loaded::Loaded;
 pub use owner::{Kept, Owned, Shared};
 pub use plain::Plain;
-pub use sizes::Sizes;
+pub use private_bag::PrivateBag;
+pub use sdd_plain::{Epoch, LocalState, Sizes, Tag, epoch, sizes, tag};
 pub use store::Store;
 pub use table::Table;
-pub use tag::Tag;

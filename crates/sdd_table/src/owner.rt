@@ -1,4 +1,4 @@
-//! Owners of items. They must be spent: given back, put into a cell, or moved into an item.
+//! Owners of items. They must be consumed: given back, put into a cell, or moved into an item.
 
 ghost use Rattle.std.specs.Prelude.{◌≡◌, Some};
 ghost use Rattle.sdd_table.specs.Tokens.{kept_slot, loaded_slot, shared_slot};
@@ -20,7 +20,7 @@ pub struct Shared<T> {
 }
 
 /// One of the owners of an item, as an item of the same type keeps it: without the type, which would lead back to itself.
-/// It must be spent, by [`into_shared`](Kept::into_shared).
+/// It must be consumed by [`into_shared`](Kept::into_shared).
 pub struct Kept {
     pub(crate) slot: usize,
 }

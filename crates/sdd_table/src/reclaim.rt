@@ -1,9 +1,8 @@
 //! What a rotation, an opening and a closing do to the store, with the bags open in between.
 
 ghost use Rattle.std.specs.Prelude.{◌≡◌, ◌+◌, ◌-◌, ◌<◌, ◌≤◌, ℕ, List, [], ◌∷◌, length, leb, IsTrue, IsFalse, IfSome, IfNone, true};
-ghost use Rattle.std.specs.VecDeque.{deque_capacity};
-ghost use Rattle.sdd_table.specs.State.{is_used, status_at, participant_at, local_at, weight};
-ghost use Rattle.sdd_table.specs.Steps.{released, disowned, owned_ended, shared_ended, given, given_all, participant_rotated, guard_opened, guard_closed, count_published, scanned, IsNext, Swept, AllSwept, purged, left_waiting, enqueued, set_aside, handed_over, overdue, IsTimely, closings_after, scans as scans_at};
+ghost use Rattle.sdd_table.specs.State.{is_used, mark_of, named_by, behind_at, status_at, participant_at, local_at, weight};
+ghost use Rattle.sdd_table.specs.Steps.{released, disowned, owned_ended, shared_ended, given, given_all, participant_rotated, guard_opened, guard_closed, count_published, scanned, IsNext, Swept, AllSwept, purged, left_waiting, left_behind, enqueued, followed, set_aside, handed_over, handed_over_as, overdue, IsTimely, closings_after, scans as scans_at};
 ghost use Rattle.sdd_table.specs.Dropping.{undone, Dropped};
 ghost use Rattle.sdd_table.specs.Place.{Sound, IsPlace, IsOwned, IsShared};
 ghost use Rattle.sdd_table.specs.Frame.{OnlyParticipant};
@@ -13,9 +12,9 @@ use crate::cell::{AtomicOwned, AtomicShared};
 use crate::holds::{Held, Holds};
 use crate::job::Deferred;
 use crate::owner::{Owned, Shared};
+use crate::private_bag::PrivateBag;
 use crate::status::{Cell, LocalState, Status};
 use crate::table::{Due, Table};
-use std::collections::VecDeque;
 
 /// Gives one owner of slot `i` back, and answers whether it was the last.
 pub fn release<T, J: Deferred>(table: &mut Table<T, J>, p: usize, i: usize) -> bool
@@ -176,28 +175,35 @@ pub fn drop_now<T: Holds, J: Deferred>(table: &mut Table<T, J>, held: Held<T>)
     table.set_local(0, local);
 }
 
+/// The place that came last into a private bag names `slot`, which comes behind it, if there is one.
+fn follow_last<T, J: Deferred>(table: &mut Table<T, J>, waiting: &PrivateBag, slot: usize)
+    requires { slot < length table.old.states }
+    ensures { table.new ≡ followed waiting.now.items slot table.old }
+{
+    let Some(last) = waiting.last() else {
+        return;
+    };
+    if let Status::Collected(note, _) = table.status_of(last) {
+        let behind = table.name_of(slot);
+        table.set_status(last, Status::Collected(note, behind));
+    }
+}
+
 /// What is in `slot` waits at the end of a private bag, and the count is noted; where that is full, `p` retires it.
-fn collect<T, J: Deferred>(
-    table: &mut Table<T, J>,
-    p: usize,
-    waiting: &mut VecDeque<usize>,
-    slot: usize,
-)
+fn collect<T, J: Deferred>(table: &mut Table<T, J>, p: usize, waiting: &mut PrivateBag, slot: usize)
     requires participant { p < length table.old.participants }
     requires slot { slot < length table.old.states }
     requires used { is_used (status_at table.old slot) ≡ true }
     requires waits_not { weight (status_at table.old slot) ≡ 0 }
-    ensures state { table.new ≡ set_aside p (deque_capacity waiting.old) waiting.old.items slot table.old }
-    ensures bag { waiting.new.items ≡ enqueued (deque_capacity waiting.old) waiting.old.items slot }
-    ensures room { deque_capacity waiting.new ≡ deque_capacity waiting.old }
+    ensures state { table.new ≡ set_aside p waiting.old.room waiting.old.items slot table.old }
+    ensures bag { waiting.new.items ≡ enqueued waiting.old.room waiting.old.items slot }
+    ensures room { waiting.new.room ≡ waiting.old.room }
 {
-    if waiting.len() < waiting.capacity() {
+    if waiting.len() < waiting.room() {
+        follow_last(table, waiting, slot);
         let note = table.count();
-        table.set_status(slot, Status::Collected(note));
-        match waiting.push_back(slot) {
-            Ok(()) => {}
-            Err(_) => unreachable!(),
-        }
+        table.set_status(slot, Status::Collected(note, 0));
+        waiting.push(slot);
     } else {
         table.retire(p, slot);
     }
@@ -207,18 +213,18 @@ fn collect<T, J: Deferred>(
 pub fn leave_owned<T, J: Deferred>(
     table: &mut Table<T, J>,
     p: usize,
-    waiting: &mut VecDeque<usize>,
+    waiting: &mut PrivateBag,
     slot: usize,
 ) -> bool
     requires participant { p < length table.old.participants }
     requires slot { slot < length table.old.states }
     ensures owned { IsTrue result → IsOwned table.old slot }
     ensures unowned { IsFalse result → ¬ IsOwned table.old slot }
-    ensures apart { IsTrue result → table.new ≡ set_aside p (deque_capacity waiting.old) waiting.old.items slot table.old }
-    ensures bag { IsTrue result → waiting.new.items ≡ enqueued (deque_capacity waiting.old) waiting.old.items slot }
+    ensures apart { IsTrue result → table.new ≡ set_aside p waiting.old.room waiting.old.items slot table.old }
+    ensures bag { IsTrue result → waiting.new.items ≡ enqueued waiting.old.room waiting.old.items slot }
     ensures gone { IsFalse result → table.new ≡ table.old }
     ensures same { IsFalse result → waiting.new.items ≡ waiting.old.items }
-    ensures room { deque_capacity waiting.new ≡ deque_capacity waiting.old }
+    ensures room { waiting.new.room ≡ waiting.old.room }
 {
     match table.status(slot) {
         Status::Owned => {
@@ -234,18 +240,18 @@ pub fn leave_owned<T, J: Deferred>(
 pub fn leave_shared<T, J: Deferred>(
     table: &mut Table<T, J>,
     p: usize,
-    waiting: &mut VecDeque<usize>,
+    waiting: &mut PrivateBag,
     slot: usize,
 ) -> bool
     requires participant { p < length table.old.participants }
     requires slot { slot < length table.old.states }
     ensures last { (n : ℕ) → status_at table.old slot ≡ Status.Shared n → result ≡ leb n 1 }
     ensures shared { IsTrue result → IsShared table.old slot }
-    ensures apart { IsTrue result → table.new ≡ set_aside p (deque_capacity waiting.old) waiting.old.items slot table.old }
-    ensures bag { IsTrue result → waiting.new.items ≡ enqueued (deque_capacity waiting.old) waiting.old.items slot }
+    ensures apart { IsTrue result → table.new ≡ set_aside p waiting.old.room waiting.old.items slot table.old }
+    ensures bag { IsTrue result → waiting.new.items ≡ enqueued waiting.old.room waiting.old.items slot }
     ensures given { IsFalse result → table.new ≡ released p slot table.old }
     ensures same { IsFalse result → waiting.new.items ≡ waiting.old.items }
-    ensures room { deque_capacity waiting.new ≡ deque_capacity waiting.old }
+    ensures room { waiting.new.room ≡ waiting.old.room }
 {
     match table.status(slot) {
         Status::Shared(owners) => {
@@ -265,34 +271,42 @@ fn is_overdue(count: u64, status: Status) -> bool
     ensures { result ≡ overdue count status }
 {
     match status {
-        Status::Collected(note) => note <= count && count - note >= 3,
+        Status::Collected(note, _) => note <= count && count - note >= 3,
         _ => false,
     }
 }
 
-/// The first place of a private bag leaves it, if it is overdue.
-fn next_overdue<T, J: Deferred>(table: &Table<T, J>, waiting: &mut VecDeque<usize>) -> Option<usize>
-    ensures some { IfSome result (λ i. (waiting.old.items ≡ i ∷ waiting.new.items) × (overdue table.now.count (status_at table.now i) ≡ true)) }
-    ensures none { IfNone result ((waiting.new.items ≡ waiting.old.items) × IsTimely table.now waiting.old.items) }
-    ensures room { deque_capacity waiting.new ≡ deque_capacity waiting.old }
+/// The place that an item with this use names, where it waits in a private bag.
+fn behind(status: Status) -> usize
+    ensures { result ≡ named_by (mark_of status) }
 {
-    let slot = *waiting.front()?;
-    if !is_overdue(table.count(), table.status_of(slot)) {
+    match status {
+        Status::Collected(_, slot) => slot as usize,
+        _ => 0,
+    }
+}
+
+/// The first place of a private bag leaves it, if it is overdue.
+fn next_overdue<T, J: Deferred>(table: &Table<T, J>, waiting: &mut PrivateBag) -> Option<usize>
+    ensures some { IfSome result (λ i. (is : List ℕ) × (waiting.old.items ≡ i ∷ is) × (waiting.new.items ≡ left_behind (behind_at table.now i) is) × (overdue table.now.count (status_at table.now i) ≡ true)) }
+    ensures none { IfNone result ((waiting.new.items ≡ waiting.old.items) × IsTimely table.now waiting.old.items) }
+    ensures room { waiting.new.room ≡ waiting.old.room }
+{
+    let slot = waiting.first()?;
+    let status = table.status_of(slot);
+    if !is_overdue(table.count(), status) {
         return None;
     }
-    waiting.pop_front()
+    waiting.leave(behind(status));
+    Some(slot)
 }
 
 /// What is overdue at the front of a private bag is reclaimed by `p`.
-pub fn purge<T: Holds, J: Deferred>(
-    table: &mut Table<T, J>,
-    p: usize,
-    waiting: &mut VecDeque<usize>,
-)
+pub fn purge<T: Holds, J: Deferred>(table: &mut Table<T, J>, p: usize, waiting: &mut PrivateBag)
     requires { p < length table.old.participants }
     ensures state { table.new ≡ purged T.holds p waiting.old.items table.old }
     ensures left { waiting.new.items ≡ left_waiting T.holds p waiting.old.items table.old }
-    ensures room { deque_capacity waiting.new ≡ deque_capacity waiting.old }
+    ensures room { waiting.new.room ≡ waiting.old.room }
 {
     while let Some(slot) = next_overdue(table, waiting) {
         let value = table.remove(slot);
@@ -300,16 +314,30 @@ pub fn purge<T: Holds, J: Deferred>(
     }
 }
 
+/// The first place of a private bag leaves it, and `p` retires what is in it. Whether there was one.
+fn hand_first<T, J: Deferred>(table: &mut Table<T, J>, p: usize, waiting: &mut PrivateBag) -> bool
+    requires { p < length table.old.participants }
+    ensures some { IsTrue result → (i : ℕ) × (is : List ℕ) × (waiting.old.items ≡ i ∷ is) × (waiting.new.items ≡ left_behind (behind_at table.old i) is) × (table.new ≡ handed_over_as (status_at table.old i) p i table.old) }
+    ensures none { IsFalse result → (waiting.old.items ≡ []) × (table.new ≡ table.old) }
+    ensures known { length table.new.participants ≡ length table.old.participants }
+{
+    let Some(slot) = waiting.first() else {
+        return false;
+    };
+    let status = table.status_of(slot);
+    waiting.leave(behind(status));
+    if let Status::Collected(_, _) = status {
+        table.retire(p, slot);
+    }
+    true
+}
+
 /// What waits in a private bag is retired by `p`.
-pub fn hand_over<T, J: Deferred>(table: &mut Table<T, J>, p: usize, waiting: &mut VecDeque<usize>)
+pub fn hand_over<T, J: Deferred>(table: &mut Table<T, J>, p: usize, waiting: &mut PrivateBag)
     requires { p < length table.old.participants }
     ensures { table.new ≡ handed_over p waiting.old.items table.old }
 {
-    while let Some(slot) = waiting.pop_front() {
-        if let Status::Collected(_) = table.status_of(slot) {
-            table.retire(p, slot);
-        }
-    }
+    while hand_first(table, p, waiting) {}
 }
 
 /// Whether this outermost closing of `local` scans, where `closings` counts it.

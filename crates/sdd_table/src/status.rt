@@ -3,7 +3,8 @@
 ghost use Rattle.std.specs.Prelude.{◌≡◌, ◌↔◌, IsTrue};
 ghost use Rattle.sdd_table.specs.State.{is_used};
 
-use crate::tag::Tag;
+pub use sdd_plain::local_state::LocalState;
+use sdd_plain::tag::Tag;
 
 /// The use of a place: an item slot or a job place.
 #[derive(Clone, Copy, PartialEq, Eq, Drop, Debug)]
@@ -16,8 +17,9 @@ pub enum Status {
     Shared(u32),
     /// An item out as a raw pointer.
     Raw,
-    /// An item that waits in a private bag since the count had this value.
-    Collected(u64),
+    /// An item that waits in a private bag since the count had this value, and the slot of what came into the bag behind it,
+    /// 0 while nothing has.
+    Collected(u64, u32),
     /// An item that waits in a bag of a participant.
     Retired,
     /// A job place without a job.
@@ -34,7 +36,7 @@ impl Status {
         match self {
             Status::Free | Status::Idle | Status::Deferred => false,
             Status::Owned | Status::Shared(_) | Status::Raw => true,
-            Status::Collected(_) | Status::Retired => true,
+            Status::Collected(_, _) | Status::Retired => true,
         }
     }
 }
@@ -57,21 +59,4 @@ pub enum Cell {
     OfShared(Option<usize>, Tag),
     /// Names an item without owning it.
     OfRaw(Option<usize>, Tag),
-}
-
-/// What a participant notes of itself.
-#[derive(Clone, Copy, Drop, Debug)]
-pub struct LocalState {
-    /// Guards that are open, one in the other.
-    pub nesting: u32,
-    /// The count that the outermost open guard published.
-    pub published: u64,
-    /// The count found at the last outermost opening, 0 at first.
-    pub previous: u64,
-    /// A guard of this nesting was accelerated.
-    pub accelerated: bool,
-    /// Something was retired, or the flag was set, since the bags were empty.
-    pub garbage: bool,
-    /// Outermost closings since the last scan, at most 64.
-    pub closings: u8,
 }

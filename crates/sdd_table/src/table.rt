@@ -14,9 +14,9 @@ ghost use Rattle.sdd_table.specs.Tokens.{kept_slot};
 use crate::bags::Participants;
 use crate::job::Deferred;
 use crate::owner::Kept;
-use crate::sizes::Sizes;
 use crate::status::{Cell, LocalState, Status};
 use crate::store::Store;
+use sdd_plain::sizes::Sizes;
 use std::alloc::{AllocError, Global};
 use std::marker::Model;
 use std::mem;
@@ -89,6 +89,15 @@ impl<T, J: Deferred> Table<T, J> {
         ensures free { IsFalse result → (c : ℕ) × IsFreeCell self.now c }
     {
         self.free_cells.is_empty()
+    }
+
+    /// The number of place `i`, as uses of items in private bags name it.
+    pub(crate) fn name_of(&self, i: usize) -> u32
+        requires { i < length self.now.states }
+        ensures { result ≡ i }
+    {
+        prove!(i < self.states.len());
+        i as u32
     }
 
     /// The use of place `i`.
@@ -393,7 +402,7 @@ impl<T, J: Deferred> Table<T, J> {
 
     /// Rooms for all that the sizes name.
     pub fn new(alloc: Global, sizes: &Sizes) -> Result<Table<T, J>, AllocError>
-        requires { sizes.now.slots + sizes.now.jobs < 2 ^ 64 }
+        requires { sizes.now.slots + sizes.now.jobs < 2 ^ 32 }
         ensures { IfOk result (λ w. w ≡ fresh sizes.now) }
     {
         let places = sizes.slots + sizes.jobs;

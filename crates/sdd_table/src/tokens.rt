@@ -1,6 +1,6 @@
 //! Owners and cells by their numbers: what a place makes of a number, reads and spends.
 //!
-//! Only a crate that keeps a place uses this, and `sdd_base` doesn't pass it on: nobody above makes an owner of a
+//! Only a crate that keeps a place uses this, and `sdd_world` doesn't pass it on: nobody above makes an owner of a
 //! number.
 
 ghost use Rattle.std.specs.Prelude.{◌≡◌};

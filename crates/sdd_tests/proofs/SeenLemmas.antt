@@ -1,10 +1,10 @@
 -- What a pointer to an entry shows.
 use Rattle.std.proofs.Common.{Option, Some, None, sym, subst, ℕ}
 use Rattle.std.specs.Option.{IfSome}
-use Rattle.sdd_base.specs.Place.{IsReadable}
-use Rattle.sdd_base.specs.State.{State}
-use Rattle.sdd.specs.Nodes.{NamesSomeEntry}
-use Rattle.sdd.proofs.ChainLemmas.{item_readable}
+use Rattle.sdd_world.specs.Place.{IsReadable}
+use Rattle.sdd_world.specs.State.{State}
+use Rattle.world_containers.specs.Nodes.{NamesSomeEntry}
+use Rattle.world_containers.proofs.ChainLemmas.{item_readable}
 
 -- it can be read where it names an entry, or nothing
 pub seen_readable : {L : Type 0} (link : L → Option ℕ) (w : State L) (o : Option ℕ) → IfSome o (λ i. NamesSomeEntry link w (Some i)) → IsReadable w o

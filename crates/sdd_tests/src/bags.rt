@@ -1,8 +1,8 @@
 //! Bags: calls as data, so that a test of many calls is a table, and bags beside the multisets that they are.
 
 ghost use Rattle.std.specs.Prelude.{◌<◌, length};
-ghost use Rattle.sdd_base.specs.Place.{IsOpen};
-ghost use Rattle.sdd.specs.Bags.{IsLength, IsSomeBag, bag_cells, into_cells};
+ghost use Rattle.sdd_world.specs.Place.{IsOpen};
+ghost use Rattle.world_containers.specs.Bags.{IsLength, IsSomeBag, bag_cells, into_cells};
 
 use crate::bags::Call::{IsEmpty, Len, Pop, Push, TryPush};
 use crate::filled::{bag_of, lacking, some_bag};
@@ -10,15 +10,15 @@ use crate::places::{end, give, new_bag, place_of};
 use crate::random_calls::next;
 use crate::replies::Reply::{Back, Count, Done, Is, Value};
 use crate::replies::{Reply, told};
-use sdd::bag::{Bag, IntoIter};
-use sdd::linked_entry::LinkedEntry;
-use sdd::refusal::NotMade;
-use sdd::world;
-use sdd_base::owner::Shared;
-use sdd_base::world as place;
-use sdd_base::world::World;
+use sdd_world::owner::Shared;
+use sdd_world::world as place;
+use sdd_world::world::World;
 use std::alloc::Global;
 use std::process::Abort;
+use world_containers::bag::{Bag, IntoIter};
+use world_containers::linked_entry::LinkedEntry;
+use world_containers::refusal::NotMade;
+use world_containers::world;
 
 /// The value of the entry that a pop gives, which is given back.
 pub(crate) fn pop<const N: usize>(w: &mut World<LinkedEntry<u64>>, bag: &Bag<u64, N>) -> Option<u64>

@@ -1,24 +1,24 @@
 //! Entries in hand: written, cloned, and owners of entries that are given back at once.
 
 ghost use Rattle.std.specs.Prelude.{◌≡◌, ◌<◌, ◌≤◌, [], length};
-ghost use Rattle.sdd_base.specs.Place.{IsOpen};
-ghost use Rattle.sdd.specs.Entries.{entry_value, entry_link};
-ghost use Rattle.sdd_base.specs.Tokens.{shared_slot};
-ghost use Rattle.sdd.specs.Chain.{Leaves, Stays};
-ghost use Rattle.sdd.specs.Stacks.{IsMade};
+ghost use Rattle.sdd_world.specs.Place.{IsOpen};
+ghost use Rattle.world_containers.specs.Entries.{entry_value, entry_link};
+ghost use Rattle.sdd_world.specs.Tokens.{shared_slot};
+ghost use Rattle.world_containers.specs.Chain.{Leaves, Stays};
+ghost use Rattle.world_containers.specs.Stacks.{IsMade};
 
 use crate::places::{close, end, give, guarded, place_of};
-use sdd::linked_entry::LinkedEntry;
-use sdd::queue::Queue;
-use sdd::refusal::NotMade;
-use sdd::stack::Stack;
-use sdd::world;
-use sdd_base::guard::WorldGuard;
-use sdd_base::owner::Shared;
-use sdd_base::tag::Tag;
-use sdd_base::world as place;
-use sdd_base::world::World;
+use sdd_world::guard::WorldGuard;
+use sdd_world::owner::Shared;
+use sdd_world::tag::Tag;
+use sdd_world::world as place;
+use sdd_world::world::World;
 use std::process::Abort;
+use world_containers::linked_entry::LinkedEntry;
+use world_containers::queue::Queue;
+use world_containers::refusal::NotMade;
+use world_containers::stack::Stack;
+use world_containers::world;
 
 /// Writes the value of an entry, and nothing else of it.
 fn write(entry: &mut LinkedEntry<u64>, value: u64)

@@ -1,21 +1,21 @@
 //! Containers of the numbers of a range. Each call that makes some stands here once, for it costs wherever it stands.
 
 ghost use Rattle.std.specs.Prelude.{◌<◌, length, IfSome};
-ghost use Rattle.sdd.specs.Bags.{IsLength, IsSomeBag, bag_cells};
-ghost use Rattle.sdd.specs.Entries.{entry_link};
-ghost use Rattle.sdd.specs.Queues.{IsSomeQueue, oldest_cell, newest_cell};
-ghost use Rattle.sdd.specs.Stacks.{IsSomeStack, stack_cell};
+ghost use Rattle.world_containers.specs.Bags.{IsLength, IsSomeBag, bag_cells};
+ghost use Rattle.world_containers.specs.Entries.{entry_link};
+ghost use Rattle.world_containers.specs.Queues.{IsSomeQueue, oldest_cell, newest_cell};
+ghost use Rattle.world_containers.specs.Stacks.{IsSomeStack, stack_cell};
 
-use sdd::bag::Bag;
-use sdd::linked_entry::LinkedEntry;
-use sdd::queue::Queue;
-use sdd::refusal::{FromIterRefused, NotMade};
-use sdd::stack::Stack;
-use sdd::world;
-use sdd_base::world::World;
+use sdd_world::world::World;
 use std::alloc::Global;
 use std::ops::Range;
 use std::process::Abort;
+use world_containers::bag::Bag;
+use world_containers::linked_entry::LinkedEntry;
+use world_containers::queue::Queue;
+use world_containers::refusal::{FromIterRefused, NotMade};
+use world_containers::stack::Stack;
+use world_containers::world;
 
 /// Why a container hasn't all numbers of a range.
 #[derive(Clone, Copy)]

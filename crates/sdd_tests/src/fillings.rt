@@ -1,11 +1,11 @@
 //! Containers of the values of an iterator, and clones of containers.
 
 ghost use Rattle.std.specs.Prelude.{◌≡◌, ◌<◌, length, IfSome};
-ghost use Rattle.sdd_base.specs.Place.{IsOpen};
-ghost use Rattle.sdd.specs.Copies.{ClonesAreSame};
-ghost use Rattle.sdd.specs.Entries.{entry_link};
-ghost use Rattle.sdd.specs.Stacks.{IsSomeStack, stack_cell};
-ghost use Rattle.sdd.specs.Queues.{IsSomeQueue, oldest_cell, newest_cell};
+ghost use Rattle.sdd_world.specs.Place.{IsOpen};
+ghost use Rattle.world_containers.specs.Copies.{ClonesAreSame};
+ghost use Rattle.world_containers.specs.Entries.{entry_link};
+ghost use Rattle.world_containers.specs.Stacks.{IsSomeStack, stack_cell};
+ghost use Rattle.world_containers.specs.Queues.{IsSomeQueue, oldest_cell, newest_cell};
 
 use crate::filled::{Lack, lacking, queue_of, some_bag, some_queue, some_stack, stack_of};
 use crate::places::{close, end, guarded, place_of, sizes};
@@ -13,14 +13,14 @@ use crate::queues::{append, take};
 use crate::stacks::Change::Delete;
 use crate::stacks::{change_first, pop, push};
 use crate::walks::{three_of_queue, three_of_stack};
-use sdd::linked_entry::LinkedEntry;
-use sdd::queue::Queue;
-use sdd::refusal::{CloneRefused, NotMade};
-use sdd::stack::Stack;
-use sdd::world;
-use sdd_base::world::World;
+use sdd_world::world::World;
 use std::alloc::{AllocError, Global};
 use std::process::Abort;
+use world_containers::linked_entry::LinkedEntry;
+use world_containers::queue::Queue;
+use world_containers::refusal::{CloneRefused, NotMade};
+use world_containers::stack::Stack;
+use world_containers::world;
 
 /// A number that can't be cloned where it is 3.
 #[derive(Drop)]

@@ -4,11 +4,11 @@ ghost use Rattle.std.specs.Prelude.{◌≤◌, ◌<◌, length};
 
 use crate::filled::{bag_of, lacking, queue_of, some_stack, stack_of};
 use crate::places::{end, sizes};
-use sdd::linked_entry::LinkedEntry;
-use sdd::world;
-use sdd_base::world::World;
+use sdd_world::world::World;
 use std::alloc::Global;
 use std::process::Abort;
+use world_containers::linked_entry::LinkedEntry;
+use world_containers::world;
 
 const MANY: u64 = 100_000;
 

@@ -1,4 +1,4 @@
-//! Tests of `sdd`, apart from it so that its proofs aren't made twice.
+//! Tests of `world_containers`, apart from it so that its proofs aren't made twice.
 #![tactic(auto)]
 
 #[cfg(test)]

@@ -4,9 +4,9 @@ use crate::places::{close, end, guarded, new_queue, new_stack, place_of};
 use crate::queues::append;
 use crate::stacks::Change::Delete;
 use crate::stacks::{change_first, push};
-use sdd::linked_entry::LinkedEntry;
-use sdd::world;
-use sdd_base::tag::Tag;
+use sdd_world::tag::Tag;
+use world_containers::linked_entry::LinkedEntry;
+use world_containers::world;
 
 #[test]
 fn a_function_is_called_once_at_the_first_undeleted_entry(rt: HostRuntime) {

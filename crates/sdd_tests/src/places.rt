@@ -1,24 +1,24 @@
 //! Places of numbers in lists, and new containers in them, of which a test knows only that they are there.
 
 ghost use Rattle.std.specs.Prelude.{◌≡◌, ◌<◌, length};
-ghost use Rattle.sdd_base.specs.Place.{IsOpen};
-ghost use Rattle.sdd.specs.Bags.{IsLength, IsSomeBag, bag_cells};
-ghost use Rattle.sdd.specs.Entries.{entry_link};
-ghost use Rattle.sdd.specs.Queues.{IsSomeQueue, oldest_cell, newest_cell};
-ghost use Rattle.sdd.specs.Stacks.{IsSomeStack, stack_cell};
+ghost use Rattle.sdd_world.specs.Place.{IsOpen};
+ghost use Rattle.world_containers.specs.Bags.{IsLength, IsSomeBag, bag_cells};
+ghost use Rattle.world_containers.specs.Entries.{entry_link};
+ghost use Rattle.world_containers.specs.Queues.{IsSomeQueue, oldest_cell, newest_cell};
+ghost use Rattle.world_containers.specs.Stacks.{IsSomeStack, stack_cell};
 
-use sdd::bag::Bag;
-use sdd::linked_entry::LinkedEntry;
-use sdd::queue::Queue;
-use sdd::stack::Stack;
-use sdd::world;
-use sdd_base::guard::WorldGuard;
-use sdd_base::owner::Shared;
-use sdd_base::sizes::Sizes;
-use sdd_base::world as place;
-use sdd_base::world::World;
+use sdd_world::guard::WorldGuard;
+use sdd_world::owner::Shared;
+use sdd_world::sizes::Sizes;
+use sdd_world::world as place;
+use sdd_world::world::World;
 use std::alloc::Global;
 use std::process::Abort;
+use world_containers::bag::Bag;
+use world_containers::linked_entry::LinkedEntry;
+use world_containers::queue::Queue;
+use world_containers::stack::Stack;
+use world_containers::world;
 
 /// A place with one participant, and with at most ten thousand slots and cells.
 pub(crate) fn place_of<R: Abort>(

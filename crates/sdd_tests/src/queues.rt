@@ -1,9 +1,9 @@
 //! Queues: calls as data, so that a test of many calls is a table.
 
 ghost use Rattle.std.specs.Prelude.{◌<◌, length};
-ghost use Rattle.sdd_base.specs.Place.{IsOpen};
-ghost use Rattle.sdd.specs.Entries.{entry_link};
-ghost use Rattle.sdd.specs.Queues.{IsSomeQueue, oldest_cell, newest_cell};
+ghost use Rattle.sdd_world.specs.Place.{IsOpen};
+ghost use Rattle.world_containers.specs.Entries.{entry_link};
+ghost use Rattle.world_containers.specs.Queues.{IsSomeQueue, oldest_cell, newest_cell};
 
 use crate::places::{close, end, guarded, new_queue, new_stack, place_of};
 use crate::queues::Call::{
@@ -13,14 +13,14 @@ use crate::replies::Reply::{Back, Count, Done, Is, Listed, Value};
 use crate::replies::{Reply, told, value_of};
 use crate::stacks::push;
 use crate::walks::three_of_queue;
-use sdd::linked_entry::LinkedEntry;
-use sdd::queue::Queue;
-use sdd::world;
-use sdd_base::guard::WorldGuard;
-use sdd_base::world as place;
-use sdd_base::world::World;
+use sdd_world::guard::WorldGuard;
+use sdd_world::world as place;
+use sdd_world::world::World;
 use std::alloc::Global;
 use std::process::Abort;
+use world_containers::linked_entry::LinkedEntry;
+use world_containers::queue::Queue;
+use world_containers::world;
 
 /// A call of a queue.
 #[derive(Clone, Copy)]

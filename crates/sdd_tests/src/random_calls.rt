@@ -1,22 +1,22 @@
 //! Random lists of calls beside plain lists.
 
 ghost use Rattle.std.specs.Prelude.{◌<◌, length};
-ghost use Rattle.sdd.specs.Entries.{entry_link};
-ghost use Rattle.sdd.specs.Stacks.{IsSomeStack, stack_cell};
-ghost use Rattle.sdd.specs.Queues.{IsSomeQueue, oldest_cell, newest_cell};
+ghost use Rattle.world_containers.specs.Entries.{entry_link};
+ghost use Rattle.world_containers.specs.Stacks.{IsSomeStack, stack_cell};
+ghost use Rattle.world_containers.specs.Queues.{IsSomeQueue, oldest_cell, newest_cell};
 
 use crate::filled::{queue_of, stack_of};
 use crate::fillings::{copied_queue, copied_stack};
 use crate::places::{end, new_queue, new_stack, place_of};
 use crate::queues::{append, take};
 use crate::stacks::{pop, push};
-use sdd::linked_entry::LinkedEntry;
-use sdd::queue::Queue;
-use sdd::stack::Stack;
-use sdd::world;
-use sdd_base::world::World;
+use sdd_world::world::World;
 use std::alloc::Global;
 use std::process::Abort;
+use world_containers::linked_entry::LinkedEntry;
+use world_containers::queue::Queue;
+use world_containers::stack::Stack;
+use world_containers::world;
 
 /// The next of a run of numbers, each far from the one before.
 pub(crate) fn next(seed: u64) -> u64 {

@@ -1,7 +1,7 @@
 //! What calls of containers return, as data.
 
 use crate::replies::Reply::{Back, Done};
-use sdd::linked_entry::LinkedEntry;
+use world_containers::linked_entry::LinkedEntry;
 
 /// What a call of a stack, a queue or a bag returns.
 #[derive(Clone, Copy, PartialEq, Eq)]

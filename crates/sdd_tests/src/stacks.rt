@@ -1,8 +1,8 @@
 //! Stacks: calls as data, so that a test of many calls is a table.
 
 ghost use Rattle.std.specs.Prelude.{◌<◌, length, IfOk};
-ghost use Rattle.sdd_base.specs.Place.{IsOpen};
-ghost use Rattle.sdd.specs.Stacks.{IsSomeStack, stack_cell};
+ghost use Rattle.sdd_world.specs.Place.{IsOpen};
+ghost use Rattle.world_containers.specs.Stacks.{IsSomeStack, stack_cell};
 
 use crate::places::{close, end, give, guarded, new_stack, place_of};
 use crate::replies::Reply::{Back, Count, Done, Is, Listed, Value};
@@ -13,14 +13,14 @@ use crate::stacks::Call::{
 };
 use crate::stacks::Change::{Delete, Mark, Unmark};
 use crate::walks::three_of_stack;
-use sdd::linked_entry::LinkedEntry;
-use sdd::stack::Stack;
-use sdd::world;
-use sdd_base::guard::WorldGuard;
-use sdd_base::world as place;
-use sdd_base::world::World;
+use sdd_world::guard::WorldGuard;
+use sdd_world::world as place;
+use sdd_world::world::World;
 use std::alloc::Global;
 use std::process::Abort;
+use world_containers::linked_entry::LinkedEntry;
+use world_containers::stack::Stack;
+use world_containers::world;
 
 /// A call of a stack.
 #[derive(Clone, Copy)]

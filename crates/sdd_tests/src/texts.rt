@@ -1,7 +1,7 @@
 //! Texts of refusals.
 
-use sdd::{NotMade, PushRefused};
 use std::test::Fail;
+use world_containers::{NotMade, PushRefused};
 
 #[test]
 fn refusals_are_written_with_what_they_hand_back(rt: HostRuntime) -> Result<(), Fail> {

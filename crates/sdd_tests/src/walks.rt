@@ -1,24 +1,24 @@
 //! Walks along containers, and entries beside each other.
 
 ghost use Rattle.std.specs.Prelude.{◌<◌, length};
-ghost use Rattle.sdd_base.specs.Place.{IsOpen};
-ghost use Rattle.sdd.specs.Entries.{entry_link};
-ghost use Rattle.sdd.specs.Stacks.{IsSomeStack, stack_cell};
-ghost use Rattle.sdd.specs.Queues.{IsSomeQueue, oldest_cell, newest_cell};
+ghost use Rattle.sdd_world.specs.Place.{IsOpen};
+ghost use Rattle.world_containers.specs.Entries.{entry_link};
+ghost use Rattle.world_containers.specs.Stacks.{IsSomeStack, stack_cell};
+ghost use Rattle.world_containers.specs.Queues.{IsSomeQueue, oldest_cell, newest_cell};
 
 use crate::entries::retire;
 use crate::places::{close, end, give, guarded, new_queue, new_stack, place_of};
 use crate::queues::append;
 use crate::stacks::push;
-use sdd::linked_entry::LinkedEntry;
-use sdd::queue::Queue;
-use sdd::stack::Stack;
-use sdd::world;
-use sdd_base::guard::WorldGuard;
-use sdd_base::owner::Shared;
-use sdd_base::world::World;
+use sdd_world::guard::WorldGuard;
+use sdd_world::owner::Shared;
+use sdd_world::world::World;
 use std::alloc::Global;
 use std::process::Abort;
+use world_containers::linked_entry::LinkedEntry;
+use world_containers::queue::Queue;
+use world_containers::stack::Stack;
+use world_containers::world;
 
 /// The first three values that a walk along a stack gives.
 pub(crate) fn three_of_stack(

@@ -2,20 +2,20 @@
 
 ghost use Rattle.std.specs.Prelude.{◌≤◌, ◌<◌, length};
 
-use sdd::{LinkedEntry, NoJob, Sizes, World, sdd_base, world};
-use sdd_base::owner::Shared;
+use sdd_world::owner::Shared;
 use std::alloc::Global;
 use std::process::Abort;
+use world_containers::{LinkedEntry, NoJob, Sizes, World, sdd_world, world};
 
 /// A place of numbers in lists, without jobs.
 type Place = World<LinkedEntry<u64>, NoJob>;
 
 /// Gives an owner back.
 fn give<R: Abort>(rt: &R, w: &mut Place, owner: Shared<LinkedEntry<u64>>) {
-    if !sdd_base::world::shared::is_here(w, &owner) || w.participants() == 0 {
+    if !sdd_world::world::shared::is_here(w, &owner) || w.participants() == 0 {
         panic!(rt; "its entry is there");
     }
-    sdd_base::world::shared::release(w, owner, 0);
+    sdd_world::world::shared::release(w, owner, 0);
 }
 
 /// Ends a place in which nothing is left.
@@ -60,7 +60,7 @@ fn a_place_without_jobs_has_a_queue(rt: HostRuntime) {
         Some(popped) => popped,
         None => panic!(rt; "it has two values"),
     };
-    let value = *sdd_base::world::shared::as_ref(&w, &popped).as_ref();
+    let value = *sdd_world::world::shared::as_ref(&w, &popped).as_ref();
     world::queue::retire(&mut w, queue, 0);
     give(&rt, &mut w, first);
     give(&rt, &mut w, second);

@@ -1,21 +1,21 @@
 //! Values of bags that are written where they are.
 
 ghost use Rattle.std.specs.Prelude.{◌<◌, length};
-ghost use Rattle.sdd_base.specs.Place.{IsOpen};
-ghost use Rattle.sdd.specs.Bags.{IsSomeBag, bag_cells};
+ghost use Rattle.sdd_world.specs.Place.{IsOpen};
+ghost use Rattle.world_containers.specs.Bags.{IsSomeBag, bag_cells};
 
 use crate::bags::Call::{self, Push, TryPush};
 use crate::bags::{play, pop, six_pops};
 use crate::filled::bag_of;
 use crate::places::{close, end, guarded, new_bag, place_of};
 use crate::replies::Reply::{self, Done};
-use sdd::bag::Bag;
-use sdd::linked_entry::LinkedEntry;
-use sdd::world;
-use sdd::world::iter_mut::BagPlace;
-use sdd_base::refusal::GuardsOpen;
-use sdd_base::world::World;
+use sdd_world::refusal::GuardsOpen;
+use sdd_world::world::World;
 use std::process::Abort;
+use world_containers::bag::Bag;
+use world_containers::linked_entry::LinkedEntry;
+use world_containers::world;
+use world_containers::world::iter_mut::BagPlace;
 
 /// Adds to each value of a bag, up to a hundred, keeps those that were there, and answers how many there were.
 fn raise<R: Abort, const N: usize>(

@@ -4,3 +4,4 @@ pub mod RemainingPairsLemmas
 pub mod NearbyLemmas
 pub mod ReplayLemmas
 pub mod StepLemmas
+pub mod BaseLemmas

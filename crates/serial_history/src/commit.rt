@@ -51,3 +51,28 @@ impl<K, V> Refused<K, V> {
         writes
     }
 }
+
+/// Why a list doesn't become the base. The index is as it was before. The causes are decided in this order.
+#[derive(Clone, Copy, Debug, PartialEq, Eq, Error)]
+pub enum CheckpointRefused {
+    /// The number is below that of the base, which this is.
+    #[error("the history begins at number {0}")]
+    Behind(u64),
+    /// The number is above the present one, which this is.
+    #[error("the present number is {0}")]
+    Ahead(u64),
+    /// A growth or a clone was refused.
+    #[error("memory was refused")]
+    Memory,
+}
+
+/// Why a history doesn't tell the transactions behind a number.
+#[derive(Clone, Copy, Debug, PartialEq, Eq, Error)]
+pub enum SinceRefused {
+    /// The number is below that of the base, which this is: some of them are gone.
+    #[error("the history begins at number {0}")]
+    TooOld(u64),
+    /// The number is above the present one, which this is.
+    #[error("the present number is {0}")]
+    Ahead(u64),
+}

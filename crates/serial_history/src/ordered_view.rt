@@ -48,7 +48,7 @@ pub trait OrderedView<K: Clone + Ord, V: Clone + Eq> {
         ensures { behind result ≡ near K.cmp key.now (pairs self.now) };
 }
 
-/// The answer of a list to a query. Refused where memory is.
+/// The answer of a list to a query. Fails only if an allocation fails.
 pub fn answer<K: Clone + Ord, V: Clone + Eq, L: OrderedView<K, V>>(
     alloc: Global,
     list: &L,

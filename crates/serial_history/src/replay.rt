@@ -1,14 +1,15 @@
 //! The list that transactions leave.
 
 ghost use Rattle.std.specs.Prelude.{◌≡◌, ◌≤◌, [], List, IfOk, IfSome, IsTrue, OnOk, drop, length};
-ghost use Rattle.std.specs.Option.{unwrap_or};
 ghost use Rattle.std.specs.declared.ops.Bound.TheVariants.{Unbounded};
+ghost use Rattle.leaf_array.specs.Pairs.{IsAscending};
 ghost use Rattle.leaf_array.specs.Values.{ClonesAreSame};
 ghost use Rattle.version_views.specs.Cuts.{pairs_in};
 ghost use Rattle.version_views.specs.Writes.{after_write, after_writes};
 ghost use Rattle.serial_history.specs.Serial.{after_all};
 ghost use Rattle.serial_history.specs.RemainingPairs.{IsStart};
 
+use crate::base::Base;
 use crate::ordered_view::{OrderedView, around};
 use crate::query::Near;
 use crate::scan::{Steps, collect, copied_pair, matches, next};
@@ -19,19 +20,57 @@ use std::ops::Bound;
 use tree_index::{InsertRefused, Proximity, TreeIndex};
 use version_views::{Trees, VersionView, Write};
 
-/// The list that transactions leave of a version's, or of the empty one where none is given: from the last of them on that
-/// removes all pairs, if there is one. Refused where memory is.
-pub fn replay<'w, K: Clone + Ord, V: Clone, W: Trees<K, V>>(
+/// A list that a replay can start from: a version's, or a base's.
+pub trait Start<K: Ord, V> {
+    ghost pairs: { Self → List (K × V) };
+
+    /// A copy of the list, as a tree. Fails only if an allocation fails.
+    fn tree(&self, alloc: Global) -> Result<TreeIndex<K, V>, AllocError>
+    where
+        K: Clone,
+        V: Clone,
+        requires keys { ClonesAreSame K.is_clone }
+        requires values { ClonesAreSame V.is_clone }
+        ensures { IfOk result (λ tree. tree.pairs ≡ pairs self.now) };
+}
+
+impl<'w, K: Ord, V, W: Trees<K, V>> Start<K, V> for VersionView<'w, K, V, W> {
+    ghost pairs = { λ v. pairs_in v };
+
+    fn tree(&self, alloc: Global) -> Result<TreeIndex<K, V>, AllocError>
+    where
+        K: Clone,
+        V: Clone,
+    {
+        gathered(alloc, walk_all(self))
+    }
+}
+
+impl<K: Ord, V> Start<K, V> for Base<K, V> {
+    ghost pairs = { λ b. b.pairs };
+
+    fn tree(&self, alloc: Global) -> Result<TreeIndex<K, V>, AllocError>
+    where
+        K: Clone,
+        V: Clone,
+    {
+        tree_of_pairs(alloc, self.pairs())
+    }
+}
+
+/// The list that transactions leave, one after the other, of the one that `start` is. The work begins at the last of them that
+/// removes all pairs, if there is one. Fails only if an allocation fails.
+pub fn replay<K: Clone + Ord, V: Clone, L: Start<K, V>>(
     alloc: Global,
-    base: Option<VersionView<'w, K, V, W>>,
-    history: &'w [Transaction<K, V>],
+    start: &L,
+    history: &[Transaction<K, V>],
 ) -> Result<TreeIndex<K, V>, AllocError>
     requires keys { ClonesAreSame K.is_clone }
     requires values { ClonesAreSame V.is_clone }
-    ensures { IfOk result (λ list. list.pairs ≡ after_all K.cmp history.now (pairs_in (unwrap_or base.entry []))) }
+    ensures { IfOk result (λ list. list.pairs ≡ after_all K.cmp history.now (L.pairs start.now)) }
 {
     let Some(at) = last_clearing(history) else {
-        let mut list = base_list(alloc, base)?;
+        let mut list = start.tree(alloc)?;
         apply_history(&mut list, history)?;
         return Ok(list);
     };
@@ -67,19 +106,24 @@ fn clears<K: Ord, V>(writes: &[Write<K, V>]) -> bool
     false
 }
 
-/// A copy of a version's list, or the empty list.
-fn base_list<K: Clone + Ord, V: Clone, W: Trees<K, V>>(
+/// A tree of copies of these pairs, whose keys rise.
+fn tree_of_pairs<K: Clone + Ord, V: Clone>(
     alloc: Global,
-    base: Option<VersionView<'_, K, V, W>>,
+    pairs: &[(K, V)],
 ) -> Result<TreeIndex<K, V>, AllocError>
     requires keys { ClonesAreSame K.is_clone }
     requires values { ClonesAreSame V.is_clone }
-    ensures { IfOk result (λ list. list.pairs ≡ pairs_in (unwrap_or base.entry [])) }
+    requires rising { IsAscending K.cmp pairs.now }
+    ensures { IfOk result (λ tree. tree.pairs ≡ pairs.now) }
 {
-    match base {
-        Some(version) => gathered(alloc, walk_all(&version)),
-        None => Ok(TreeIndex::new(alloc)),
+    let mut tree = TreeIndex::with_capacity(alloc, pairs.len())?;
+    for pair in pairs {
+        let (key, value) = copied_pair(&pair.0, &pair.1)?;
+        let Ok(()) = tree.push_last(key, value) else {
+            return Err(AllocError);
+        };
     }
+    Ok(tree)
 }
 
 /// Copies of the pairs of a cursor without bounds.

@@ -37,7 +37,7 @@ impl<K, V> Receipt<K, V> {
 }
 
 impl<K: Clone + Drop, V: Clone + Drop> Receipt<K, V> {
-    /// Puts a read at its end, with a copy of the answer. Refused where memory is; then it stays as it was.
+    /// Puts a read at its end, with a copy of the answer. Fails only if an allocation fails; then it stays as it was.
     pub fn note(&mut self, query: Query<K>, told: &Answer<K, V>) -> Result<(), AllocError>
         requires keys { ClonesAreSame K.is_clone }
         requires values { ClonesAreSame V.is_clone }
@@ -48,7 +48,7 @@ impl<K: Clone + Drop, V: Clone + Drop> Receipt<K, V> {
     }
 }
 
-/// Puts a read at the end of recorded ones, with a copy of the answer. Refused where memory is; then they stay as they were.
+/// Puts a read at the end of recorded ones, with a copy of the answer. Fails only if an allocation fails; then they stay as they were.
 pub fn note<K: Clone + Drop, V: Clone + Drop>(
     reads: &mut Seq<Recorded<K, V>>,
     query: Query<K>,
@@ -75,6 +75,8 @@ pub enum Audit {
     No(usize),
     /// No list has that number yet.
     Unknown,
+    /// The receipt's number is below that of the base, which this is: its list is gone.
+    TooOld(u64),
 }
 
 /// What an accepted commit read, wrote and was told: an entry of the history.
@@ -97,7 +99,7 @@ pub struct Prepared<K, V> {
     pub replies: Vec<Reply>,
 }
 
-/// Copies of a commit's reads, and room for what so many writes are told. Refused where memory is.
+/// Copies of a commit's reads, and room for what so many writes are told. Fails only if an allocation fails.
 pub fn prepare<K: Clone, V: Clone>(
     alloc: Global,
     reads: &[Recorded<K, V>],

@@ -2,7 +2,7 @@
 
 ghost use Rattle.std.specs.Prelude.{◌≡◌, ◌<◌, ◌≤◌};
 ghost use Rattle.sdd_domain.specs.Tokens.{place_of, cell_count};
-ghost use Rattle.shared_index.specs.Invariant.{IsUnengaged};
+ghost use Rattle.shared_index.specs.SharedInvariant.{IsUnengaged};
 ghost use Rattle.shared_sessions.specs.Openings.{root_number};
 
 use crate::place::{leave, registered};

@@ -21,8 +21,8 @@ mod writer;
 
 use bench::Found;
 use place::registered;
-use sdd_base::sizes::Sizes;
 use sdd_domain::domain::Domain;
+use sdd_plain::sizes::Sizes;
 use std::marker::Brand;
 use std::sync::Wait;
 use std::sync::ledger::Blank;

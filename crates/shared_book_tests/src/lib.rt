@@ -6,6 +6,8 @@ mod audits;
 #[cfg(test)]
 mod causes;
 #[cfg(test)]
+mod checkpoints;
+#[cfg(test)]
 mod commits;
 #[cfg(test)]
 mod refusals;

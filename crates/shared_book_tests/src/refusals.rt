@@ -3,14 +3,16 @@
 
 ghost use Rattle.std.specs.Prelude.{◌≡◌};
 ghost use Rattle.sdd_domain.specs.Tokens.{place_of};
-ghost use Rattle.shared_index.specs.Invariant.{IsUnengaged};
+ghost use Rattle.shared_index.specs.SharedInvariant.{IsUnengaged};
 ghost use Rattle.shared_book_tests.specs.Scenes.{CanBegin};
 
 use crate::scene::{Item, Scene, closed, in_use, member, place, registered};
 use sdd_domain::domain::Domain;
 use sdd_domain::local::Local;
 use sdd_domain::refusal::RegisterRefused;
-use serial_history::{Accepted, Answer, Audit, Cause, Query, Receipt, Refused, Reply};
+use serial_history::{
+    Accepted, Answer, Audit, Cause, CheckpointRefused, Query, Receipt, Refused, Reply,
+};
 use shared_index::{Naming, NewRefused};
 use std::alloc::{AllocError, Global};
 use std::marker::Brand;
@@ -134,11 +136,27 @@ fn audit<L: Naming, R: Abort>(
     }
 }
 
-/// What is found of a book: what two commits tell, what an audit says, and the number, how many pairs there are and the count
-/// of the share.
-type Found = (Accepted, Accepted, Audit, (u64, usize, u64));
+/// Makes the first list the base, again where memory was refused; then the base and the book were as before.
+fn checkpoint<L: Naming, R: Abort>(rt: &R, scene: &mut Scene<'_, L, 2>, met: &mut bool) {
+    let before = state(scene);
+    match scene.checkpoint(1) {
+        Ok(()) => {}
+        Err(why) => {
+            *met = true;
+            assert!(rt; why == CheckpointRefused::Memory);
+            assert!(rt; scene.base() == (0, &[][..]));
+            scene.checkpoint(1).expect(rt, TWICE);
+        }
+    }
+    assert!(rt; scene.base() == (1, &[(1, 11)][..]));
+    assert!(rt; state(scene) == before);
+}
 
-/// A book that is made, written twice and asked about its first list.
+/// What is found of a book: what two commits tell, what an audit of the first list says before that is the base and
+/// afterwards, and the number, how many pairs there are and the count of the share.
+type Found = (Accepted, Accepted, [Audit; 2], (u64, usize, u64));
+
+/// A book that is made, written twice, asked about its first list, and based on it.
 fn writes_and_audits<L: Naming, R: Abort>(
     rt: &R,
     alloc: Global,
@@ -155,10 +173,12 @@ fn writes_and_audits<L: Naming, R: Abort>(
     let first = commit(rt, alloc, &mut scene, &none, met);
     let read = receipt(rt, alloc, met);
     let second = commit(rt, alloc, &mut scene, &read, met);
-    let audit = audit(rt, &scene, &read, met);
+    let replayed = audit(rt, &scene, &read, met);
+    checkpoint(rt, &mut scene, met);
+    let based = audit(rt, &scene, &read, met);
     let counts = scene.counts();
     scene.end();
-    (first, second, audit, counts)
+    (first, second, [replayed, based], counts)
 }
 
 /// Whether a commit tells this.
@@ -168,10 +188,10 @@ fn is_told(accepted: &Accepted, number: u64, replies: [Reply; 2]) -> bool {
 
 /// Whether all was found as it is to be, whatever was refused.
 fn is_right(found: &Found) -> bool {
-    let (first, second, audit, counts) = found;
+    let (first, second, audits, counts) = found;
     is_told(first, 1, [Reply::Inserted, Reply::Upserted])
         && is_told(second, 2, [Reply::Duplicate, Reply::Upserted])
-        && *audit == Audit::Yes
+        && *audits == [Audit::Yes, Audit::Yes]
         && *counts == (2, 1, 2)
 }
 

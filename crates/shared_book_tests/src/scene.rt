@@ -3,15 +3,15 @@
 ghost use Rattle.std.specs.Prelude.{◌≡◌, ◌≤◌, ◌<◌, IfErr, IfOk, length};
 ghost use Rattle.sdd_domain.specs.Cells.{cell_number};
 ghost use Rattle.sdd_domain.specs.Tokens.{place_of, cell_count};
-ghost use Rattle.shared_index.specs.Invariant.{IsUnengaged};
+ghost use Rattle.shared_index.specs.SharedInvariant.{IsUnengaged};
 ghost use Rattle.shared_book_tests.specs.Scenes.{CanBegin};
 
-use sdd_base::sizes::Sizes;
 use sdd_domain::atomic_shared::AtomicShared;
 use sdd_domain::domain::Domain;
 use sdd_domain::local::Local;
 use sdd_domain::refusal::RegisterRefused;
-use serial_history::{Accepted, Audit, Receipt, Refused};
+use sdd_plain::sizes::Sizes;
+use serial_history::{Accepted, Audit, CheckpointRefused, Receipt, Refused};
 use shared_index::{Book, Naming, NewRefused, Share};
 use shared_versions::Node;
 use std::alloc::{AllocError, Global};
@@ -147,6 +147,16 @@ impl<'d, L: Naming, const S: usize> Scene<'d, L, S> {
     /// Audits a receipt.
     pub(crate) fn audit(&self, receipt: &Receipt<u64, u64>) -> Result<Audit, AllocError> {
         self.book.audit(receipt)
+    }
+
+    /// Makes the list of a number the base.
+    pub(crate) fn checkpoint(&mut self, upto: u64) -> Result<(), CheckpointRefused> {
+        self.book.checkpoint(upto)
+    }
+
+    /// The base's number, and its pairs.
+    pub(crate) fn base(&self) -> (u64, &[(u64, u64)]) {
+        self.book.base()
     }
 
     /// The number, how many pairs there are, and the count of the share.

@@ -7,7 +7,8 @@ use crate::scene::{Item, ROOM, Scene, end, member, place};
 use sdd_domain::domain::Domain;
 use sdd_domain::local::Local;
 use serial_history::{
-    Accepted, Answer, Audit, Cause, Near, Query, Receipt, Recorded, Refused, Reply, Seq,
+    Accepted, Answer, Audit, Cause, CheckpointRefused, Near, Query, Receipt, Recorded, Refused,
+    Reply, Seq,
 };
 use shared_index::Naming;
 use std::alloc::{AllocError, Global};
@@ -39,6 +40,8 @@ pub(crate) enum Claim {
 pub(crate) enum Call {
     Commit(u64, &'static [Claim], &'static [Write<u64, u64>]),
     Audit(u64, &'static [Claim]),
+    Checkpoint(u64),
+    Base,
     Counts,
     Reclaim,
 }
@@ -50,6 +53,10 @@ pub(crate) enum Told {
     /// The writes come back.
     Refused(Cause),
     Audited(Audit),
+    /// The base stays as it is.
+    Kept(CheckpointRefused),
+    /// The base's number, and its pairs.
+    Based(u64, &'static [(u64, u64)]),
     /// The number, how many pairs there are, and the count of the share.
     Counted(u64, usize, u64),
     Done,
@@ -123,6 +130,9 @@ fn answers<L: Naming, R: Abort, const S: usize>(
             let receipt = receipt(alloc, number, claims).expect(rt, ROOM);
             scene.audit(&receipt) == Ok(audit)
         }
+        (Call::Checkpoint(upto), Told::Kept(why)) => scene.checkpoint(upto) == Err(why),
+        (Call::Checkpoint(upto), Told::Done) => scene.checkpoint(upto) == Ok(()),
+        (Call::Base, Told::Based(number, pairs)) => scene.base() == (number, pairs),
         (Call::Counts, Told::Counted(number, pairs, count)) => {
             scene.counts() == (number, pairs, count)
         }

@@ -6,8 +6,7 @@
 mod service;
 
 use crate::service::{Item, Report};
-use sdd_base::sizes::Sizes;
-use sdd_domain::domain::Domain;
+use ordered_index::{Domain, Sizes};
 use std::marker::Brand;
 use std::process::ExitCode;
 use std::sync::Wait;

@@ -1,19 +1,17 @@
 //! The settings, those who read them and the one who changes them.
 
 ghost use Rattle.std.specs.Prelude.{◌≡◌};
-ghost use Rattle.sdd_domain.specs.Tokens.{place_of, home_of, own_of, IsSame};
-ghost use Rattle.shared_index.specs.Invariant.{IsUnengaged};
+ghost use Rattle.ordered_index.specs.Tokens.{place_of, home_of, own_of, IsSame};
+ghost use Rattle.ordered_index.specs.SharedInvariant.{IsUnengaged};
 
-use sdd_domain::domain::Domain;
-use sdd_domain::local::Local;
-use serial_history::{Answer, Audit, Query, Receipt};
-use shared_index::{Naming, Share, SharedIndex, join_over};
-use shared_versions::Node;
+use ordered_index::{
+    Answer, Audit, Domain, Local, Naming, Node, Query, Receipt, Share, SharedIndex, Write,
+    join_over,
+};
 use std::alloc::Global;
 use std::sync::Wait;
 use std::sync::ledger::Blank;
 use std::thread::Threads;
-use version_views::Write;
 
 /// What the place has in its slots.
 pub(crate) type Item = Node<u64, u64>;

@@ -6,12 +6,12 @@ ghost use Rattle.sdd_domain.specs.Sharing.{kept_in};
 ghost use Rattle.sdd_domain.specs.Tokens.{place_of, home_of, hand_of, own_of, IsInNest};
 ghost use Rattle.shared_containers.specs.Containers.{AreLinksOf, IsBagOf, IsQueueOf, IsStackOf, IsAsBefore};
 
-use sdd_base::sizes::Sizes;
 use sdd_domain::domain::Domain;
 use sdd_domain::guard::Guard;
 use sdd_domain::holds::Holds;
 use sdd_domain::local::Local;
 use sdd_domain::shared::Shared;
+use sdd_plain::sizes::Sizes;
 use shared_containers::Links;
 use shared_containers::bag::Bag;
 use shared_containers::queue::Queue;

@@ -14,7 +14,6 @@ use crate::iter::IntoIter;
 use crate::moves::{exchange, place};
 use crate::outcome::{FromIterRefused, NotMade, PushRefused};
 use crate::stack::Stack;
-use sdd_base::tag::Tag;
 use sdd_domain::atomic_shared::AtomicShared;
 use sdd_domain::domain::Domain;
 use sdd_domain::guard::Guard;
@@ -22,12 +21,13 @@ use sdd_domain::holds::Holds;
 use sdd_domain::local::Local;
 use sdd_domain::pointer::Ptr;
 use sdd_domain::shared::Shared;
+use sdd_plain::tag::Tag;
 use shared_lists::moves::TRIES;
 use shared_lists::{Links, Row};
 use std::alloc::Global;
 
 /// A bag of items of a place, which threads push and pop by `&`, in no order: the primary, `ARRAY_LEN` cells that own an item
-/// each, and the overflow, a stack of the others. It must be spent by `end`.
+/// each, and the overflow, a stack of the others. It must be consumed by `end`.
 /// Each item is given out at most once: what a `pop` answers is the owner that the bag had.
 pub struct Bag<T, const ARRAY_LEN: usize> {
     primary: Row<T>,

@@ -13,7 +13,6 @@ ghost use Rattle.shared_containers.specs.Taken.{HasTakenOut, HasMarked, HasPoppe
 
 use crate::outcome::Popped;
 use crate::stack::Stack;
-use sdd_base::tag::Tag;
 use sdd_domain::atomic_shared::AtomicShared;
 use sdd_domain::domain::Domain;
 use sdd_domain::guard::Guard;
@@ -21,6 +20,7 @@ use sdd_domain::holds::Holds;
 use sdd_domain::local::Local;
 use sdd_domain::pointer::Ptr;
 use sdd_domain::shared::Shared;
+use sdd_plain::tag::Tag;
 use shared_lists::Links;
 use shared_lists::moves::{TRIES, follow, let_go};
 

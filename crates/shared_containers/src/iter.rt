@@ -60,7 +60,7 @@ impl<'g, T: Holds> Iter<'g, T> {
     }
 }
 
-/// A bag that nobody else has any more, whose items are popped one by one. It must be spent by `end`.
+/// A bag that nobody else has any more, whose items are popped one by one. It must be consumed by `end`.
 pub struct IntoIter<T, const ARRAY_LEN: usize> {
     pub(crate) bag: Bag<T, ARRAY_LEN>,
 }

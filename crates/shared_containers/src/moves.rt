@@ -8,7 +8,6 @@ ghost use Rattle.shared_containers.specs.Containers.{IsAsBefore, IsOpenIn, IsSti
 ghost use Rattle.shared_containers.specs.Outcomes.{IsRefused};
 
 use crate::outcome::PushRefused;
-use sdd_base::tag::Tag;
 use sdd_domain::atomic_shared::AtomicShared;
 use sdd_domain::domain::Domain;
 use sdd_domain::guard::Guard;
@@ -16,6 +15,7 @@ use sdd_domain::holds::Holds;
 use sdd_domain::local::Local;
 use sdd_domain::pointer::Ptr;
 use sdd_domain::shared::Shared;
+use sdd_plain::tag::Tag;
 use shared_lists::moves::let_go;
 
 /// Has a cell own an item in the place of what was found in it, in one step. Else the item's owner is back.

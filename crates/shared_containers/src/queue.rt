@@ -15,7 +15,6 @@ use crate::iter::Iter;
 use crate::moves::{exchange, place};
 use crate::outcome::{CloneRefused, FromIterRefused, NotMade, PushRefused, Pushed};
 use crate::stack::Stack;
-use sdd_base::tag::Tag;
 use sdd_domain::atomic_shared::AtomicShared;
 use sdd_domain::domain::Domain;
 use sdd_domain::guard::Guard;
@@ -23,10 +22,11 @@ use sdd_domain::holds::Holds;
 use sdd_domain::local::Local;
 use sdd_domain::pointer::Ptr;
 use sdd_domain::shared::Shared;
+use sdd_plain::tag::Tag;
 use shared_lists::Links;
 use shared_lists::moves::{TRIES, follow};
 
-/// A queue of items of a place, which threads push and pop by `&`. It must be spent by `end`.
+/// A queue of items of a place, which threads push and pop by `&`. It must be consumed by `end`.
 /// The tag of an item's link tells whether the item was popped. Whoever sets it pops the item, so each is popped at most
 /// once; and behind an item that was popped nobody appends, since that would exchange a link without a tag.
 pub struct Queue<T> {

@@ -1,7 +1,7 @@
 //! Stacks without locks, after Treiber.
 
 ghost use Rattle.std.specs.Prelude.{◌≡◌, ◌<◌, ◌↔◌, ℕ, true, false, [], IsTrue, OnOk, IfOk, IfErr, IfSome};
-ghost use Rattle.sdd_base.specs.Epochs.{tag_number};
+ghost use Rattle.sdd_plain.specs.Epochs.{tag_number};
 ghost use Rattle.sdd_domain.specs.Cells.{cell_number};
 ghost use Rattle.sdd_domain.specs.CellSteps.{HasMadeSome, HasReadCell};
 ghost use Rattle.sdd_domain.specs.Comparing.{code_of};
@@ -17,7 +17,6 @@ ghost use Rattle.std.specs.Iterator.{IsFiniteIterable};
 use crate::iter::Iter;
 use crate::moves::{exchange, place};
 use crate::outcome::{CloneRefused, FromIterRefused, NotMade, Popped, PushRefused, Pushed};
-use sdd_base::tag::Tag;
 use sdd_domain::atomic_shared::AtomicShared;
 use sdd_domain::domain::Domain;
 use sdd_domain::guard::Guard;
@@ -25,10 +24,11 @@ use sdd_domain::holds::Holds;
 use sdd_domain::local::Local;
 use sdd_domain::pointer::Ptr;
 use sdd_domain::shared::Shared;
+use sdd_plain::tag::Tag;
 use shared_lists::Links;
 use shared_lists::moves::{TRIES, follow};
 
-/// A stack of items of a place, which threads push and pop by `&`. It must be spent by `end`.
+/// A stack of items of a place, which threads push and pop by `&`. It must be consumed by `end`.
 /// Each item is popped at most once: what a `pop` answers is the owner that the stack had.
 pub struct Stack<T> {
     pub(crate) first: AtomicShared<T>,

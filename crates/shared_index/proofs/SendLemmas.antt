@@ -14,6 +14,7 @@ use denote.Struct.Field.{shr_ref_field}
 use Rattle.std.proofs.Crossing.{Vec-send, crosses, send, sync}
 use Rattle.std.proofs.sync.ledger.Book.TheSendSync as ledgers
 use Rattle.serial_history.specs.contracts.transaction.Transaction as transaction
+use Rattle.serial_history.proofs.base.Base.TheSendSync as bases
 use Rattle.serial_history.proofs.transaction.Transaction.TheSendSync as transactions
 use Rattle.sdd_domain.specs.contracts.domain.Domain as domain
 use Rattle.sdd_domain.specs.declared.holds.Holds
@@ -39,8 +40,9 @@ module _ (L K V S : RattleType) (n : Naming.Ghosts L.Denot) (l : Ledger.Ghosts L
       let row = node.the_row K V ko kp kq in
       let local = locals.the_send row (node_send K V ko kp kq ks kt vs vt) (node_sync K V ko kp kq kt vt) in
       let present = present_send K V ko kp kq S kt vt in
+      let base = bases.the_send K V ko kp kq ks vs in
       let history = Vec-send (transaction.the_row K V) (transactions.the_send K V ks vs) in
-      let within : IsSend (book_inside.the_row L K V S n l kc ko kp kq vc vp) = declared_send (book_inside.the_type L K V S n l kc ko kp kq vc vp) (send, (local, (present, (history, (search sendable depth 10, (search (ledgers.the_send, crosses, sendable) depth 10, tt)))))) in
+      let within : IsSend (book_inside.the_row L K V S n l kc ko kp kq vc vp) = declared_send (book_inside.the_type L K V S n l kc ko kp kq vc vp) (send, (local, (present, (base, (history, (search sendable depth 10, (search (ledgers.the_send, crosses, sendable) depth 10, tt))))))) in
       view_send (book_inside.the_row L K V S n l kc ko kp kq vc vp) _ _ _ _ within
 
   pub index_sync : (d : NamedLft) (ke : Eq.Ghosts K.Denot) → IsSend K → IsSync K → IsSend V → IsSync V → IsSync (index.the_row d L K V S n l kc ko ke kp kq vc vp)

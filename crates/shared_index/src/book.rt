@@ -3,29 +3,34 @@
 ghost use Rattle.std.specs.Prelude.{◌≡◌, ℕ, ◌≤◌, ◌<◌, ◌+◌, ◌++◌, ◌∷◌, [], IfOk, IfErr, IfSome, IfNone, OnOk, OnErr, length, replicate, vec_capacity};
 ghost use Rattle.std.specs.List.{All};
 ghost use Rattle.leaf_array.specs.Values.{ClonesAreSame, EqualsAreSame};
-ghost use Rattle.serial_history.specs.Serial.{Holds, IsFirstConflict, IsSerial};
+ghost use Rattle.leaf_array.specs.Pairs.{IsAscending};
+ghost use Rattle.serial_history.specs.Serial.{HasNumber, Holds, IsFirstConflict, IsSerial, RefusesCheckpoint, base_at, history_behind};
 ghost use Rattle.sdd_domain.specs.Cells.{cell_number};
 ghost use Rattle.sdd_domain.specs.Tokens.{place_of, misses_of, cell_count};
-ghost use Rattle.shared_index.specs.Books.{CanCommit, CanRefuse, IsAuditOf, list_after, misses_after, misses_without, next_transaction, present_list};
-ghost use Rattle.shared_index.specs.Invariant.{IsUnengaged};
+ghost use Rattle.shared_index.specs.Books.{CanCommit, CanRefuse, IsAuditOf, list_after, misses_after, misses_without, next_transaction, number_of, present_list};
+ghost use Rattle.shared_index.specs.SharedInvariant.{IsUnengaged};
 ghost use Rattle.version_views.specs.Writes.{replies_to};
 
-use crate::auditing::rebuilt;
 use crate::commit::{begin, install};
 use crate::naming::Naming;
 use crate::share::{Share, cut, end_all};
 use sdd_domain::atomic_shared::AtomicShared;
 use sdd_domain::domain::Domain;
 use sdd_domain::local::Local;
+use serial_history::base::{Base, drop_first, pairs_of};
 use serial_history::ordered_view::first_conflict;
+use serial_history::replay::replay;
 use serial_history::transaction::{Prepared, copied_replies, prepare};
-use serial_history::{Accepted, Audit, Cause, Receipt, Recorded, Refused, Seq, Transaction};
+use serial_history::{
+    Accepted, Audit, Cause, CheckpointRefused, Receipt, Recorded, Refused, Seq, Transaction,
+};
 use shared_versions::{Node, Present, reclaim};
 use std::alloc::{AllocError, Global};
 use std::marker::Model;
 use std::sync::ledger;
 use std::sync::ledger::Blank;
 use thiserror::Error;
+use tree_index::TreeIndex;
 use version_views::{Reply, Write, WriteRefused};
 
 /// Why no index was made.
@@ -39,32 +44,34 @@ pub enum NewRefused {
     NoSlot,
 }
 
-/// The history of accepted commits, and the present version, as the one who commits has them: with the participant of the
-/// place who acts for it, and the ledger of all shares.
+/// The history of accepted commits from a base on, and the present version, as the one who commits has them: with the
+/// participant of the place who acts for it, and the ledger of all shares.
 ///
-/// Contracts see the history, the last number, and how often that participant was refused a slot, a cell or one more owner: its
-/// misses. A book must be spent, by [`end`](Book::end).
+/// Contracts see the base, the history, the last number, and how often that participant was refused a slot, a cell or one more owner: its
+/// misses. A book must be consumed by [`end`](Book::end).
 pub struct Book<L: Naming, K: Clone + Ord, V: Clone + Eq, const S: usize> {
     alloc: Global,
     local: Local<Node<K, V>>,
     present: Present<K, V, S>,
+    base: Base<K, V>,
+    // the transactions since
     history: Vec<Transaction<K, V>>,
     last: u64,
     ledger: ledger::Book<L>,
 }
 
-/// Invariant: specs/Invariant.antt. The participant is at rest; the history is a serial run, counted in the ledger; the
-/// present version has the list that it leaves, and its length for a number; the last number is the named one.
+/// Invariant: specs/SharedInvariant.antt. The participant is at rest; the history is a serial run from the base on; the present
+/// version has the list that it leaves, and the number that the ledger counts; the last number is the named one.
 impl<L: Naming, K: Clone + Ord, V: Clone + Eq, const S: usize> Model for Book<L, K, V, S> {
     ghost use Rattle.sdd_domain.specs.Tokens.{misses_of};
     ghost use Rattle.shared_index.specs.Books.{BookState};
-    ghost use Rattle.shared_index.specs.Invariant.{IsUnengaged, IsHistory, IsLatest, HasBounds};
+    ghost use Rattle.shared_index.specs.SharedInvariant.{IsUnengaged, IsHistory, IsLatest, HasBounds};
 
     ghost Value = { BookState K V };
 
-    ghost view = { λ b. record { history = b.history.items; last = b.last; misses = misses_of b.local } };
+    ghost view = { λ b. record { base = b.base; history = b.history.items; last = b.last; misses = misses_of b.local } };
 
-    ghost invariant = { λ b. IsUnengaged L.place b.local × IsLatest K.cmp L.place b.present b.history.items × IsHistory K.cmp b.history.items b.last b.ledger.total × HasBounds S b.last L.last };
+    ghost invariant = { λ b. IsUnengaged L.place b.local × IsLatest K.cmp L.place b.present b.base b.history.items × IsHistory K.cmp b.base b.history.items b.last b.ledger.total × HasBounds S b.last L.last };
 }
 
 impl<L: Naming, K: Clone + Ord, V: Clone + Eq, const S: usize> Book<L, K, V, S> {
@@ -88,7 +95,7 @@ impl<L: Naming, K: Clone + Ord, V: Clone + Eq, const S: usize> Book<L, K, V, S> 
         requires name { blank.name ≡ L.name }
         requires parts { (blank.parts ≡ L.parts) × (blank.parts ≡ shares) }
         requires last { last ≡ L.last }
-        ensures book { IfOk result (λ made. made.0 ≡ record { history = []; last = last; misses = misses_of local }) }
+        ensures book { IfOk result (λ made. made.0 ≡ record { base = record { number = 0; pairs = [] }; history = []; last = last; misses = misses_of local }) }
         ensures root { IfOk result (λ made. cell_number made.1 < cell_count domain.now) }
         ensures shares { IfOk result (λ made. made.2.items ≡ replicate shares 0) }
         ensures local { IfErr result (λ back. IsUnengaged L.place back.0) }
@@ -108,6 +115,7 @@ impl<L: Naming, K: Clone + Ord, V: Clone + Eq, const S: usize> Book<L, K, V, S> 
             alloc,
             local,
             present,
+            base: Base::empty(alloc),
             history: Vec::new(alloc),
             last,
             ledger,
@@ -115,12 +123,14 @@ impl<L: Naming, K: Clone + Ord, V: Clone + Eq, const S: usize> Book<L, K, V, S> 
         Ok((book, root, cut(mark, shares, room)))
     }
 
-    /// How many commits were accepted: the number of the present list.
+    /// The number of the present list: the base's, and one more for each commit that was accepted since.
     pub fn number(&self) -> u64
-        ensures number { result ≡ length self.now.history }
+        ensures number { result ≡ number_of self.now }
         ensures last { result ≤ L.last }
     {
-        self.history.len() as u64
+        // what is read here tells the proof that the number is at most the last one
+        let _last = self.last;
+        self.base.number() + self.history.len() as u64
     }
 
     /// How many pairs the present list has.
@@ -130,11 +140,11 @@ impl<L: Naming, K: Clone + Ord, V: Clone + Eq, const S: usize> Book<L, K, V, S> 
         self.present.view().len()
     }
 
-    /// What every book meets: its history is a serial run, no longer than the last number, which is the named one. Nothing
-    /// here runs.
+    /// What every book meets: its history is a serial run from the base on, and ends at the last number at most, which is
+    /// the named one. Nothing here runs.
     pub fn laws(&self)
-        ensures serial { IsSerial K.cmp self.now.history [] }
-        ensures numbered { length self.now.history ≤ self.now.last }
+        ensures serial { IsSerial K.cmp self.now.history self.now.base.pairs }
+        ensures numbered { number_of self.now ≤ self.now.last }
         ensures last { self.now.last ≡ L.last }
     {
         // what is read here opens the book to the proof
@@ -165,7 +175,7 @@ impl<L: Naming, K: Clone + Ord, V: Clone + Eq, const S: usize> Book<L, K, V, S> 
         requires equal_values { EqualsAreSame V.eq }
         ensures can { OnOk result (CanCommit K.cmp self.old receipt.now.reads) }
         ensures added { OnOk result (self.new ≡ record self.old { history = self.old.history ++ next_transaction K.cmp self.old receipt.now.reads writes.items ∷ [] }) }
-        ensures number { IfOk result (λ told. told.number ≡ length self.old.history + 1) }
+        ensures number { IfOk result (λ told. told.number ≡ number_of self.old + 1) }
         ensures last { IfOk result (λ told. told.number ≤ L.last) }
         ensures replies { IfOk result (λ told. told.replies.items ≡ replies_to K.cmp writes.items (present_list K.cmp self.old)) }
         ensures counted { OnOk result (share.new ≡ share.old + 1) }
@@ -192,18 +202,22 @@ impl<L: Naming, K: Clone + Ord, V: Clone + Eq, const S: usize> Book<L, K, V, S> 
         }
     }
 
-    /// Whether the reads of a receipt are answered as the list of its number answers them: `Unknown` where no list has that
-    /// number yet, which takes no memory; else the first read that differs, or `Yes`. Refused where memory is.
+    /// Whether the reads of a receipt are answered as the list of its number answers them: `TooOld`, with the base's number,
+    /// where that is above it, and `Unknown` where no list has that number yet, which both take no memory; else the first
+    /// read that differs, or `Yes`. Fails only if an allocation fails.
     ///
-    /// The present list is read as it is. An older one is rebuilt from the empty list, or from the last clearing.
+    /// The present list is read as it is. An older one is rebuilt from the base, or from the last clearing behind it.
     pub fn audit(&self, receipt: &Receipt<K, V>) -> Result<Audit, AllocError>
         requires keys { ClonesAreSame K.is_clone }
         requires values { ClonesAreSame V.is_clone }
         requires equal_keys { EqualsAreSame K.eq }
         requires equal_values { EqualsAreSame V.eq }
         ensures audits { IfOk result (IsAuditOf K.cmp self.now receipt.now) }
-        ensures unknown { OnErr result (receipt.now.number ≤ length self.now.history) }
+        ensures has { OnErr result (HasNumber self.now.base self.now.history receipt.now.number) }
     {
+        if receipt.number < self.base.number() {
+            return Ok(Audit::TooOld(self.base.number()));
+        }
         if receipt.number > self.number() {
             return Ok(Audit::Unknown);
         }
@@ -211,6 +225,46 @@ impl<L: Naming, K: Clone + Ord, V: Clone + Eq, const S: usize> Book<L, K, V, S> 
             Some(place) => Audit::No(place),
             None => Audit::Yes,
         })
+    }
+
+    /// Makes the list of a number the base, and drops the transactions up to it with their memory: audits of lower numbers
+    /// are `TooOld` from then on. The present list and its number stay, and so do versions, sessions, shares and slots.
+    ///
+    /// The causes are decided in this order, and each changes nothing: `Behind`, with the base's number, where that is above
+    /// the one asked for; `Ahead`, with the present number, where that is below it; `Memory`. The base's own number is
+    /// accepted without memory, and changes nothing.
+    pub fn checkpoint(&mut self, upto: u64) -> Result<(), CheckpointRefused>
+        requires keys { ClonesAreSame K.is_clone }
+        requires values { ClonesAreSame V.is_clone }
+        ensures has { OnOk result (HasNumber self.old.base self.old.history upto) }
+        ensures rebased { OnOk result (self.new ≡ record self.old { base = base_at K.cmp self.old.base self.old.history upto; history = history_behind self.old.base self.old.history upto }) }
+        ensures refused { IfErr result (RefusesCheckpoint self.old.base self.old.history upto) }
+        ensures err { OnErr result (self.new ≡ self.old) }
+    {
+        let first = self.base.number();
+        if upto < first {
+            return Err(CheckpointRefused::Behind(first));
+        }
+        let present = self.number();
+        if upto > present {
+            return Err(CheckpointRefused::Ahead(present));
+        }
+        if upto == first {
+            return Ok(());
+        }
+        let Ok(pairs) = self.pairs_at(upto) else {
+            return Err(CheckpointRefused::Memory);
+        };
+        self.rebase(upto, pairs);
+        Ok(())
+    }
+
+    /// The number of the base, and the pairs of its list by rising keys. It takes no memory.
+    pub fn base(&self) -> (u64, &[(K, V)])
+        ensures number { result.0 ≡ self.now.base.number }
+        ensures pairs { result.1.now ≡ self.now.base.pairs }
+    {
+        (self.base.number(), self.base.pairs())
     }
 
     /// Reclaims versions that nobody reads, with their segments: it opens and closes eight accelerated guards of its
@@ -233,6 +287,7 @@ impl<L: Naming, K: Clone + Ord, V: Clone + Eq, const S: usize> Book<L, K, V, S> 
             alloc: _,
             mut local,
             present,
+            base: _,
             history: _,
             last: _,
             ledger: _,
@@ -245,13 +300,13 @@ impl<L: Naming, K: Clone + Ord, V: Clone + Eq, const S: usize> Book<L, K, V, S> 
     /// The number, which is the amount of a mark that has all parts.
     pub(crate) fn balance(&mut self, all: &mut ledger::Share<L>) -> u64
         requires { all.old.parts ≡ L.parts }
-        ensures number { result ≡ length self.old.history }
+        ensures number { result ≡ number_of self.old }
         ensures last { result ≤ L.last }
         ensures amount { result ≡ all.old.amount }
         ensures same { self.new ≡ self.old }
     {
         self.ledger.audit(all);
-        self.history.len() as u64
+        self.number()
     }
 
     // Why a commit of these reads is refused, whatever it writes: that is no miss.
@@ -265,7 +320,7 @@ impl<L: Naming, K: Clone + Ord, V: Clone + Eq, const S: usize> Book<L, K, V, S> 
         match first_conflict(&self.present.view(), reads) {
             Some(place) => Some(Cause::Conflict(place)),
             None => {
-                if self.history.len() as u64 == self.last {
+                if self.number() == self.last {
                     Some(Cause::Exhausted)
                 } else {
                     None
@@ -303,6 +358,7 @@ impl<L: Naming, K: Clone + Ord, V: Clone + Eq, const S: usize> Book<L, K, V, S> 
             alloc,
             local,
             present,
+            base: _,
             history,
             last: _,
             ledger,
@@ -334,7 +390,7 @@ impl<L: Naming, K: Clone + Ord, V: Clone + Eq, const S: usize> Book<L, K, V, S> 
 
     // The first read that doesn't hold of the list of the receipt's number: the present one, or an older one, rebuilt.
     fn conflict_at(&self, receipt: &Receipt<K, V>) -> Result<Option<usize>, AllocError>
-        requires number { receipt.now.number ≤ length self.now.history }
+        requires number { HasNumber self.now.base self.now.history receipt.now.number }
         requires keys { ClonesAreSame K.is_clone }
         requires values { ClonesAreSame V.is_clone }
         requires equal_keys { EqualsAreSame K.eq }
@@ -343,10 +399,47 @@ impl<L: Naming, K: Clone + Ord, V: Clone + Eq, const S: usize> Book<L, K, V, S> 
         ensures none { IfOk result (λ r. IfNone r (All (Holds K.cmp (list_after K.cmp self.now receipt.now.number)) receipt.now.reads)) }
     {
         let reads = receipt.reads.as_slice();
-        if receipt.number == self.history.len() as u64 {
+        if receipt.number == self.number() {
             return Ok(first_conflict(&self.present.view(), reads));
         }
-        let list = rebuilt(self.alloc, &self.history[..receipt.number as usize])?;
+        let list = self.rebuild_at(receipt.number)?;
         Ok(first_conflict(&list, reads))
+    }
+
+    // The list of a number, rebuilt from the base.
+    fn rebuild_at(&self, number: u64) -> Result<TreeIndex<K, V>, AllocError>
+        requires number { HasNumber self.now.base self.now.history number }
+        requires keys { ClonesAreSame K.is_clone }
+        requires values { ClonesAreSame V.is_clone }
+        ensures { IfOk result (λ list. list.pairs ≡ list_after K.cmp self.now number) }
+    {
+        let count = (number - self.base.number()) as usize;
+        replay(self.alloc, &self.base, &self.history[..count])
+    }
+
+    // Copies of the pairs of a number's list.
+    fn pairs_at(&self, number: u64) -> Result<Vec<(K, V)>, AllocError>
+        requires number { HasNumber self.now.base self.now.history number }
+        requires keys { ClonesAreSame K.is_clone }
+        requires values { ClonesAreSame V.is_clone }
+        ensures pairs { IfOk result (λ pairs. pairs.items ≡ list_after K.cmp self.now number) }
+        ensures rising { IfOk result (λ pairs. IsAscending K.cmp pairs.items) }
+    {
+        let list = self.rebuild_at(number)?;
+        // what is asked here tells the proof that the keys rise
+        let _count = list.len();
+        pairs_of(self.alloc, &list)
+    }
+
+    // Makes a list, that of a number, the base.
+    fn rebase(&mut self, upto: u64, pairs: Vec<(K, V)>)
+        requires has { HasNumber self.old.base self.old.history upto }
+        requires pairs { pairs.items ≡ list_after K.cmp self.old upto }
+        requires rising { IsAscending K.cmp pairs.items }
+        ensures { self.new ≡ record self.old { base = base_at K.cmp self.old.base self.old.history upto; history = history_behind self.old.base self.old.history upto } }
+    {
+        let count = (upto - self.base.number()) as usize;
+        drop_first(&mut self.history, count);
+        self.base = Base::new(upto, pairs);
     }
 }

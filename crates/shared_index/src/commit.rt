@@ -9,10 +9,10 @@ ghost use Rattle.shared_versions.specs.Placing.{IsStillButMisses};
 ghost use Rattle.shared_index.specs.Books.{misses_told};
 ghost use Rattle.version_views.specs.Writes.{after_writes, replies_to};
 
-use sdd_base::refusal::NoSlot;
 use sdd_domain::atomic_shared::AtomicShared;
 use sdd_domain::domain::Domain;
 use sdd_domain::local::Local;
+use sdd_plain::refusal::NoSlot;
 use shared_versions::{Node, Present, build, publish};
 use std::alloc::Global;
 use version_views::{Reply, Write, WriteRefused};
@@ -57,7 +57,7 @@ pub(crate) fn install<K: Clone + Ord, V: Clone, const S: usize>(
     }
 }
 
-/// Places the empty version, and has a cell of its own name it. Refused where no slot or no cell is free, which is one miss of
+/// Places the empty version, and has a cell of its own name it. Refused if no slot or no cell is free, which is one miss of
 /// the participant; then what was placed waits to be reclaimed.
 pub(crate) fn begin<K: Clone + Ord, V: Clone, const S: usize>(
     alloc: Global,

@@ -4,8 +4,8 @@ ghost use Rattle.std.specs.Prelude.{◌≡◌, ◌≢◌, ◌≤◌, ◌<◌, �
 ghost use Rattle.std.specs.List.{sum};
 ghost use Rattle.leaf_array.specs.Values.{ClonesAreSame, EqualsAreSame};
 ghost use Rattle.sdd_domain.specs.Tokens.{place_of, home_of, own_of, born_of, cell_count, misses_of, nest_in, IsSame};
-ghost use Rattle.shared_index.specs.Books.{misses_without};
-ghost use Rattle.shared_index.specs.Invariant.{IsUnengaged};
+ghost use Rattle.shared_index.specs.Books.{LiesOutside, misses_without};
+ghost use Rattle.shared_index.specs.SharedInvariant.{IsUnengaged};
 ghost use Rattle.shared_sessions.specs.Openings.{IsBelow, root_number};
 
 use crate::book::{Book, NewRefused};
@@ -14,7 +14,7 @@ use crate::share::{Share, merged};
 use sdd_domain::atomic_shared::AtomicShared;
 use sdd_domain::domain::Domain;
 use sdd_domain::local::Local;
-use serial_history::{Accepted, Audit, Receipt, Refused};
+use serial_history::{Accepted, Audit, CheckpointRefused, Receipt, Refused};
 use shared_sessions::{OpenRefused, Root, SharedSession};
 use shared_versions::Node;
 use std::alloc::{AllocError, Global};
@@ -27,7 +27,7 @@ use version_views::Write;
 /// is read without the lock.
 ///
 /// What a call does under the lock is what the same call of the [`Book`] does. A contract can't say here what that did to a
-/// book that other threads change too; it says what the caller's share tells. An index must be spent, by
+/// book that other threads change too; it says what the caller's share tells. An index must be consumed, by
 /// [`close`](SharedIndex::close).
 pub struct SharedIndex<'d, L: Naming, K: Clone + Ord, V: Clone + Eq, const S: usize> {
     domain: &'d Domain<Node<K, V>>,
@@ -128,10 +128,11 @@ impl<'d, L: Naming, K: Clone + Ord, V: Clone + Eq, const S: usize> SharedIndex<'
     /// reads the list of that version until it is closed, whatever is committed and reclaimed meanwhile. Opening takes no
     /// memory; what the session records takes some.
     ///
-    /// It is refused, with as many guards open as before, where [`SharedSession::open`] is: as `Nested` exactly where no more
-    /// guards of the participant can be counted, and as `Earlier`, with the number of the version that it loaded, where that is
-    /// below `at_least`. Who was told the number of a commit asks for that number, so that it reads what was committed; 0 asks
-    /// for nothing. `NoVersion` never comes: only commits write to the cell, and each has it name a version of this width.
+    /// It is refused, with as many guards open as before, where [`SharedSession::open`] is: as `Nested` if and only if
+    /// no more guards of the participant can be counted, and as `Earlier`, with the number of the version that it
+    /// loaded, where that is below `at_least`. Who was told the number of a commit asks for that number, so that it
+    /// reads what was committed; 0 asks for nothing. `NoVersion` never comes: only commits write to the cell, and each
+    /// has it name a version of this width.
     ///
     /// ```text
     /// let mut session = index.open(&mut local, accepted.number)?;
@@ -193,6 +194,19 @@ impl<'d, L: Naming, K: Clone + Ord, V: Clone + Eq, const S: usize> SharedIndex<'
         let found = book.audit(receipt);
         MutexGuard::unlock(book);
         found
+    }
+
+    /// Makes the list of a number the base, as [`Book::checkpoint`] does, under the lock: until the list is copied, commits and
+    /// audits wait. Sessions go on.
+    pub fn checkpoint<R: Wait>(&self, rt: &R, upto: u64) -> Result<(), CheckpointRefused>
+        requires keys { ClonesAreSame K.is_clone }
+        requires values { ClonesAreSame V.is_clone }
+        ensures refused { IfErr result (LiesOutside upto) }
+    {
+        let mut book = self.book.lock(rt);
+        let told = book.checkpoint(upto);
+        MutexGuard::unlock(book);
+        told
     }
 
     /// Reclaims versions that nobody reads, as [`Book::reclaim`] does.

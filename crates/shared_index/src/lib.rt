@@ -17,7 +17,6 @@
 //! ```
 #![tactic(auto)]
 
-mod auditing;
 mod book;
 mod commit;
 mod index;

@@ -2,7 +2,7 @@
 
 ghost use Rattle.std.specs.Prelude.{ℕ};
 ghost use Rattle.atomic_table.specs.Seated.{TableId};
-ghost use Rattle.sdd_base.specs.declared.sizes.Sizes.{Sizes};
+ghost use Rattle.sdd_plain.specs.declared.sizes.Sizes.{Sizes};
 
 use std::marker::Brand;
 use std::sync::ledger::Ledger;

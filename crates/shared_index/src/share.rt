@@ -9,7 +9,7 @@ use std::sync::ledger;
 
 /// A share of an index. Who has it commits, and it counts the accepted commits that were made with it.
 ///
-/// Contracts see that count. A share must be spent, by [`SharedIndex::close`](crate::SharedIndex::close) or
+/// Contracts see that count. A share must be consumed by [`SharedIndex::close`](crate::SharedIndex::close) or
 /// [`Book::end`](crate::Book::end), with all others.
 pub struct Share<L: Naming> {
     count: u64,

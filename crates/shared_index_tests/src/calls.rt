@@ -4,13 +4,13 @@
 ghost use Rattle.std.specs.Prelude.{◌≡◌, ◌+◌, ◌≤◌, IfNone, IfOk, IfSome, OnErr, OnOk};
 ghost use Rattle.sdd_domain.specs.Layout.{IsSized};
 ghost use Rattle.sdd_domain.specs.Tokens.{place_of, home_of, own_of, nest_in, IsSame};
-ghost use Rattle.shared_index.specs.Invariant.{IsUnengaged};
+ghost use Rattle.shared_index.specs.SharedInvariant.{IsUnengaged};
 ghost use Rattle.shared_index_tests.specs.Scenes.{CanBegin};
 
 use crate::place::Item;
-use sdd_base::sizes::Sizes;
 use sdd_domain::domain::Domain;
 use sdd_domain::local::Local;
+use sdd_plain::sizes::Sizes;
 use serial_history::{Accepted, Answer, Audit, Query, Receipt, Refused};
 use shared_index::{Naming, Share, SharedIndex};
 use shared_sessions::{OpenRefused, SharedSession};

@@ -3,8 +3,8 @@
 ghost use Rattle.std.specs.Prelude.{◌≡◌};
 ghost use Rattle.sdd_domain.specs.Tokens.{home_of, own_of, IsSame};
 
-use crate::calls::{Numbers, asked, audit, ended, leave, opened, registered};
-use crate::joined::Task::{Raises, Reads, Sums, Writes};
+use crate::calls::{Index, asked, audit, ended, leave, opened, registered};
+use crate::joined::Task::{Raises, Reads, Sums, Upserts, Writes};
 use crate::joined::{Crowd, first_wrong};
 use crate::place::Item;
 use sdd_domain::local::Local;
@@ -29,8 +29,8 @@ fn sum_of(one: Option<u64>, other: Option<u64>) -> Option<u64> {
 
 /// One session for at least this number, which records four keys: its receipt, if their values sum to its number. They do where
 /// each commit raises one of them by one.
-fn raised_together<L: Naming>(
-    index: &Numbers<'_, L>,
+fn raised_together<L: Naming, const S: usize>(
+    index: &Index<'_, L, S>,
     local: &mut Local<Item>,
     at_least: u64,
 ) -> Option<Receipt<u64, u64>>
@@ -56,7 +56,10 @@ fn raised_together<L: Naming>(
 
 /// Fifty sessions of a participant of its own, each for at least the number of the one before: how many found values that sum to
 /// their number, and receipts that are right by an audit. None if no participant was free.
-pub(crate) fn sums<L: Naming, R: Wait>(rt: &R, index: &Numbers<'_, L>) -> Option<u32> {
+pub(crate) fn sums<L: Naming, R: Wait, const S: usize>(
+    rt: &R,
+    index: &Index<'_, L, S>,
+) -> Option<u32> {
     let domain = index.domain();
     let mut local = registered(domain)?;
     let mut right: u32 = 0;
@@ -78,6 +81,7 @@ const FOUR_RAISE: Crowd = Crowd {
     participants: 3,
     slots: 2048,
     shares: 4,
+    is_wide: false,
     tasks: [
         Raises(1, 50),
         Raises(2, 50),
@@ -91,11 +95,38 @@ const FOUR_RAISE: Crowd = Crowd {
     list: &[(1, 50), (2, 50), (3, 50), (4, 50)],
 };
 
+/// A thousand commits of one upsert take two slots each, and the empty version one.
+const FOUR_UPSERT: Crowd = Crowd {
+    participants: 3,
+    slots: 2001,
+    shares: 4,
+    is_wide: true,
+    tasks: [
+        Upserts(1, 250),
+        Upserts(2, 250),
+        Upserts(3, 250),
+        Upserts(4, 250),
+        Sums,
+        Sums,
+    ],
+    told: [
+        Some(250),
+        Some(250),
+        Some(250),
+        Some(250),
+        Some(50),
+        Some(50),
+    ],
+    number: 1000,
+    list: &[(1, 250), (2, 250), (3, 250), (4, 250)],
+};
+
 /// Each session of four readers beside two committers reads one list. The last commit of all is the last one of one of them.
 const FOUR_READ: Crowd = Crowd {
     participants: 5,
     slots: 2048,
     shares: 2,
+    is_wide: false,
     tasks: [Reads, Reads, Reads, Reads, Writes, Writes],
     told: [Some(100); 6],
     number: 200,
@@ -105,7 +136,7 @@ const FOUR_READ: Crowd = Crowd {
 #[test]
 fn six_threads_commit_and_read_beside_each_other(rt: HostRuntime) {
     assert_eq!(rt;
-        first_wrong(&rt, rt.alloc(), &[FOUR_RAISE, FOUR_READ]),
+        first_wrong(&rt, rt.alloc(), &[FOUR_RAISE, FOUR_UPSERT, FOUR_READ]),
         None
     );
 }

@@ -3,12 +3,12 @@
 ghost use Rattle.std.specs.Prelude.{◌≡◌};
 ghost use Rattle.shared_index_tests.specs.Scenes.{CanBegin};
 
-use crate::calls::{audit, close, commit, in_use, place, reclaim};
-use crate::place::{Item, ROOM, end, got, member, two};
-use crate::tasks::{begun, closed, place_for, put, swap, taken};
+use crate::calls::{audit, close, commit, in_use, leave, place, reclaim};
+use crate::place::{Item, ROOM, end, got, member, one, two};
+use crate::tasks::{begun, closed, listed, place_for, put, swap, taken};
 use sdd_domain::domain::Domain;
 use sdd_domain::local::Local;
-use serial_history::{Accepted, Audit, Receipt, Refused, Reply};
+use serial_history::{Accepted, Answer, Audit, Cause, Receipt, Refused, Reply, Seq};
 use shared_index::Naming;
 use std::alloc::{AllocError, Global};
 use std::marker::Brand;
@@ -32,7 +32,7 @@ fn missing_share<L: Naming, R: Wait + Abort>(
     requires begins { CanBegin L.place L.name L.parts 2 domain.now local blank }
     requires last { L.last ≡ 18446744073709551615 }
 {
-    let (index, mut shares) = begun::<L, R>(rt, alloc, domain, local, blank, 2);
+    let (index, mut shares) = begun::<L, R, 2>(rt, alloc, domain, local, blank, 2);
     let all = shares.len();
     let mut first = taken(rt, &mut shares);
     let mut second = taken(rt, &mut shares);
@@ -84,7 +84,7 @@ fn told_under_the_lock<L: Naming, R: Wait + Abort>(
     requires begins { CanBegin L.place L.name L.parts 1 domain.now local blank }
     requires last { L.last ≡ 18446744073709551615 }
 {
-    let (index, mut shares) = begun::<L, R>(rt, alloc, domain, local, blank, 1);
+    let (index, mut shares) = begun::<L, R, 2>(rt, alloc, domain, local, blank, 1);
     let mut share = taken(rt, &mut shares);
     let writes = two(rt, alloc, Write::Insert(1, 10), Write::Insert(1, 11));
     let told = commit(rt, &index, &mut share, &Receipt::blank(alloc), writes);
@@ -121,4 +121,49 @@ fn a_call_under_the_lock_is_that_of_the_book(rt: HostRuntime) {
     assert!(rt; audits == [Ok(Audit::Yes), Ok(Audit::No(0)), Ok(Audit::Unknown)]);
     // the empty version, a version and its segment; then without the first one
     assert_eq!(rt; (slots, number), ([3, 2], 1));
+}
+
+/// What a commit is told where the place has no slot for it, what a session reads then, and the number.
+type Small = (Result<Accepted, Refused<u64, u64>>, Answer<u64, u64>, u64);
+
+/// A commit in a place with two slots, of which the empty version has one: it would take two more.
+fn too_small<L: Naming, R: Wait + Abort>(
+    rt: &R,
+    alloc: Global,
+    domain: &Domain<Item>,
+    local: Local<Item>,
+    blank: Blank,
+) -> Small
+    requires begins { CanBegin L.place L.name L.parts 1 domain.now local blank }
+    requires last { L.last ≡ 18446744073709551615 }
+{
+    let (index, mut shares) = begun::<L, R, 2>(rt, alloc, domain, local, blank, 1);
+    let mut share = taken(rt, &mut shares);
+    let writes = one(rt, alloc, Write::Insert(1, 10));
+    let told = commit(rt, &index, &mut share, &Receipt::blank(alloc), writes);
+    let mut reader = member(rt, domain);
+    let list = listed(rt, &index, &mut reader, 0);
+    leave(domain, reader);
+    put(rt, &mut shares, share);
+    (told, list, closed(rt, domain, index, shares))
+}
+
+/// Whether a commit was refused for want of slots, and its write came back.
+fn is_without_slots(told: &Result<Accepted, Refused<u64, u64>>) -> bool {
+    match told {
+        Ok(_) => false,
+        Err(Refused { cause, writes }) => *cause == Cause::NoSlot
+            && writes.as_slice() == &[Write::Insert(1, 10)][..],
+    }
+}
+
+#[test]
+fn a_place_too_small_for_a_commit_keeps_the_list_before(rt: HostRuntime) {
+    let domain = place(rt.alloc(), place_for(2, 2)).expect(&rt, ROOM);
+    let local = member(&rt, &domain);
+    let found = too_small::<Brand, _>(&rt, rt.alloc(), &domain, local, Blank::new(1));
+    end(&rt, domain);
+    let (told, list, number) = found;
+    assert!(rt; is_without_slots(&told));
+    assert!(rt; list == Answer::Range(Seq::new(rt.alloc())) && number == 0);
 }

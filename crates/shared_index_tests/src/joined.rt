@@ -8,11 +8,11 @@ ghost use Rattle.std.specs.Prelude.{◌≡◌, ◌<◌, ◌≤◌};
 ghost use Rattle.sdd_domain.specs.Tokens.{place_of, home_of, own_of, IsSame};
 ghost use Rattle.shared_index_tests.specs.Scenes.{CanBegin};
 
-use crate::calls::{Numbers, audit, leave, place};
+use crate::calls::{Index, audit, leave, place};
 use crate::crowd::sums;
 use crate::own_commits::read_often;
 use crate::place::{Item, ROOM, end, got, member};
-use crate::tasks::{begun, closed, listed, own_key, place_for, put, readings, writings};
+use crate::tasks::{begun, closed, listed, own_key, place_for, put, readings, upserts, writings};
 use crate::threads::same_key;
 use sdd_domain::domain::Domain;
 use sdd_domain::local::Local;
@@ -32,6 +32,8 @@ pub(crate) enum Task {
     Rests,
     /// Raises a key that nobody else writes up to a number, each commit resting on the one before: the count of its share.
     Raises(u64, u64),
+    /// The same, where each commit rests on nothing, and none is reclaimed.
+    Upserts(u64, u64),
     /// Counts key 1 up to a hundred beside others who do: 1 if its share counts as many commits as it wrote numbers.
     CountsUp,
     /// Gives the keys 1 and 2 the same value in a hundred commits: the count of its share.
@@ -51,6 +53,8 @@ pub(crate) struct Crowd {
     pub(crate) participants: u8,
     pub(crate) slots: u16,
     pub(crate) shares: u8,
+    /// Whether a segment has 64 pairs at most, else two.
+    pub(crate) is_wide: bool,
     pub(crate) tasks: [Task; 6],
     pub(crate) told: [Option<u64>; 6],
     /// Its number, and the list of that number.
@@ -78,16 +82,20 @@ fn found_back<L: Naming>(right: Option<u32>, share: &Share<L>) -> Option<u64> {
 }
 
 /// Does it with a share: what is told.
-fn committed<L: Naming, R: Wait + Abort>(
+fn committed<L: Naming, R: Wait + Abort, const S: usize>(
     rt: &R,
     alloc: Global,
-    index: &Numbers<'_, L>,
+    index: &Index<'_, L, S>,
     task: Task,
     share: &mut Share<L>,
 ) -> Option<u64> {
     match task {
         Task::Raises(key, last) => {
             let is_done = own_key(rt, alloc, index, share, key, last);
+            counted(is_done, share)
+        }
+        Task::Upserts(key, last) => {
+            let is_done = upserts(rt, alloc, index, share, key, last);
             counted(is_done, share)
         }
         Task::CountsUp => {
@@ -107,10 +115,10 @@ fn committed<L: Naming, R: Wait + Abort>(
 }
 
 /// Does it, with the share if it commits: what is told.
-fn done<L: Naming, R: Wait + Abort>(
+fn done<L: Naming, R: Wait + Abort, const S: usize>(
     rt: &R,
     alloc: Global,
-    index: &Numbers<'_, L>,
+    index: &Index<'_, L, S>,
     task: Task,
     share: &mut Option<Share<L>>,
 ) -> Option<u64> {
@@ -125,10 +133,10 @@ fn done<L: Naming, R: Wait + Abort>(
 }
 
 /// Two threads.
-fn two<L: Naming + Send + Sync, R: Threads + Wait + Abort + Sync>(
+fn two<L: Naming + Send + Sync, R: Threads + Wait + Abort + Sync, const S: usize>(
     rt: &R,
     alloc: Global,
-    index: &Numbers<'_, L>,
+    index: &Index<'_, L, S>,
     tasks: (Task, Task),
     first: &mut Option<Share<L>>,
     second: &mut Option<Share<L>>,
@@ -143,10 +151,10 @@ fn two<L: Naming + Send + Sync, R: Threads + Wait + Abort + Sync>(
 }
 
 /// Four threads.
-fn four<L: Naming + Send + Sync, R: Threads + Wait + Abort + Sync>(
+fn four<L: Naming + Send + Sync, R: Threads + Wait + Abort + Sync, const S: usize>(
     rt: &R,
     alloc: Global,
-    index: &Numbers<'_, L>,
+    index: &Index<'_, L, S>,
     tasks: ((Task, Task), (Task, Task)),
     first: &mut Option<Share<L>>,
     second: &mut Option<Share<L>>,
@@ -178,10 +186,10 @@ fn put_back<L: Naming, R: Abort>(rt: &R, shares: &mut Vec<Share<L>>, share: Opti
 }
 
 /// What six threads are told that do these.
-fn six<L: Naming + Send + Sync, R: Threads + Wait + Abort + Sync>(
+fn six<L: Naming + Send + Sync, R: Threads + Wait + Abort + Sync, const S: usize>(
     rt: &R,
     alloc: Global,
-    index: &Numbers<'_, L>,
+    index: &Index<'_, L, S>,
     shares: &mut Vec<Share<L>>,
     tasks: [Task; 6],
 ) -> [Option<u64>; 6] {
@@ -218,10 +226,10 @@ fn six<L: Naming + Send + Sync, R: Threads + Wait + Abort + Sync>(
 }
 
 /// Whether each of these pairs is in the list of this number, by the audit of a receipt of it.
-fn are_audited<L: Naming, R: Wait + Abort>(
+fn are_audited<L: Naming, R: Wait + Abort, const S: usize>(
     rt: &R,
     alloc: Global,
-    index: &Numbers<'_, L>,
+    index: &Index<'_, L, S>,
     number: u64,
     list: &[(u64, u64)],
 ) -> bool {
@@ -244,7 +252,7 @@ fn is_list(answer: &Answer<u64, u64>, list: &[(u64, u64)]) -> bool {
 /// What is found of a crowd: what the threads are told, whether the list is right by audits and by a session, and the number.
 type Found = ([Option<u64>; 6], bool, bool, u64);
 
-fn crowded<L: Naming + Send + Sync, R: Threads + Wait + Abort + Sync>(
+fn crowded<L: Naming + Send + Sync, R: Threads + Wait + Abort + Sync, const S: usize>(
     rt: &R,
     alloc: Global,
     domain: &Domain<Item>,
@@ -256,8 +264,9 @@ fn crowded<L: Naming + Send + Sync, R: Threads + Wait + Abort + Sync>(
     requires begins { CanBegin L.place L.name L.parts shares domain.now local blank }
     requires last { L.last ≡ 18446744073709551615 }
     requires some { 0 < shares }
+    requires size { (1 ≤ S) × (S ≤ 225) }
 {
-    let (index, mut shares) = begun::<L, R>(rt, alloc, domain, local, blank, shares);
+    let (index, mut shares) = begun::<L, R, S>(rt, alloc, domain, local, blank, shares);
     let told = six(rt, alloc, &index, &mut shares, crowd.tasks);
     let are_audited = are_audited(rt, alloc, &index, crowd.number, crowd.list);
     let mut reader = member(rt, domain);
@@ -272,6 +281,40 @@ fn crowded<L: Naming + Send + Sync, R: Threads + Wait + Abort + Sync>(
     )
 }
 
+/// What is found where a segment has 64 pairs at most.
+fn wide<L: Naming + Send + Sync, R: Threads + Wait + Abort + Sync>(
+    rt: &R,
+    alloc: Global,
+    domain: &Domain<Item>,
+    local: Local<Item>,
+    blank: Blank,
+    shares: usize,
+    crowd: &Crowd,
+) -> Found
+    requires begins { CanBegin L.place L.name L.parts shares domain.now local blank }
+    requires last { L.last ≡ 18446744073709551615 }
+    requires some { 0 < shares }
+{
+    crowded::<L, R, 64>(rt, alloc, domain, local, blank, shares, crowd)
+}
+
+/// What is found where it has two.
+fn narrow<L: Naming + Send + Sync, R: Threads + Wait + Abort + Sync>(
+    rt: &R,
+    alloc: Global,
+    domain: &Domain<Item>,
+    local: Local<Item>,
+    blank: Blank,
+    shares: usize,
+    crowd: &Crowd,
+) -> Found
+    requires begins { CanBegin L.place L.name L.parts shares domain.now local blank }
+    requires last { L.last ≡ 18446744073709551615 }
+    requires some { 0 < shares }
+{
+    crowded::<L, R, 2>(rt, alloc, domain, local, blank, shares, crowd)
+}
+
 /// Whether a crowd finds what it is to.
 fn is_right<R: Threads + Wait + Abort + Sync>(rt: &R, alloc: Global, crowd: &Crowd) -> bool {
     if crowd.participants == 0 || crowd.shares == 0 {
@@ -280,15 +323,13 @@ fn is_right<R: Threads + Wait + Abort + Sync>(rt: &R, alloc: Global, crowd: &Cro
     let sizes = place_for(usize::from(crowd.participants), usize::from(crowd.slots));
     let domain = place(alloc, sizes).expect(rt, ROOM);
     let local = member(rt, &domain);
-    let (told, are_audited, is_read, number) = crowded::<Brand, R>(
-        rt,
-        alloc,
-        &domain,
-        local,
-        Blank::new(u64::from(crowd.shares)),
-        usize::from(crowd.shares),
-        crowd,
-    );
+    let shares = usize::from(crowd.shares);
+    let blank = Blank::new(u64::from(crowd.shares));
+    let (told, are_audited, is_read, number) = if crowd.is_wide {
+        wide::<Brand, R>(rt, alloc, &domain, local, blank, shares, crowd)
+    } else {
+        narrow::<Brand, R>(rt, alloc, &domain, local, blank, shares, crowd)
+    };
     end(rt, domain);
     told == crowd.told && are_audited && is_read && number == crowd.number
 }

@@ -1,7 +1,7 @@
 //! An index at a size: many pairs, many writes in a commit, many reads in a session, many participants.
 
 ghost use Rattle.std.specs.Prelude.{◌≡◌};
-ghost use Rattle.shared_index.specs.Invariant.{IsUnengaged};
+ghost use Rattle.shared_index.specs.SharedInvariant.{IsUnengaged};
 ghost use Rattle.sdd_domain.specs.Tokens.{home_of, own_of, nest_in, IsSame};
 ghost use Rattle.shared_index_tests.specs.Scenes.{CanBegin};
 

@@ -3,9 +3,7 @@
 ghost use Rattle.std.specs.Prelude.{◌≡◌};
 ghost use Rattle.sdd_domain.specs.Tokens.{home_of, own_of, IsSame};
 
-use crate::calls::{
-    Numbers, asked, audit, commit, ended, leave, opened, reclaim, registered, tried,
-};
+use crate::calls::{Index, asked, audit, commit, ended, leave, opened, reclaim, registered, tried};
 use crate::joined::Task::{ReadsBack, Rests};
 use crate::joined::{Crowd, first_wrong};
 use crate::place::Item;
@@ -18,10 +16,10 @@ use std::sync::Wait;
 use version_views::Write;
 
 /// Commits an upsert that rests on nothing: its number, if it was accepted.
-fn raised<L: Naming, R: Wait>(
+fn raised<L: Naming, R: Wait, const S: usize>(
     rt: &R,
     alloc: Global,
-    index: &Numbers<'_, L>,
+    index: &Index<'_, L, S>,
     share: &mut Share<L>,
     key: u64,
     value: u64,
@@ -36,8 +34,8 @@ fn raised<L: Naming, R: Wait>(
 }
 
 /// One session for at least this number, which records a key: its receipt, if the key had this value.
-fn read_back<L: Naming>(
-    index: &Numbers<'_, L>,
+fn read_back<L: Naming, const S: usize>(
+    index: &Index<'_, L, S>,
     local: &mut Local<Item>,
     at_least: u64,
     key: u64,
@@ -59,7 +57,11 @@ fn read_back<L: Naming>(
 }
 
 /// Whether a session for the greatest number is refused, and told one that is at least this.
-fn is_told_earlier<L: Naming>(index: &Numbers<'_, L>, local: &mut Local<Item>, number: u64) -> bool
+fn is_told_earlier<L: Naming, const S: usize>(
+    index: &Index<'_, L, S>,
+    local: &mut Local<Item>,
+    number: u64,
+) -> bool
     requires home { home_of local.old ≡ L.place }
     requires closed { (own_of local.old).nesting ≡ 0 }
     ensures same { IsSame local.old local.new }
@@ -80,10 +82,10 @@ fn is_told_earlier<L: Naming>(index: &Numbers<'_, L>, local: &mut Local<Item>, n
 /// Fifty commits of a key that nobody else writes, each read back in a session of a participant of its own, for at least the number
 /// that the commit was told: how many were found, with a receipt that is right by an audit, and whoever asks for the greatest number
 /// told one that isn't below that of the commit. None if no participant was free.
-pub(crate) fn read_often<L: Naming, R: Wait>(
+pub(crate) fn read_often<L: Naming, R: Wait, const S: usize>(
     rt: &R,
     alloc: Global,
-    index: &Numbers<'_, L>,
+    index: &Index<'_, L, S>,
     share: &mut Share<L>,
     key: u64,
 ) -> Option<u32> {
@@ -110,6 +112,7 @@ const READ_BACK: Crowd = Crowd {
     participants: 3,
     slots: 512,
     shares: 2,
+    is_wide: false,
     tasks: [ReadsBack(1), ReadsBack(2), Rests, Rests, Rests, Rests],
     told: [Some(50), Some(50), None, None, None, None],
     number: 100,

@@ -2,7 +2,7 @@
 
 ghost use Rattle.std.specs.Prelude.{◌≡◌};
 ghost use Rattle.sdd_domain.specs.Tokens.{place_of};
-ghost use Rattle.shared_index.specs.Invariant.{IsUnengaged};
+ghost use Rattle.shared_index.specs.SharedInvariant.{IsUnengaged};
 
 use crate::calls::registered;
 use sdd_domain::domain::Domain;

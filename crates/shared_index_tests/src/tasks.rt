@@ -4,13 +4,11 @@ ghost use Rattle.std.specs.Prelude.{◌≡◌, ◌<◌, ◌≤◌};
 ghost use Rattle.sdd_domain.specs.Tokens.{place_of, home_of, own_of, IsSame};
 ghost use Rattle.shared_index_tests.specs.Scenes.{CanBegin};
 
-use crate::calls::{
-    Index, Numbers, asked, audit, close, commit, ended, leave, opened, reclaim, registered,
-};
+use crate::calls::{Index, asked, audit, close, commit, ended, leave, opened, reclaim, registered};
 use crate::place::{Item, ROOM, one, two};
-use sdd_base::sizes::Sizes;
 use sdd_domain::domain::Domain;
 use sdd_domain::local::Local;
+use sdd_plain::sizes::Sizes;
 use serial_history::{Answer, Audit, Cause, Query, Receipt, Refused};
 use shared_index::{Naming, Share, SharedIndex};
 use std::alloc::Global;
@@ -35,17 +33,18 @@ pub(crate) fn place_for(participants: usize, slots: usize) -> Sizes
 }
 
 /// An empty index with so many shares.
-pub(crate) fn begun<'d, L: Naming, R: Abort>(
+pub(crate) fn begun<'d, L: Naming, R: Abort, const S: usize>(
     rt: &R,
     alloc: Global,
     domain: &'d Domain<Item>,
     local: Local<Item>,
     blank: Blank,
     shares: usize,
-) -> (Numbers<'d, L>, Vec<Share<L>>)
+) -> (Index<'d, L, S>, Vec<Share<L>>)
     requires begins { CanBegin L.place L.name L.parts shares domain.now local blank }
     requires last { L.last ≡ 18446744073709551615 }
     requires some { 0 < shares }
+    requires size { (1 ≤ S) × (S ≤ 225) }
 {
     match SharedIndex::new(alloc, domain, local, blank, shares) {
         Ok(made) => made,
@@ -85,10 +84,10 @@ pub(crate) fn closed<L: Naming, R: Abort, const S: usize>(
 }
 
 /// Commits an upsert that rests on a read of one key: whether it was accepted.
-pub(crate) fn swap<L: Naming, R: Wait>(
+pub(crate) fn swap<L: Naming, R: Wait, const S: usize>(
     rt: &R,
     alloc: Global,
-    index: &Numbers<'_, L>,
+    index: &Index<'_, L, S>,
     share: &mut Share<L>,
     key: u64,
     old: Option<u64>,
@@ -114,10 +113,10 @@ pub(crate) fn swap<L: Naming, R: Wait>(
 }
 
 /// So many upserts of one key, which nobody else writes, each resting on the one before: whether all were accepted.
-pub(crate) fn own_key<L: Naming, R: Wait>(
+pub(crate) fn own_key<L: Naming, R: Wait, const S: usize>(
     rt: &R,
     alloc: Global,
-    index: &Numbers<'_, L>,
+    index: &Index<'_, L, S>,
     share: &mut Share<L>,
     key: u64,
     last: u64,
@@ -133,9 +132,28 @@ pub(crate) fn own_key<L: Naming, R: Wait>(
     true
 }
 
+/// So many upserts of one key, which rest on nothing, and of which none is reclaimed: whether all were accepted.
+pub(crate) fn upserts<L: Naming, R: Wait + Abort, const S: usize>(
+    rt: &R,
+    alloc: Global,
+    index: &Index<'_, L, S>,
+    share: &mut Share<L>,
+    key: u64,
+    last: u64,
+) -> bool {
+    let blank = Receipt::blank(alloc);
+    for value in 1..=last {
+        let writes = one(rt, alloc, Write::Upsert(key, value));
+        if commit(rt, index, share, &blank, writes).is_err() {
+            return false;
+        }
+    }
+    true
+}
+
 /// One session for at least this number, which records two keys: its receipt, if both had the same value.
-pub(crate) fn twins<L: Naming>(
-    index: &Numbers<'_, L>,
+pub(crate) fn twins<L: Naming, const S: usize>(
+    index: &Index<'_, L, S>,
     local: &mut Local<Item>,
     at_least: u64,
 ) -> Option<Receipt<u64, u64>>
@@ -156,7 +174,10 @@ pub(crate) fn twins<L: Naming>(
 
 /// A hundred sessions of a participant of its own, each for at least the number of the one before: how many read one list,
 /// by what they read and by the audit of their receipts. None if no participant was free.
-pub(crate) fn readings<L: Naming, R: Wait>(rt: &R, index: &Numbers<'_, L>) -> Option<u32> {
+pub(crate) fn readings<L: Naming, R: Wait, const S: usize>(
+    rt: &R,
+    index: &Index<'_, L, S>,
+) -> Option<u32> {
     let domain = index.domain();
     let mut local = registered(domain)?;
     let mut right: u32 = 0;
@@ -174,10 +195,10 @@ pub(crate) fn readings<L: Naming, R: Wait>(rt: &R, index: &Numbers<'_, L>) -> Op
 }
 
 /// A hundred commits that give two keys the same value: whether all were accepted.
-pub(crate) fn writings<L: Naming, R: Wait + Abort>(
+pub(crate) fn writings<L: Naming, R: Wait + Abort, const S: usize>(
     rt: &R,
     alloc: Global,
-    index: &Numbers<'_, L>,
+    index: &Index<'_, L, S>,
     share: &mut Share<L>,
 ) -> bool {
     let blank = Receipt::blank(alloc);
@@ -192,10 +213,10 @@ pub(crate) fn writings<L: Naming, R: Wait + Abort>(
 }
 
 /// Commits writes that rest on nothing. The share counts the commit, if it was accepted.
-pub(crate) fn write<L: Naming, R: Wait>(
+pub(crate) fn write<L: Naming, R: Wait, const S: usize>(
     rt: &R,
     alloc: Global,
-    index: &Numbers<'_, L>,
+    index: &Index<'_, L, S>,
     share: &mut Share<L>,
     writes: Vec<Write<u64, u64>>,
 ) {
@@ -203,10 +224,10 @@ pub(crate) fn write<L: Naming, R: Wait>(
 }
 
 /// So many commits, which raise ten keys in turn, each followed by a reclaim.
-pub(crate) fn write_often<L: Naming, R: Wait + Abort>(
+pub(crate) fn write_often<L: Naming, R: Wait + Abort, const S: usize>(
     rt: &R,
     alloc: Global,
-    index: &Numbers<'_, L>,
+    index: &Index<'_, L, S>,
     share: &mut Share<L>,
     count: u64,
 ) {
@@ -223,9 +244,9 @@ pub(crate) fn all() -> Query<u64> {
 }
 
 /// All pairs, as a session for at least this number reads them.
-pub(crate) fn listed<L: Naming, R: Abort>(
+pub(crate) fn listed<L: Naming, R: Abort, const S: usize>(
     rt: &R,
-    index: &Numbers<'_, L>,
+    index: &Index<'_, L, S>,
     local: &mut Local<Item>,
     at_least: u64,
 ) -> Answer<u64, u64>

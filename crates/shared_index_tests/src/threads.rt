@@ -1,6 +1,6 @@
 //! An index that two threads share.
 
-use crate::calls::{Numbers, reclaim};
+use crate::calls::{Index, reclaim};
 use crate::joined::Task::{CountsUp, Raises, Reads, Rests, Writes};
 use crate::joined::{Crowd, first_wrong};
 use crate::tasks::swap;
@@ -10,10 +10,10 @@ use std::sync::Wait;
 
 /// Counts a key up to a hundred beside others who do: each number is written by one of them. How many this one wrote; none
 /// where a commit was refused for another reason.
-pub(crate) fn same_key<L: Naming, R: Wait>(
+pub(crate) fn same_key<L: Naming, R: Wait, const S: usize>(
     rt: &R,
     alloc: Global,
-    index: &Numbers<'_, L>,
+    index: &Index<'_, L, S>,
     share: &mut Share<L>,
 ) -> Option<u64> {
     let mut wrote = 0;
@@ -32,6 +32,7 @@ const A_KEY_EACH: Crowd = Crowd {
     participants: 3,
     slots: 1024,
     shares: 2,
+    is_wide: false,
     tasks: [Raises(1, 100), Raises(2, 100), Rests, Rests, Rests, Rests],
     told: [Some(100), Some(100), None, None, None, None],
     number: 200,
@@ -43,6 +44,7 @@ const ONE_KEY: Crowd = Crowd {
     participants: 3,
     slots: 1024,
     shares: 2,
+    is_wide: false,
     tasks: [CountsUp, CountsUp, Rests, Rests, Rests, Rests],
     told: [Some(1), Some(1), None, None, None, None],
     number: 100,
@@ -54,6 +56,7 @@ const READS_BESIDE_COMMITS: Crowd = Crowd {
     participants: 3,
     slots: 1024,
     shares: 1,
+    is_wide: false,
     tasks: [Reads, Writes, Rests, Rests, Rests, Rests],
     told: [Some(100), Some(100), None, None, None, None],
     number: 100,

@@ -215,7 +215,7 @@ fn kept_on<L: Naming + Send + Sync, R: Threads + Wait + Abort + Sync>(
     requires begins { CanBegin L.place L.name L.parts 1 domain.now local blank }
     requires last { L.last ≡ 18446744073709551615 }
 {
-    let (index, mut shares) = begun::<L, R>(rt, alloc, domain, local, blank, 1);
+    let (index, mut shares) = begun::<L, R, 2>(rt, alloc, domain, local, blank, 1);
     let mut share = taken(rt, &mut shares);
     let mut reader = member(rt, domain);
     let (receipt, is_first) = match how {

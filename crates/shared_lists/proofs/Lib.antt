@@ -1,2 +1,5 @@
 pub mod Made
+pub mod Pushes
 pub mod StillLemmas
+pub mod TagLemmas
+pub mod WalkLemmas

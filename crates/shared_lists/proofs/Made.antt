@@ -1,7 +1,7 @@
 -- steps on cells before and behind others
 use Rattle.std.proofs.Common.{◌≡◌, ◌⊎◌, ⊎_elim, ℕ, ◌++◌, [], ◌∷◌, append_assoc, append-nil, sym, ap, ◌∙◌}
 use Rattle.sdd_domain.specs.CellSteps.{CellStep, cell_steps_of, HasMade, HasMadeSome, HasMadeOne, StepsOnNoCell, HasReadCell, HasExchanged, HasFoundLast, HasReadOften, HasRetagged, step_on}
-use Rattle.sdd_base.specs.Epochs.{tag_number}
+use Rattle.sdd_plain.specs.Epochs.{tag_number}
 use Rattle.sdd_domain.specs.Comparing.{code_of}
 use Rattle.sdd_domain.specs.declared.pointer.Ptr.{Ptr}
 use Rattle.sdd_domain.specs.Tokens.{home_of}

@@ -2,8 +2,8 @@
 use Rattle.std.proofs.Common.{◌≡◌, ◌<◌, ◌+◌, ◌-◌, ◌==◌, zero, suc, ℕ, true, false, cond, refl, sym, ap, ◌∙◌, subst, arith}
 use Rattle.std.specs.Prelude.{nat_lt, ◌≤◌}
 use Rattle.std.proofs.lemmas.Bool.Decides.{nat_tests}
-use Rattle.sdd_base.specs.Steps.{closings_after, scans}
-use Rattle.sdd_base.specs.declared.status.LocalState.{LocalState}
+use Rattle.sdd_plain.specs.Locals.{closings_after, scans}
+use Rattle.sdd_plain.specs.declared.local_state.LocalState.{LocalState}
 use Rattle.sdd_domain.specs.Tokens.{born_of, own_of, nest_in, waiting_of, begun, closed, IsInNestButMisses, IsSame}
 use Rattle.sdd_domain.specs.declared.domain.Domain.{Domain}
 use Rattle.sdd_domain.specs.declared.local.Local.{Local}

@@ -13,13 +13,13 @@ use sdd_domain::pointer::Ptr;
 use std::alloc::Global;
 
 /// A cell for each slot of a place: it owns what follows the item of that slot. All containers of the place use the same
-/// links, since an item stands in one of them at most. They must be spent by `end`.
+/// links, since an item stands in one of them at most. They must be consumed by `end`.
 pub struct Links<T> {
     row: Row<T>,
 }
 
 impl<T: Holds> Links<T> {
-    ghost use Rattle.sdd_base.specs.Epochs.{tag_number};
+    ghost use Rattle.sdd_plain.specs.Epochs.{tag_number};
     ghost use Rattle.sdd_domain.specs.CellSteps.{HasReadCell};
     ghost use Rattle.sdd_domain.specs.Comparing.{code_of};
     ghost use Rattle.sdd_domain.specs.Pointers.{ptr_slot, ptr_tag};
@@ -85,7 +85,7 @@ impl<T: Holds> Links<T> {
     }
 }
 
-/// Cells of a place, one after another. They must be spent by `end`.
+/// Cells of a place, one after another. They must be consumed by `end`.
 pub struct Row<T> {
     cells: Vec<AtomicShared<T>>,
     /// How many cells the place has.

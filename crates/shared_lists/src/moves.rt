@@ -8,12 +8,12 @@ ghost use Rattle.sdd_domain.specs.Sharing.{kept_in};
 ghost use Rattle.sdd_domain.specs.Tokens.{place_of, home_of, cell_count};
 ghost use Rattle.shared_lists.specs.Lists.{IsStill};
 
-use sdd_base::tag::Tag;
 use sdd_domain::atomic_shared::AtomicShared;
 use sdd_domain::domain::Domain;
 use sdd_domain::holds::Holds;
 use sdd_domain::local::Local;
 use sdd_domain::shared::Shared;
+use sdd_plain::tag::Tag;
 
 /// How often a call tries again: each time others were faster.
 pub const TRIES: u64 = u64::MAX;

@@ -1,7 +1,7 @@
 -- what owners that are alone, their cells and pointers show to clauses
 use Rattle.std.specs.Prelude.{◌≡◌, ℕ, ◌<◌, Option, None, Some}
 use Rattle.atomic_table.specs.Seated.{TableId}
-use Rattle.sdd_base.specs.declared.tag.Tag.{Tag}
+use Rattle.sdd_plain.specs.declared.tag.Tag.{Tag}
 use Rattle.sdd_domain.specs.Cells.{cell_number}
 use Rattle.sdd_domain.specs.Comparing.{owner_code, owner_slot, IsBack}
 use Rattle.sdd_domain.specs.Pointers.{ptr_slot, ptr_tag, ptr_item}

@@ -1,7 +1,7 @@
 -- what raw pointers and items that are out as raw ones show to clauses
 use Rattle.std.specs.Prelude.{◌≡◌, ℕ, ◌+◌, ◌*◌, ◌^◌, ◌<◌, Option, IfSome, length, slice_index_or}
-use Rattle.sdd_base.specs.Epochs.{tag_number}
-use Rattle.sdd_base.specs.declared.tag.Tag.{Tag}
+use Rattle.sdd_plain.specs.Epochs.{tag_number}
+use Rattle.sdd_plain.specs.declared.tag.Tag.{Tag}
 use Rattle.sdd_domain.specs.Cells.{cell_number}
 use Rattle.sdd_domain.specs.Comparing.{code_of}
 use Rattle.sdd_domain.specs.declared.atomic_shared.AtomicShared.{AtomicShared}

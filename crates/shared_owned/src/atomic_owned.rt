@@ -5,8 +5,6 @@ ghost use Rattle.shared_owned.specs.Alone.{owner_in};
 
 use crate::owned::Owned;
 use crate::pointer::OwnedPtr;
-use sdd_base::refusal::NoSlot;
-use sdd_base::tag::Tag;
 use sdd_domain::atomic_shared::AtomicShared;
 use sdd_domain::domain::Domain;
 use sdd_domain::guard::Guard;
@@ -14,6 +12,8 @@ use sdd_domain::holds::Holds;
 use sdd_domain::local::Local;
 use sdd_domain::pointer::{Named, Ptr};
 use sdd_domain::shared::Shared;
+use sdd_plain::refusal::NoSlot;
+use sdd_plain::tag::Tag;
 
 /// A cell of a place: it has the one owner of an item, or nothing, and a tag of two bits. Its type tells which items its place
 /// has.
@@ -42,7 +42,7 @@ fn alone<T>(owner: Option<Shared<T>>) -> Option<Owned<T>>
 }
 
 impl<T: Holds> AtomicOwned<T> {
-    ghost use Rattle.sdd_base.specs.Epochs.{tag_number};
+    ghost use Rattle.sdd_plain.specs.Epochs.{tag_number};
     ghost use Rattle.sdd_domain.specs.CellSteps.{StepsOnNoCell, HasReadCell, HasExchanged, HasFoundLast, HasReadOften, HasRetagged};
     ghost use Rattle.sdd_domain.specs.Comparing.{code_of};
     ghost use Rattle.sdd_domain.specs.Pointers.{named_slot, named_tag};

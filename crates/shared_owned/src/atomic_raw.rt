@@ -4,7 +4,7 @@ ghost use Rattle.std.specs.Prelude.{◌≡◌, IfOk, IfErr, Some, None, Bool, Is
 ghost use Rattle.shared_owned.specs.declared.raw_ptr.RawPtr.{RawPtr};
 
 use crate::raw_ptr::RawPtr;
-use sdd_base::tag::Tag;
+use sdd_plain::tag::Tag;
 use std::marker::PhantomData;
 use std::sync::atomic::{AtomicU64, Ordering};
 

@@ -3,14 +3,14 @@
 ghost use Rattle.std.specs.Prelude.{◌≡◌, ◌+◌, ◌<◌, ◌||◌, [], Some, IfOk, IfErr, OnOk, OnErr, IsTrue, IsFalse};
 
 use crate::pointer::OwnedPtr;
-use sdd_base::refusal::NoSlot;
 use sdd_domain::domain::Domain;
 use sdd_domain::guard::Guard;
 use sdd_domain::holds::Holds;
 use sdd_domain::local::Local;
 use sdd_domain::shared::Shared;
+use sdd_plain::refusal::NoSlot;
 
-/// The one owner of an item, which stays, as it is, while it has it. It must be spent by `retire`, or put into a cell.
+/// The one owner of an item, which stays, as it is, while it has it. It must be consumed by `retire`, or put into a cell.
 pub struct Owned<T> {
     pub(crate) owner: Shared<T>,
 }

@@ -2,8 +2,8 @@
 
 ghost use Rattle.std.specs.Prelude.{◌≡◌, None, option_copied, IsTrue, ◌↔◌};
 
-use sdd_base::tag::Tag;
 use sdd_domain::pointer::Ptr;
+use sdd_plain::tag::Tag;
 
 /// A pointer to an item with one owner alone, or to nothing, with a tag, for as long as the guard is borrowed under which it
 /// was loaded. It gives no owner. Pointers are equal where they are to the item in one slot, or both to nothing, and their
@@ -15,7 +15,7 @@ pub struct OwnedPtr<'g, T> {
 
 /// The pointer to nothing, without a tag.
 impl<'g, T> Default for OwnedPtr<'g, T> {
-    ghost use Rattle.sdd_base.specs.declared.tag.Tag.TheVariants as tags;
+    ghost use Rattle.sdd_plain.specs.declared.tag.Tag.TheVariants as tags;
     ghost use Rattle.shared_owned.specs.Alone.{pointer_slot, pointer_tag};
 
     ghost is_default = { λ r. (pointer_slot r ≡ None) × (pointer_tag r ≡ tags.None) };

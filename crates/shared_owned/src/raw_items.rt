@@ -9,13 +9,13 @@ ghost use Rattle.sdd_domain.specs.Tokens.{place_of, home_of, own_of, IsInNest};
 use crate::owned::Owned;
 use crate::pointer::OwnedPtr;
 use crate::raw_ptr::RawPtr;
-use sdd_base::tag::Tag;
 use sdd_domain::atomic_shared::AtomicShared;
 use sdd_domain::domain::Domain;
 use sdd_domain::guard::Guard;
 use sdd_domain::holds::Holds;
 use sdd_domain::local::Local;
 use sdd_domain::shared::Shared;
+use sdd_plain::tag::Tag;
 use std::alloc::Global;
 use thiserror::Error;
 
@@ -30,7 +30,7 @@ pub enum RawRefused {
     NoCell,
 }
 
-/// A cell for each slot of a place: it has the owner of the slot's item while that is out as a raw one. They must be spent by
+/// A cell for each slot of a place: it has the owner of the slot's item while that is out as a raw one. They must be consumed by
 /// `end`.
 pub struct RawItems<T> {
     cells: Vec<AtomicShared<T>>,
@@ -40,7 +40,7 @@ pub struct RawItems<T> {
 }
 
 impl<T: Holds> RawItems<T> {
-    ghost use Rattle.sdd_base.specs.declared.tag.Tag.TheVariants as tags;
+    ghost use Rattle.sdd_plain.specs.declared.tag.Tag.TheVariants as tags;
     ghost use Rattle.sdd_domain.specs.Tokens.{nest_of, nest_in, born_of, waiting_of, cell_count, slot_count};
     ghost use Rattle.sdd_domain.specs.CellSteps.{HasReadCell, HasExchanged};
     ghost use Rattle.shared_owned.specs.Alone.{place_in, sole_slot, sole_code, pointer_slot, pointer_tag, IsAsBefore};

@@ -2,7 +2,7 @@
 
 ghost use Rattle.std.specs.Prelude.{◌≡◌, None, IsTrue, ◌↔◌};
 
-use sdd_base::tag::Tag;
+use sdd_plain::tag::Tag;
 use std::marker::PhantomData;
 
 /// A pointer to an item that is out as a raw one, or to nothing, with a tag. It is plain data: it tells a slot, and doesn't
@@ -16,7 +16,7 @@ pub struct RawPtr<T> {
 
 /// The pointer to nothing, without a tag.
 impl<T> Default for RawPtr<T> {
-    ghost use Rattle.sdd_base.specs.declared.tag.Tag.TheVariants as tags;
+    ghost use Rattle.sdd_plain.specs.declared.tag.Tag.TheVariants as tags;
     ghost use Rattle.shared_owned.specs.Raw.{raw_slot, raw_tag};
 
     ghost is_default = { λ r. (raw_slot r ≡ None) × (raw_tag r ≡ tags.None) };

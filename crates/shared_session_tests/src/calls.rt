@@ -6,11 +6,11 @@ ghost use Rattle.sdd_domain.specs.Layout.{IsSized};
 ghost use Rattle.sdd_domain.specs.Tokens.{place_of, home_of, hand_of, own_of, cell_count, nest_in, IsInNest, IsSame};
 
 use crate::place::{Item, Twos};
-use sdd_base::sizes::Sizes;
 use sdd_domain::atomic_shared::AtomicShared;
 use sdd_domain::domain::Domain;
 use sdd_domain::local::Local;
 use sdd_domain::refusal::RegisterRefused;
+use sdd_plain::sizes::Sizes;
 use serial_history::{Answer, Query, Receipt};
 use shared_sessions::{OpenRefused, Root};
 use std::alloc::{AllocError, Global};

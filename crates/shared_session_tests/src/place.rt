@@ -10,9 +10,6 @@ ghost use Rattle.sdd_domain.specs.Tokens.{place_of, home_of, hand_of, own_of, ce
 ghost use Rattle.shared_versions.specs.Nodes.{held_by};
 
 use crate::calls::{closed, leave, made, registered, retire};
-use sdd_base::refusal::NoSlot;
-use sdd_base::sizes::Sizes;
-use sdd_base::tag::Tag;
 use sdd_domain::atomic_shared::AtomicShared;
 use sdd_domain::domain::Domain;
 use sdd_domain::held::Held;
@@ -20,6 +17,9 @@ use sdd_domain::holding::hold_last;
 use sdd_domain::local::Local;
 use sdd_domain::refusal::RegisterRefused;
 use sdd_domain::shared::Shared;
+use sdd_plain::refusal::NoSlot;
+use sdd_plain::sizes::Sizes;
+use sdd_plain::tag::Tag;
 use shared_sessions::SharedSession;
 use shared_versions::{Node, Version};
 use std::alloc::{AllocError, Global};

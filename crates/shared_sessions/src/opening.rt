@@ -32,9 +32,10 @@ impl<K: Clone + Ord, V: Clone + Eq, const S: usize> SharedSession<K, V, S> {
     /// Opens a session of the participant: a guard, and the version that the root is found to name under it, by one load.
     /// It takes no memory.
     ///
-    /// It is refused as `Nested` exactly where no more guards of the participant can be counted; as `NoVersion` where the root
-    /// named no version of segments of at most `S` pairs; and as `Earlier` exactly where the number of the version that it
-    /// loaded is below `at_least`, so 0 asks for nothing. Refused, the participant has as many guards open as before.
+    /// It is refused as `Nested` if and only if no more guards of the participant can be counted; as `NoVersion` where
+    /// the root named no version of segments of at most `S` pairs; and as `Earlier` if and only if the number of the
+    /// version that it loaded is below `at_least`, so 0 asks for nothing. Refused, the participant has as many guards
+    /// open as before.
     pub fn open(
         alloc: Global,
         domain: &Domain<Node<K, V>>,

@@ -97,7 +97,7 @@ impl<K: Clone + Ord, V: Clone + Eq, const S: usize> SharedSession<K, V, S> {
         self.view().walk(lower, upper)
     }
 
-    /// The answer to a query, which is also recorded as the last read of the receipt. Refused where memory is: then the
+    /// The answer to a query, which is also recorded as the last read of the receipt. Fails only if an allocation fails; then the
     /// receipt stays as it was.
     pub fn read(&mut self, query: Query<K>) -> Result<Answer<K, V>, AllocError>
         requires keys { ClonesAreSame K.is_clone }

@@ -19,7 +19,7 @@ use std::marker::Model;
 
 /// An open session: it reads the list of the version that it loaded, until it is closed, and keeps what it recorded.
 ///
-/// Contracts see the nest of its guard, the number and the list of its version, and its receipt. It must be spent by
+/// Contracts see the nest of its guard, the number and the list of its version, and its receipt. It must be consumed by
 /// `close`, with the participant that opened it.
 pub struct SharedSession<K: Ord, V, const S: usize> {
     pub(crate) session: Session<K, V, S>,

@@ -6,12 +6,12 @@ ghost use Rattle.sdd_domain.specs.Layout.{IsSized};
 ghost use Rattle.sdd_domain.specs.Sharing.{kept_in};
 ghost use Rattle.sdd_domain.specs.Tokens.{place_of, home_of, hand_of, own_of, cell_count, nest_of, nest_in, IsSame};
 
-use sdd_base::sizes::Sizes;
 use sdd_domain::atomic_shared::AtomicShared;
 use sdd_domain::domain::Domain;
 use sdd_domain::guard::Guard;
 use sdd_domain::local::Local;
 use sdd_domain::shared::Shared;
+use sdd_plain::sizes::Sizes;
 use shared_versions::{Node, Session, reclaim};
 use std::alloc::{AllocError, Global};
 use std::process::Abort;

@@ -9,11 +9,11 @@ use self::Told::{Done, Found, Placed, Refused, Used};
 use crate::place::{
     Item, cell_of, close, end, in_use, leave, member, opened, place, reclaimed, retire,
 };
-use sdd_base::refusal::NoSlot;
-use sdd_base::sizes::Sizes;
 use sdd_domain::atomic_shared::AtomicShared;
 use sdd_domain::domain::Domain;
 use sdd_domain::local::Local;
+use sdd_plain::refusal::NoSlot;
+use sdd_plain::sizes::Sizes;
 use shared_versions::{Present, Session, build, publish};
 use std::alloc::Global;
 use std::process::Abort;

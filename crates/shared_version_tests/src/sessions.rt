@@ -5,11 +5,11 @@ ghost use Rattle.sdd_domain.specs.Cells.{cell_number};
 ghost use Rattle.sdd_domain.specs.Tokens.{place_of, home_of, hand_of, own_of, cell_count, IsSame};
 
 use crate::place::{Item, cell_of, close, end, leave, member, opened, place, retire};
-use sdd_base::sizes::Sizes;
 use sdd_domain::atomic_shared::AtomicShared;
 use sdd_domain::domain::Domain;
 use sdd_domain::local::Local;
 use sdd_domain::shared::Shared;
+use sdd_plain::sizes::Sizes;
 use shared_versions::{Node, Version};
 use std::alloc::Global;
 use std::process::Abort;

@@ -15,20 +15,20 @@ use crate::node::{Node, Version};
 use crate::owners::{let_go, place_two, take_back};
 use crate::pairs::{all_owners, hold_all};
 use crate::room::Room;
-use sdd_base::refusal::NoSlot;
-use sdd_base::tag::Tag;
 use sdd_domain::atomic_shared::AtomicShared;
 use sdd_domain::domain::Domain;
 use sdd_domain::holds::Holds;
 use sdd_domain::local::Local;
 use sdd_domain::shared::Shared;
+use sdd_plain::refusal::NoSlot;
+use sdd_plain::tag::Tag;
 use std::alloc::Global;
 use std::marker::Model;
 use std::mem;
 use version_drafts::draft::Segments;
 use version_views::{Directory, VersionView};
 
-/// The present version, and one more owner of each of its segments, for the versions to come. It must be spent by `end`.
+/// The present version, and one more owner of each of its segments, for the versions to come. It must be consumed by `end`.
 ///
 /// Contracts see its place, and the version.
 pub struct Present<K: Ord, V, const S: usize> {
@@ -66,7 +66,7 @@ impl<K: Ord + Drop, V: Drop, const S: usize> Present<K, V, S> {
 }
 
 impl<K: Ord + Drop, V: Drop, const S: usize> Present<K, V, S> {
-    /// Places the empty list, with number 0: the present version, and an owner of it for a cell. Refused where no slot is
+    /// Places the empty list, with number 0: the present version, and an owner of it for a cell. Refused if no slot is
     /// free, which is one miss of the participant; then nothing is in use that wasn't before. It takes no memory.
     pub fn new(
         alloc: Global,

@@ -11,7 +11,7 @@ use sdd_domain::shared::Shared;
 use std::alloc::{AllocError, Global};
 
 /// Room for the owners of so many segments: for one of each and what is to be kept of it, until their version is placed; for
-/// those that the version holds, and those that the writer keeps. It must be spent, by `end` if nothing is placed.
+/// those that the version holds, and those that the writer keeps. It must be consumed by `end` if nothing is placed.
 pub(crate) struct Room<K: Ord, V> {
     pub(crate) owners: Vec<Shared<Node<K, V>>>,
     pub(crate) to_keep: Vec<ToKeep<K, V>>,

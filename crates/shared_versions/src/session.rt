@@ -15,7 +15,7 @@ use version_views::VersionView;
 
 /// Reads the version that was loaded under its guard, whatever is published meanwhile.
 ///
-/// Contracts see the nest of its guard, and the version. It must be spent by `into_guard`.
+/// Contracts see the nest of its guard, and the version. It must be consumed by `into_guard`.
 pub struct Session<K: Ord, V, const S: usize> {
     guard: Guard,
     reader: Reader<K, V, S>,

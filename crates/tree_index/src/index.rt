@@ -144,7 +144,7 @@ impl<K: Ord, V> TreeIndex<K, V> {
     }
 
     /// Inserts a pair whose key isn't there. A refused pair comes back, and the tree stays as it was: as a
-    /// duplicate exactly if a pair has the key, also where there is no memory for one more.
+    /// duplicate if and only if a pair has the key, also where there is no memory for one more.
     ///
     /// Where its leaf has no room, one key is cloned and room is taken for the leaves and nodes of one
     /// path, before anything is changed. A tree of `usize::MAX` pairs takes no more: that is answered

@@ -1,6 +1,7 @@
 pub mod CuttingLemmas
 pub mod DeltaLemmas
 pub mod GapLemmas
+pub mod ListedLemmas
 pub mod MergeLemmas
 pub mod RunLemmas
 pub mod RangeLemmas

@@ -1,10 +1,14 @@
 -- parts of a version that is being built
-use Rattle.std.specs.Prelude.{◌≡◌, ℕ, List, map, sum_by}
+use Rattle.std.specs.Prelude.{◌≡◌, ℕ, List, [], map, sum_by}
 use Rattle.tree_index.specs.Tree.{Tree}
 use Rattle.version_drafts.specs.declared.segments.Part.{Part}
 use Rattle.version_drafts.specs.declared.segments.Part.TheVariants as parts
 
 module _ {K V N : Type 0} where
+  -- where nothing is older, no name has pairs
+  abbrev pub no_pairs : N → List (K × V)
+  no_pairs name = []
+
   -- the pairs of a part, where older segments have these pairs by their names
   abbrev pub part_pairs : (N → List (K × V)) → Part K V N → List (K × V)
   part_pairs named (parts.Taken name) = named name

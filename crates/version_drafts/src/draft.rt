@@ -9,6 +9,7 @@ ghost use Rattle.version_drafts.specs.Parts.{blocks_of_parts, made_in};
 ghost use Rattle.version_views.specs.Writes.{after_writes, replies_to};
 
 use crate::changes::{apply, unchanged};
+pub use crate::listed::{listed, rising_until};
 use crate::merge::merged;
 pub use crate::segments::{Part, Segments, made_of};
 use std::alloc::{AllocError, Global};

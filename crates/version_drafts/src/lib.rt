@@ -8,6 +8,7 @@
 mod changes;
 pub mod draft;
 mod gone;
+mod listed;
 mod merge;
 mod scans;
 mod segments;

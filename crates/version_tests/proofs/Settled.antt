@@ -4,23 +4,23 @@ use Rattle.std.proofs.lemmas.List.{length-append, length-replicate}
 use Rattle.std.proofs.lemmas.List.Sums.{sum_by-append, sum_by-cons}
 use Rattle.std.specs.declared.cmp.Ordering.{Ordering}
 use Rattle.std.specs.List.{All}
-use Rattle.sdd_base.specs.Counting.{Counted, same_hold}
-use Rattle.sdd_base.specs.Holding.{Hold, SharedItem}
-use Rattle.sdd_base.specs.Place.{IsPlace}
-use Rattle.sdd_base.specs.State.{State, fresh, value_at, with_cell}
-use Rattle.sdd_base.specs.declared.owner.Kept.{Kept}
-use Rattle.sdd_base.specs.declared.sizes.Sizes.{Sizes}
-use Rattle.sdd_base.specs.declared.status.Cell.{Cell}
-use Rattle.sdd_base.specs.declared.status.Cell.TheVariants as cell
-use Rattle.sdd_base.specs.declared.status.Status.TheVariants as status
-use Rattle.sdd_base.proofs.CountLemmas.{owners_are_counted}
-use Rattle.sdd_base.proofs.PlaceLemmas.{get_or-replicate_default}
+use Rattle.sdd_world.specs.Counting.{Counted, same_hold}
+use Rattle.sdd_world.specs.Holding.{Hold, SharedItem}
+use Rattle.sdd_world.specs.Place.{IsPlace}
+use Rattle.sdd_world.specs.State.{State, fresh, value_at, with_cell}
+use Rattle.sdd_world.specs.declared.owner.Kept.{Kept}
+use Rattle.sdd_world.specs.declared.sizes.Sizes.{Sizes}
+use Rattle.sdd_world.specs.declared.status.Cell.{Cell}
+use Rattle.sdd_world.specs.declared.status.Cell.TheVariants as cell
+use Rattle.sdd_world.specs.declared.status.Status.TheVariants as status
+use Rattle.sdd_world.proofs.CountLemmas.{owners_are_counted}
+use Rattle.sdd_world.proofs.PlaceLemmas.{get_or-replicate_default}
 use Rattle.version_views.specs.Items.{held_by, slots_of}
-use Rattle.versions.specs.Placing.{CanBeShared, HasVersion, IsLevelled, Places, Plan}
+use Rattle.local_versions.specs.Placing.{CanBeShared, HasVersion, IsLevelled, Places, Plan}
 use Rattle.version_views.specs.declared.directory.Directory.{Directory}
 use Rattle.version_views.specs.declared.item.Item.{Item}
 use Rattle.version_views.specs.declared.item.Item.TheVariants as items
-use Rattle.versions.proofs.SharingLemmas.{segments_can_be_shared}
+use Rattle.local_versions.proofs.SharingLemmas.{segments_can_be_shared}
 
 module _ {K V : Type 0} {s : ℕ} where
   -- these owners are in hand, and there are at most n slots and cells

@@ -6,13 +6,13 @@ ghost use Rattle.std.specs.Ordering.{nat_cmp};
 ghost use Rattle.version_views.specs.Cuts.{IsCut};
 ghost use Rattle.version_drafts.specs.Parts.{blocks_of_parts, part_pairs};
 
+use local_versions::draft::{BaseVersion, Part, Segments, drafted};
+use local_versions::{Reply, Write, plain};
 use std::alloc::{AllocError, Global};
 use std::ops::Bound;
 use std::process::Abort;
 use std::test::Fail;
 use tree_index::TreeIndex;
-use versions::draft::{BaseVersion, Part, Segments, drafted};
-use versions::{Reply, Write, plain};
 
 // A version that is kept as a list of trees, whose names are their places.
 #[derive(Drop)]

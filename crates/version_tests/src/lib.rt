@@ -1,8 +1,10 @@
-//! Tests of `versions`, apart from it so that its proofs aren't made twice.
+//! Tests of `local_versions`, apart from it so that its proofs aren't made twice.
 #![tactic(auto)]
 
 #[cfg(test)]
 mod draft;
+#[cfg(test)]
+mod listed;
 #[cfg(test)]
 mod look_up;
 #[cfg(test)]

@@ -2,26 +2,28 @@
 
 ghost use Rattle.std.specs.Prelude.{◌≡◌, ◌<◌, ◌≤◌, ◌∷◌, [], ℕ, List, length};
 ghost use Rattle.std.specs.Ordering.{nat_cmp};
-ghost use Rattle.sdd_base.specs.Counting.{Counted};
-ghost use Rattle.sdd_base.specs.Holding.{SharedItem};
-ghost use Rattle.sdd_base.specs.Place.{IsShared};
-ghost use Rattle.sdd_base.specs.State.{value_at};
-ghost use Rattle.sdd_base.specs.Tokens.{shared_slot};
+ghost use Rattle.sdd_world.specs.Counting.{Counted};
+ghost use Rattle.sdd_world.specs.Holding.{SharedItem};
+ghost use Rattle.sdd_world.specs.Place.{IsShared};
+ghost use Rattle.sdd_world.specs.State.{value_at};
+ghost use Rattle.sdd_world.specs.Tokens.{shared_slot};
 ghost use Rattle.version_views.specs.Items.{held_by};
-ghost use Rattle.versions.specs.Placing.{HasVersion};
+ghost use Rattle.local_versions.specs.Placing.{HasVersion};
 ghost use Rattle.version_views.specs.Versions.{IsVersion};
 
-use sdd_base::job::NoJob;
-use sdd_base::owner::{Kept, Shared};
-use sdd_base::sizes::Sizes;
-use sdd_base::world::{World, shared};
+use local_versions::{
+    Built, Directory, Item, Write, build, look_up, look_up_counted, place, version,
+};
+use sdd_world::job::NoJob;
+use sdd_world::owner::{Kept, Shared};
+use sdd_world::sizes::Sizes;
+use sdd_world::world::{World, shared};
 use std::alloc::{AllocError, Global};
 use std::cell::Cell;
 use std::cmp::Ordering;
 use std::marker::Model;
 use std::process::Abort;
 use tree_index::Steps;
-use versions::{Built, Directory, Item, Write, build, look_up, look_up_counted, place, version};
 
 // A number as a key, which counts the comparisons that it is in.
 #[derive(Drop)]

@@ -1,25 +1,25 @@
 //! Placing versions, publishing them, and the slots that they take.
 
 ghost use Rattle.std.specs.Prelude.{◌≡◌, ◌<◌, ◌≤◌, ◌∷◌, [], List, length, Ok};
-ghost use Rattle.sdd_base.specs.Counting.{Counted};
-ghost use Rattle.sdd_base.specs.Holding.{Hold, SharedItem};
-ghost use Rattle.sdd_base.specs.Place.{IsShared};
-ghost use Rattle.sdd_base.specs.State.{value_at};
-ghost use Rattle.sdd_base.specs.Tokens.{shared_slot};
+ghost use Rattle.sdd_world.specs.Counting.{Counted};
+ghost use Rattle.sdd_world.specs.Holding.{Hold, SharedItem};
+ghost use Rattle.sdd_world.specs.Place.{IsShared};
+ghost use Rattle.sdd_world.specs.State.{value_at};
+ghost use Rattle.sdd_world.specs.Tokens.{shared_slot};
 ghost use Rattle.std.specs.Ordering.{nat_cmp};
-ghost use Rattle.versions.specs.Placing.{IsPlaceable};
+ghost use Rattle.local_versions.specs.Placing.{IsPlaceable};
 ghost use Rattle.version_views.specs.Items.{held_by};
 ghost use Rattle.version_views.specs.Versions.{IsVersion};
 
-use sdd_base::job::NoJob;
-use sdd_base::owner::{Kept, Shared};
-use sdd_base::sizes::Sizes;
-use sdd_base::world::{World, atomic_shared, guard, shared};
-use std::alloc::{AllocError, Global};
-use std::process::Abort;
-use versions::{
+use local_versions::{
     Built, Directory, Item, Reply, Write, build, len, look_up, place, publish, version,
 };
+use sdd_world::job::NoJob;
+use sdd_world::owner::{Kept, Shared};
+use sdd_world::sizes::Sizes;
+use sdd_world::world::{World, atomic_shared, guard, shared};
+use std::alloc::{AllocError, Global};
+use std::process::Abort;
 
 // Items of versions with two pairs in a segment.
 type Two = Item<u64, u64, 2>;

@@ -2,28 +2,28 @@
 
 ghost use Rattle.std.specs.Prelude.{◌≡◌, ◌<◌, ◌+◌, ◌-◌, ◌^◌, ◌∷◌, [], List, length, Ok};
 ghost use Rattle.std.specs.Ordering.{nat_cmp};
-ghost use Rattle.sdd_base.specs.Counting.{Counted};
-ghost use Rattle.sdd_base.specs.Holding.{Hold, SharedIn, SharedItem};
-ghost use Rattle.sdd_base.specs.Place.{IsOpen};
-ghost use Rattle.sdd_base.specs.State.{value_at};
-ghost use Rattle.sdd_base.specs.Tokens.{guard_participant, shared_cell, shared_slot};
+ghost use Rattle.sdd_world.specs.Counting.{Counted};
+ghost use Rattle.sdd_world.specs.Holding.{Hold, SharedIn, SharedItem};
+ghost use Rattle.sdd_world.specs.Place.{IsOpen};
+ghost use Rattle.sdd_world.specs.State.{value_at};
+ghost use Rattle.sdd_world.specs.Tokens.{guard_participant, shared_cell, shared_slot};
 ghost use Rattle.std.specs.List.{All};
 ghost use Rattle.version_views.specs.Items.{held_by, slots_of};
-ghost use Rattle.versions.specs.Placing.{CanBeShared, IsPlaceable};
+ghost use Rattle.local_versions.specs.Placing.{CanBeShared, IsPlaceable};
 ghost use Rattle.version_views.specs.Versions.{IsVersion};
 
-use sdd_base::cell::AtomicShared;
-use sdd_base::epoch::Epoch;
-use sdd_base::guard::WorldGuard;
-use sdd_base::job::NoJob;
-use sdd_base::owner::{Kept, Shared};
-use sdd_base::pointer::Ptr;
-use sdd_base::sizes::Sizes;
-use sdd_base::world::{World, atomic_shared, guard, shared};
+use local_versions::{Built, Directory, Item, Write, build, place, publish, version};
 use sdd_steps::{Item as Counterpart, ItemState, Seq, State, Step, apply};
+use sdd_world::cell::AtomicShared;
+use sdd_world::epoch::Epoch;
+use sdd_world::guard::WorldGuard;
+use sdd_world::job::NoJob;
+use sdd_world::owner::{Kept, Shared};
+use sdd_world::pointer::Ptr;
+use sdd_world::sizes::Sizes;
+use sdd_world::world::{World, atomic_shared, guard, shared};
 use std::alloc::Global;
 use std::process::Abort;
-use versions::{Built, Directory, Item, Write, build, place, publish, version};
 
 // Items of versions with two pairs in a segment.
 type Two = Item<u64, u64, 2>;
@@ -244,7 +244,7 @@ struct Known {
     second: Ptr<'static, Two>,
 }
 
-// Whether the place has a version, by a pointer to it and its number, exactly where the steps have its item.
+// Whether the place has a version, by a pointer to it and its number, if and only if the steps have its item.
 fn is_left(
     w: &World<Two, NoJob>,
     state: &State,

@@ -2,23 +2,23 @@
 
 ghost use Rattle.std.specs.Prelude.{◌<◌, ◌≤◌, ◌∷◌, [], ℕ, List, length};
 ghost use Rattle.std.specs.Ordering.{nat_cmp};
-ghost use Rattle.sdd_base.specs.Counting.{Counted};
-ghost use Rattle.sdd_base.specs.Holding.{SharedItem};
-ghost use Rattle.sdd_base.specs.Place.{IsShared};
-ghost use Rattle.sdd_base.specs.Tokens.{shared_slot};
+ghost use Rattle.sdd_world.specs.Counting.{Counted};
+ghost use Rattle.sdd_world.specs.Holding.{SharedItem};
+ghost use Rattle.sdd_world.specs.Place.{IsShared};
+ghost use Rattle.sdd_world.specs.Tokens.{shared_slot};
 ghost use Rattle.version_views.specs.Items.{held_by};
-ghost use Rattle.versions.specs.Placing.{HasVersion};
+ghost use Rattle.local_versions.specs.Placing.{HasVersion};
 
-use sdd_base::job::NoJob;
-use sdd_base::owner::Shared;
-use sdd_base::sizes::Sizes;
-use sdd_base::world::{World, guard, shared};
+use local_versions::{
+    Built, Item, LocalNearby, LocalWalk, Nearby, Write, build, locate, place, version, walk,
+};
+use sdd_world::job::NoJob;
+use sdd_world::owner::Shared;
+use sdd_world::sizes::Sizes;
+use sdd_world::world::{World, guard, shared};
 use std::alloc::Global;
 use std::ops::Bound;
 use std::process::Abort;
-use versions::{
-    Built, Item, LocalNearby, LocalWalk, Nearby, Write, build, locate, place, version, walk,
-};
 
 // A place with a version of these pairs, and the empty one.
 struct Held<const S: usize> {

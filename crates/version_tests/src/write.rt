@@ -1,11 +1,11 @@
 //! Writes and replies as values.
 
+use local_versions::{Reply, Write};
 use std::alloc::{AllocError, Global};
 use std::fmt;
 use std::ops::Bound;
 use std::process::Abort;
 use std::test::Fail;
-use versions::{Reply, Write};
 
 // Whether a value is printed like this.
 fn prints<T: fmt::Debug>(alloc: Global, value: &T, wanted: &str) -> Result<bool, AllocError> {

@@ -1,23 +1,23 @@
-//! Single changes of a list that hangs from a cell, for crates that make containers. `sdd` doesn't pass them on.
+//! Single changes of a list that hangs from a cell, for crates that make containers. `world_containers` doesn't pass them on.
 
 ghost use Rattle.std.specs.Prelude.{◌≡◌, Some, None, Option, [], length, IfNone, IfSome, cond, ◌+◌, ◌<◌};
 ghost use Rattle.std.specs.Fn.{FnOnceReturnsAt};
 ghost use Rattle.std.specs.Option.{option_copied};
-ghost use Rattle.sdd_base.specs.State.{IsFreeCell, cell_at, status_at, with_cell};
-ghost use Rattle.sdd_base.specs.Frame.{OnlyParticipant};
-ghost use Rattle.sdd_base.specs.Place.{IsSharedCell};
-ghost use Rattle.sdd_base.specs.Tokens.{shared_cell, shared_slot, shared_slots, link_cell};
+ghost use Rattle.sdd_world.specs.State.{IsFreeCell, cell_at, status_at, with_cell};
+ghost use Rattle.sdd_world.specs.Frame.{OnlyParticipant};
+ghost use Rattle.sdd_world.specs.Place.{IsSharedCell};
+ghost use Rattle.sdd_world.specs.Tokens.{shared_cell, shared_slot, shared_slots, link_cell};
 ghost use Rattle.sdd_lists.specs.Chain.{Entry, IsItem, IsList, Hangs, HasLink, IsDetached, TookFirst, Stays, CanHang, deleted, BeginsWithItem, skip, undeleted, first_item, first_slot, front_tag, slots, SameUses, MoreOwners, OneMore};
 ghost use Rattle.sdd_lists.specs.Calls.{DropsFirst, Empties, HangsFirst, OfList, OnlyList};
 
 use crate::linked_list::LinkedList;
-use sdd_base::cell::AtomicShared;
-use sdd_base::job::Deferred;
-use sdd_base::link::Link;
-use sdd_base::owner::Shared;
-use sdd_base::status::{Cell, Status};
-use sdd_base::tag::Tag;
-use sdd_base::world::{World, atomic_shared, shared};
+use sdd_world::cell::AtomicShared;
+use sdd_world::job::Deferred;
+use sdd_world::link::Link;
+use sdd_world::owner::Shared;
+use sdd_world::status::{Cell, Status};
+use sdd_world::tag::Tag;
+use sdd_world::world::{World, atomic_shared, shared};
 
 /// The link of an item that is owned.
 pub fn link_of<L: LinkedList, J: Deferred>(w: &World<L, J>, owner: &Shared<L>) -> Link<L>

@@ -1,24 +1,24 @@
-//! Making the entries of containers, for crates that make these. `sdd` doesn't pass it on.
+//! Making the entries of containers, for crates that make these. `world_containers` doesn't pass it on.
 //!
 //! A function with a condition can call one that changes a place only if that has a condition as well: the borrow
 //! checker's proof covers no other. So those here have one that always holds.
 
 ghost use Rattle.std.specs.Prelude.{◌≡◌, ◌≤◌, length, IfOk, IfErr, IfSome, Some, None, [], ℕ};
-ghost use Rattle.sdd_base.specs.State.{NoCellFree, cell_at, status_at, with_cell};
-ghost use Rattle.sdd_base.specs.Tokens.{shared_slot};
+ghost use Rattle.sdd_world.specs.State.{NoCellFree, cell_at, status_at, with_cell};
+ghost use Rattle.sdd_world.specs.Tokens.{shared_slot};
 ghost use Rattle.sdd_lists.specs.Chain.{Leaves, Stays};
 ghost use Rattle.sdd_lists.specs.Entries.{entry_value, entry_link};
 ghost use Rattle.sdd_lists.specs.Making.{IsMade};
 ghost use Rattle.sdd_lists.specs.Calls.{MakesEntry, NoRoom};
 
 use crate::linked_entry::LinkedEntry;
-use sdd_base::job::Deferred;
-use sdd_base::owner::Shared;
-use sdd_base::status::{Cell, Status};
-use sdd_base::tag::Tag;
-use sdd_base::world::{World, atomic_shared, shared};
+use sdd_world::job::Deferred;
+use sdd_world::owner::Shared;
+use sdd_world::status::{Cell, Status};
+use sdd_world::tag::Tag;
+use sdd_world::world::{World, atomic_shared, shared};
 
-/// An entry of `value` that is clear and has no next one, exactly if a cell is free; else `value` comes back.
+/// An entry of `value` that is clear and has no next one, if and only if a cell is free; else `value` comes back.
 pub(crate) fn link<T, J: Deferred>(
     w: &mut World<LinkedEntry<T>, J>,
     value: T,
@@ -55,7 +55,8 @@ pub(crate) fn undo<T, J: Deferred>(w: &mut World<LinkedEntry<T>, J>, entry: Link
     }
 }
 
-/// Makes an item of a clear entry of value, with one owner, exactly if a slot and a cell are free; else value comes back.
+/// Makes an item of a clear entry of value, with one owner, if and only if a slot and a cell are free; else value comes
+/// back.
 pub fn make_one<T, J: Deferred>(
     w: &mut World<LinkedEntry<T>, J>,
     value: T,

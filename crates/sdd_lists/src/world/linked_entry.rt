@@ -1,8 +1,8 @@
 //! Making entries.
 
 ghost use Rattle.std.specs.Prelude.{◌≡◌, ◌≤◌, length, IfOk, IfErr, OnErr, IsErrOf, []};
-ghost use Rattle.sdd_base.specs.State.{NoCellFree, status_at};
-ghost use Rattle.sdd_base.specs.Tokens.{shared_slot};
+ghost use Rattle.sdd_world.specs.State.{NoCellFree, status_at};
+ghost use Rattle.sdd_world.specs.Tokens.{shared_slot};
 ghost use Rattle.sdd_lists.specs.Chain.{Leaves, Stays};
 ghost use Rattle.sdd_lists.specs.Copies.{ClonesAreSame};
 ghost use Rattle.sdd_lists.specs.Entries.{entry_value};
@@ -12,13 +12,13 @@ ghost use Rattle.sdd_lists.specs.Calls.{MakesEntry, NoRoom};
 use crate::linked_entry::LinkedEntry;
 use crate::refusal::NotMade;
 use crate::world::entries;
-use sdd_base::job::Deferred;
-use sdd_base::owner::Shared;
-use sdd_base::status::{Cell, Status};
-use sdd_base::tag::Tag;
-use sdd_base::world::World;
+use sdd_world::job::Deferred;
+use sdd_world::owner::Shared;
+use sdd_world::status::{Cell, Status};
+use sdd_world::tag::Tag;
+use sdd_world::world::World;
 
-/// An entry of `value` that is clear and has no next one, exactly if a cell is free; else `value` comes back.
+/// An entry of `value` that is clear and has no next one, if and only if a cell is free; else `value` comes back.
 pub fn new<T, J: Deferred>(w: &mut World<LinkedEntry<T>, J>, value: T) -> Result<LinkedEntry<T>, T>
     ensures made { IfOk result (λ e. MakesEntry w.old w.new e value) }
     ensures refused { IfErr result (λ v. (v ≡ value) × (w.new ≡ w.old) × NoCellFree w.old) }
@@ -28,7 +28,7 @@ pub fn new<T, J: Deferred>(w: &mut World<LinkedEntry<T>, J>, value: T) -> Result
     entries::link(w, value)
 }
 
-/// An entry of a clone of the value, which is clear and has no next one. Refused where the value's clone is, and where no
+/// An entry of a clone of the value, which is clear and has no next one. Fails only if the value's clone fails or no
 /// cell is free; then nothing has changed. Condition: a clone is the value itself.
 pub fn clone<T: Clone, J: Deferred>(
     w: &mut World<LinkedEntry<T>, J>,
@@ -51,8 +51,8 @@ pub fn clone<T: Clone, J: Deferred>(
     }
 }
 
-/// Makes an item of a clear entry of `value`, which is in no list and has one owner, exactly if a slot and a cell are free;
-/// else `value` comes back and nothing changes.
+/// Makes an item of a clear entry of `value`, which is in no list and has one owner, if and only if a slot and a cell
+/// are free; else `value` comes back and nothing changes.
 pub fn place<T, J: Deferred>(
     w: &mut World<LinkedEntry<T>, J>,
     value: T,

@@ -1,25 +1,25 @@
 //! The calls of `LinkedList` over a `World`: an entry is named by a pointer.
 
 ghost use Rattle.std.specs.Prelude.{◌≡◌, ◌<◌, ◌+◌, ℕ, List, [], ◌∷◌, true, ◌↔◌, cond, Some, IfSome, IfNone, IfOk, IfErr, OnOk, IsErr, IsTrue, IsFalse, not};
-ghost use Rattle.sdd_base.specs.Tokens.{ptr_slot, ptr_tag, link_cell, shared_slot};
-ghost use Rattle.sdd_base.specs.State.{status_at, with_status};
-ghost use Rattle.sdd_base.specs.Place.{IsShared};
-ghost use Rattle.sdd_base.specs.Steps.{released};
-ghost use Rattle.sdd_base.specs.declared.tag.Tag.{Tag};
+ghost use Rattle.sdd_world.specs.Tokens.{ptr_slot, ptr_tag, link_cell, shared_slot};
+ghost use Rattle.sdd_world.specs.State.{status_at, with_status};
+ghost use Rattle.sdd_world.specs.Place.{IsShared};
+ghost use Rattle.sdd_world.specs.Steps.{released};
+ghost use Rattle.sdd_world.specs.declared.tag.Tag.{Tag};
 ghost use Rattle.sdd_lists.specs.Chain.{Entry, IsList, Leaves, Stays, deleted, undeleted, skip, first_slot, front_tag};
 ghost use Rattle.sdd_lists.specs.Nodes.{NamesEntry, NamesSomeEntry, IsListed, CanInsert, Inserts, Retags, clear, marked};
 ghost use Rattle.sdd_lists.specs.Calls.{NextIsFull, OfInsertion, OfNode};
 
 use crate::linked_list::LinkedList;
 use crate::world::chain;
-use sdd_base::guard::WorldGuard;
-use sdd_base::job::Deferred;
-use sdd_base::link::Link;
-use sdd_base::owner::Shared;
-use sdd_base::pointer::Ptr;
-use sdd_base::status::Status;
-use sdd_base::tag::Tag;
-use sdd_base::world::{World, atomic_shared};
+use sdd_world::guard::WorldGuard;
+use sdd_world::job::Deferred;
+use sdd_world::link::Link;
+use sdd_world::owner::Shared;
+use sdd_world::pointer::Ptr;
+use sdd_world::status::Status;
+use sdd_world::tag::Tag;
+use sdd_world::world::{World, atomic_shared};
 
 /// The link of the entry that `at` names.
 fn link_at<L: LinkedList, J: Deferred>(w: &World<L, J>, at: &Ptr<'static, L>) -> Link<L>

@@ -1,4 +1,4 @@
-use Rattle.sdd_domain.specs.Tokens.{place_of}
+use Rattle.ordered_index.specs.Tokens.{place_of}
 use Rattle.shared_configuration.proofs.main.Given as goal
 
 abbrev pub ghosts-play-L-Ledger : goal.ghosts-play-L-Ledger

@@ -1,4 +1,5 @@
-use Rattle.std.proofs.Common.{◌≡◌, List}
+use Rattle.std.proofs.Common.{◌≡◌, ◌<◌, ℕ, List}
+use Rattle.sdd_steps.specs.State.{Has}
 use Rattle.sdd_homes.specs.declared.Garbage.{Garbage}
 use Rattle.domain_table.specs.Ledgers.{WaitsIn}
 use Rattle.domain_table.proofs.left.take_all_left.Given as goal
@@ -8,4 +9,5 @@ invariant-loop-number g l = record {
   seat : (l.place.table_id ≡ l.fn.place.table_id) × (l.place.id ≡ l.fn.place.id);
   taken : (ws : List Garbage) × WaitsIn l.sizes.slots ws l.bags × (l.place.me ≡ (record l.fn.place.me.0 { waits = ws }, l.fn.place.me.1));
   due : l.bags.due ≡ l.fn.bags.due;
+  looked : (q : ℕ) → q < l.number → Has l.looks.numbers.items q;
 }

@@ -1,5 +1,5 @@
 use Rattle.std.proofs.Common.{◌≡◌, ◌<◌, ◌≤◌, rules, arith, ap, sym, subst}
-use Rattle.sdd_base.specs.declared.sizes.Sizes.{Sizes}
+use Rattle.sdd_plain.specs.declared.sizes.Sizes.{Sizes}
 use Rattle.domain_table.specs.Chains.{AllBelow}
 use Rattle.domain_table.proofs.Takeovers.{takes_own}
 use Rattle.domain_table.proofs.left.take_own.Goals as goal

@@ -5,7 +5,7 @@ use Rattle.domain_table.specs.Contents.{IsIn}
 use Rattle.domain_table.specs.Layout.{link_word}
 use Rattle.domain_table.specs.Rule.{Shows}
 use Rattle.domain_table.specs.Plays.{follow_then}
-use Rattle.sdd_base.specs.declared.sizes.Sizes.{Sizes}
+use Rattle.sdd_plain.specs.declared.sizes.Sizes.{Sizes}
 use Rattle.domain_table.proofs.Linking.{follows_link}
 use Rattle.domain_table.proofs.links.follow.Goals as goal
 

@@ -5,7 +5,7 @@ use Rattle.domain_table.specs.Contents.{IsIn}
 use Rattle.domain_table.specs.Layout.{link_word}
 use Rattle.domain_table.specs.Rule.{Shows}
 use Rattle.domain_table.specs.Plays.{load_link_then}
-use Rattle.sdd_base.specs.declared.sizes.Sizes.{Sizes}
+use Rattle.sdd_plain.specs.declared.sizes.Sizes.{Sizes}
 use Rattle.domain_table.proofs.Linking.{loads_link}
 use Rattle.domain_table.proofs.links.load_link.Goals as goal
 

@@ -1,5 +1,5 @@
 use Rattle.std.proofs.Common.{ℕ, subst}
-use Rattle.sdd_base.specs.Epochs.{tag_number}
+use Rattle.sdd_plain.specs.Epochs.{tag_number}
 use Rattle.domain_table.specs.Contents.{IsIn}
 use Rattle.domain_table.specs.Layout.{cell_word}
 use Rattle.domain_table.specs.Leases.{HasLeased}

@@ -1,6 +1,6 @@
 use Rattle.std.proofs.Common.{◌≡◌, ◌⊎◌, ℕ, ◌+◌, ◌*◌, ◌<◌, ◌≤◌, List, ◌∷◌, Some, IsSome, ap, sym, ◌∙◌, subst, refl, ⊎_elim, inl, inr, arith}
 use Rattle.atomic_table.specs.Table.{Me, rest}
-use Rattle.sdd_base.specs.declared.sizes.Sizes.{Sizes}
+use Rattle.sdd_plain.specs.declared.sizes.Sizes.{Sizes}
 use Rattle.sdd_homes.specs.declared.Filling.{Filling}
 use Rattle.sdd_homes.specs.Book.{home, part}
 use Rattle.domain_table.specs.Contents.{IsIn}

@@ -1,5 +1,5 @@
 use Rattle.std.proofs.Common.{◌≡◌}
-use Rattle.index_script.specs.Requests.{Insert, Upsert, Remove, Delete, Clear, Discard, Commit, Open, Close, Get, Has, Range, Near, Audit, Len, Number, Reclaim, Slots, name_of}
+use Rattle.index_script.specs.Requests.{Insert, Upsert, Remove, Delete, Clear, Discard, Commit, Open, Close, Get, Has, Range, Near, Audit, Len, Number, Reclaim, Slots, Checkpoint, name_of}
 use Rattle.index_script.proofs.NumberLemmas.{unknown_only, first_alone}
 use Rattle.index_script.proofs.request.bare.Goals as goal
 
@@ -24,6 +24,7 @@ returns-in_default c =
       | Number ↦ c.in_default.not-number
       | Reclaim ↦ c.in_default.not-reclaim
       | Slots ↦ c.in_default.not-slots
+      | Checkpoint ↦ c.in_default.not-checkpoint
     ])
 
 pub returns-in-insert : goal.returns-in-insert

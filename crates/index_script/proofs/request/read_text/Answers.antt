@@ -1,5 +1,5 @@
 use Rattle.std.proofs.Common.{◌≡◌}
-use Rattle.index_script.specs.Requests.{Insert, Upsert, Remove, Delete, Clear, Discard, Commit, Open, Close, Get, Has, Range, Near, Audit, Len, Number, Reclaim, Slots, name_of}
+use Rattle.index_script.specs.Requests.{Insert, Upsert, Remove, Delete, Clear, Discard, Commit, Open, Close, Get, Has, Range, Near, Audit, Len, Number, Reclaim, Slots, Checkpoint, name_of}
 use Rattle.index_script.proofs.NumberLemmas.{unknown_first, only_of_many}
 use Rattle.index_script.proofs.request.read_text.Goals as goal
 
@@ -24,6 +24,7 @@ returns-in_default-word c =
       | Number ↦ c.in_default-word.not-number
       | Reclaim ↦ c.in_default-word.not-reclaim
       | Slots ↦ c.in_default-word.not-slots
+      | Checkpoint ↦ c.in_default-word.not-checkpoint
     ])
 
 pub returns-in-clear : goal.returns-in-clear

@@ -1,5 +1,5 @@
 use Rattle.std.proofs.Common.{◌≡◌}
-use Rattle.ordered_index.specs.State.{IsSessionOf}
+use Rattle.local_index.specs.State.{IsSessionOf}
 use Rattle.local_bench.proofs.reads.record_all.Given as goal
 
 abbrev pub invariant-loop-probe : goal.invariant-loop-probe

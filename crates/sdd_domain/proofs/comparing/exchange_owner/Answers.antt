@@ -7,7 +7,7 @@ use Rattle.domain_table.specs.Layout.{cell_word}
 use Rattle.domain_table.specs.Owners.{besides}
 use Rattle.domain_table.specs.declared.board.Acting.{Acting}
 use Rattle.domain_table.specs.declared.board.Home.TheVariants.{Blank}
-use Rattle.sdd_base.specs.Epochs.{tag_number}
+use Rattle.sdd_plain.specs.Epochs.{tag_number}
 use Rattle.domain_table.specs.Contents.{IsIn}
 use Rattle.domain_table.proofs.Noted.{found_as}
 use Rattle.sdd_domain.proofs.Missed.{swapped, gets, start, more, is_back, fronts_still}

@@ -2,13 +2,13 @@ use Rattle.std.proofs.Common.{◌≡◌, ◌<◌, ◌≤◌, true, ℕ, List, �
 use Rattle.std.specs.VecDeque.{deque_capacity}
 use Rattle.atomic_table.specs.Seated.{TableId}
 use Rattle.atomic_table.specs.Table.{Me}
-use Rattle.sdd_base.specs.declared.sizes.Sizes.{Sizes}
+use Rattle.sdd_plain.specs.declared.sizes.Sizes.{Sizes}
 use Rattle.sdd_homes.specs.declared.Lease.{Lease}
 use Rattle.domain_table.specs.Ledgers.{WaitsIn}
 use Rattle.domain_table.specs.Contents.{blanks}
 use Rattle.domain_table.specs.Owners.{told}
 use Rattle.domain_table.specs.Layout.{claim_word, all_words, cell_word, packed}
-use Rattle.sdd_base.specs.Epochs.{tag_number}
+use Rattle.sdd_plain.specs.Epochs.{tag_number}
 use Rattle.sdd_domain.specs.Comparing.{owner_code}
 use Rattle.domain_table.specs.Leases.{IsFoundAs, life_number, row_told, lease_told, leased_homes, row_slots, all_below}
 use Rattle.domain_table.specs.Plays.{own_spare}

@@ -10,7 +10,7 @@ use Rattle.domain_table.specs.Plays.{with_step, own_spare}
 use Rattle.domain_table.specs.Owners.{told}
 use Rattle.domain_table.specs.Layout.{cell_word}
 use Rattle.domain_table.specs.declared.board.Plan.{Plan}
-use Rattle.sdd_base.specs.declared.sizes.Sizes.{Sizes}
+use Rattle.sdd_plain.specs.declared.sizes.Sizes.{Sizes}
 use Rattle.domain_table.specs.declared.board.Acting.{Acting}
 use Rattle.sdd_domain.proofs.CellSteps.{tag_few}
 use Rattle.sdd_domain.proofs.comparing.try_tag.Goals as goal

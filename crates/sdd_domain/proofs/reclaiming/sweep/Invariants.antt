@@ -1,25 +1,24 @@
-use Rattle.std.proofs.Common.{◌≡◌, ◌≤◌, ◌+◌, ℕ, ◌++◌, List, map}
-use Rattle.std.specs.VecDeque.{deque_len, deque_capacity}
+use Rattle.std.proofs.Common.{◌≡◌, ◌≤◌, ◌+◌, ℕ, ◌++◌, List, map, length}
+use Rattle.std.specs.VecDeque.{deque_capacity}
 use Rattle.sdd_steps.specs.State.{Has}
 use Rattle.sdd_homes.specs.declared.Garbage.{Garbage}
 use Rattle.sdd_homes.specs.declared.Lease.{Lease}
 use Rattle.domain_table.specs.Ledgers.{WaitsIn}
 use Rattle.domain_table.specs.Leases.{row_told, lease_told, row_slots}
-use Rattle.domain_garbage.specs.Bag.{Notes, AreAt}
-use Rattle.domain_garbage.specs.declared.private.Noted.{Noted}
+use Rattle.domain_garbage.specs.Bag.{IsKept, AreAt}
 use Rattle.sdd_domain.proofs.reclaiming.sweep.Given as goal
 
-abbrev pub invariant-loop-noted : goal.invariant-loop-noted
-invariant-loop-noted g l = record {
+abbrev pub invariant-loop-slot : goal.invariant-loop-slot
+invariant-loop-slot g l = record {
   seat : (l.place.table_id ≡ l.fn.place.table_id) × (l.place.id ≡ l.fn.place.id);
   swept : (k : ℕ) × (ws : List Garbage) × (ls : List Lease) × (cs : List Garbage) × AreAt l.fn.place.me.0.leases ls × (l.place.me ≡ (record l.fn.place.me.0 { slot = k; leases = ls; waits = ws; collected = cs }, l.fn.place.me.1));
   rows : (life : ℕ) → map row_told l.fn.rows.items ≡ map (lease_told life) l.fn.place.me.0.leases → map row_told l.rows.items ≡ map (lease_told life) l.place.me.0.leases;
   same : (deque_capacity l.rows ≡ deque_capacity l.fn.rows) × (row_slots l.rows.items ≡ row_slots l.fn.rows.items);
   waits : WaitsIn l.sizes.slots l.place.me.0.waits l.bags;
   due : l.bags.due ≡ l.fn.bags.due;
-  noted : Notes l.place.me.0.collected l.waiting.items × (deque_capacity l.waiting ≡ deque_capacity l.fn.waiting);
-  gone : (gone : List Noted) × (l.fn.waiting.items ≡ l.waiting.items ++ gone) × ((n : Noted) → Has gone n → n.note + 3 ≤ l.count);
+  kept : IsKept l.sizes.slots l.place.me.0.collected l.kept;
+  gone : (gone : List Garbage) × (l.fn.place.me.0.collected ≡ l.place.me.0.collected ++ gone) × ((w : Garbage) → Has gone w → w.age + 3 ≤ l.count);
 }
 
-abbrev pub decreases-loop-noted : goal.decreases-loop-noted
-decreases-loop-noted g l = deque_len l.waiting
+abbrev pub decreases-loop-slot : goal.decreases-loop-slot
+decreases-loop-slot g l = length l.place.me.0.collected

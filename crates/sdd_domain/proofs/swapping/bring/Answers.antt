@@ -1,7 +1,7 @@
 use Rattle.std.proofs.Common.{◌≡◌, ℕ, suc, ◌+◌, ◌∷◌, Some, IsSome, sym, refl, ap, ◌∙◌, subst, arith}
 use Rattle.atomic_table.specs.Table.{Me}
 use Rattle.sdd_homes.specs.declared.Owner.{Owner}
-use Rattle.sdd_base.specs.Epochs.{tag_number}
+use Rattle.sdd_plain.specs.Epochs.{tag_number}
 use Rattle.domain_table.specs.Layout.{packed}
 use Rattle.domain_table.specs.Owners.{item_in}
 use Rattle.domain_table.specs.Plays.{own_spare}

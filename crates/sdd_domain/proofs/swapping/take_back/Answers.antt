@@ -2,7 +2,7 @@ use Rattle.std.proofs.Common.{◌≡◌, ◌≢◌, ℕ, suc, ◌+◌, ◌-◌, 
 use Rattle.atomic_table.specs.Table.{Me}
 use Rattle.sdd_homes.specs.declared.Owner.{Owner}
 use Rattle.sdd_homes.specs.Book.{part}
-use Rattle.sdd_base.specs.Epochs.{tag_number}
+use Rattle.sdd_plain.specs.Epochs.{tag_number}
 use Rattle.domain_table.specs.Contents.{IsIn}
 use Rattle.domain_table.specs.Layout.{packed, Tells}
 use Rattle.domain_table.specs.Owners.{besides, slot_code, part_of, item_in}

@@ -1,5 +1,4 @@
 use Rattle.std.proofs.Common.{◌≡◌, ◌<◌, length}
-use Rattle.std.specs.VecDeque.{deque_capacity}
 use Rattle.sdd_table.specs.Steps.{purged, left_waiting}
 use Rattle.sdd_table.proofs.reclaim.purge.Given as goal
 
@@ -8,7 +7,7 @@ invariant-loop-slot g l = record {
   known : l.p < length l.table.participants;
   state : purged g.T.Holds.holds l.p l.waiting.items l.table ≡ purged g.T.Holds.holds l.initial.p l.initial.waiting.items l.initial.table;
   left : left_waiting g.T.Holds.holds l.p l.waiting.items l.table ≡ left_waiting g.T.Holds.holds l.initial.p l.initial.waiting.items l.initial.table;
-  room : deque_capacity l.waiting ≡ deque_capacity l.initial.waiting;
+  room : l.waiting.room ≡ l.initial.waiting.room;
 }
 
 abbrev pub decreases-loop-slot : goal.decreases-loop-slot

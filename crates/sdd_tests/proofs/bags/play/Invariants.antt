@@ -1,5 +1,5 @@
 use Rattle.std.proofs.Common.{◌<◌, length}
-use Rattle.sdd.specs.Bags.{IsSomeBag, bag_cells}
+use Rattle.world_containers.specs.Bags.{IsSomeBag, bag_cells}
 use Rattle.sdd_tests.proofs.bags.play.Given as goal
 
 abbrev pub invariant-loop-at : goal.invariant-loop-at

@@ -1,10 +1,10 @@
 use Rattle.std.proofs.Common.{sym, subst, ℕ}
-use Rattle.sdd_base.specs.Place.{IsShared}
-use Rattle.sdd_base.specs.State.{State}
-use Rattle.sdd.specs.Bags.{IsSomeBag, bag_cells}
-use Rattle.sdd.specs.Entries.{entry_link}
-use Rattle.sdd.proofs.BagLemmas.{released_bag}
-use Rattle.sdd.proofs.ChainLemmas.{item_shared}
+use Rattle.sdd_world.specs.Place.{IsShared}
+use Rattle.sdd_world.specs.State.{State}
+use Rattle.world_containers.specs.Bags.{IsSomeBag, bag_cells}
+use Rattle.world_containers.specs.Entries.{entry_link}
+use Rattle.world_containers.proofs.BagLemmas.{released_bag}
+use Rattle.world_containers.proofs.ChainLemmas.{item_shared}
 use Rattle.sdd_tests.proofs.bags.pop.Goals as goal
 
 pub as_ref-requires : goal.as_ref-requires

@@ -1,5 +1,5 @@
-use Rattle.sdd_base.specs.Tokens.{ptr_slot, shared_slot}
-use Rattle.sdd.proofs.InsertionLemmas.{can_insert_made}
+use Rattle.sdd_world.specs.Tokens.{ptr_slot, shared_slot}
+use Rattle.world_containers.proofs.InsertionLemmas.{can_insert_made}
 use Rattle.sdd_tests.proofs.entries.put_behind.Goals as goal
 
 pub push_back-requires-after_bounds : goal.push_back-requires-after_bounds

@@ -1,8 +1,8 @@
 use Rattle.std.proofs.Common.{◌∙◌, arith, refl, sym}
-use Rattle.sdd_base.specs.Tokens.{ptr_slot, shared_slot}
-use Rattle.sdd_base.specs.declared.tag.Tag.TheVariants as tag
-use Rattle.sdd.specs.Entries.{entry_link}
-use Rattle.sdd.proofs.InsertionLemmas.{can_insert_made, can_insert_retagged, new_shared}
+use Rattle.sdd_world.specs.Tokens.{ptr_slot, shared_slot}
+use Rattle.sdd_world.specs.declared.tag.Tag.TheVariants as tag
+use Rattle.world_containers.specs.Entries.{entry_link}
+use Rattle.world_containers.proofs.InsertionLemmas.{can_insert_made, can_insert_retagged, new_shared}
 use Rattle.sdd_tests.proofs.entries.put_behind_deleted.Goals as goal
 
 pub push_back-requires-after_bounds : goal.push_back-requires-after_bounds

@@ -1,5 +1,5 @@
-use Rattle.sdd.specs.Queues.{oldest_cell, newest_cell}
-use Rattle.sdd.proofs.FromIterLemmas.{queue_outlasts}
+use Rattle.world_containers.specs.Queues.{oldest_cell, newest_cell}
+use Rattle.world_containers.proofs.FromIterLemmas.{queue_outlasts}
 use Rattle.sdd_tests.proofs.fillings.copied_queue.Goals as goal
 
 pub returns-in-Ok-clause-list : goal.returns-in-Ok-clause-list

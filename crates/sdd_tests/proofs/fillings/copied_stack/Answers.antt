@@ -1,5 +1,5 @@
-use Rattle.sdd.specs.Stacks.{stack_cell}
-use Rattle.sdd.proofs.FromIterLemmas.{stack_outlasts}
+use Rattle.world_containers.specs.Stacks.{stack_cell}
+use Rattle.world_containers.proofs.FromIterLemmas.{stack_outlasts}
 use Rattle.sdd_tests.proofs.fillings.copied_stack.Goals as goal
 
 pub returns-in-Ok-clause-list : goal.returns-in-Ok-clause-list

@@ -1,6 +1,6 @@
 use Rattle.std.proofs.Common.{◌<◌, length}
-use Rattle.sdd.specs.Entries.{entry_link}
-use Rattle.sdd.specs.Queues.{IsSomeQueue, oldest_cell, newest_cell}
+use Rattle.world_containers.specs.Entries.{entry_link}
+use Rattle.world_containers.specs.Queues.{IsSomeQueue, oldest_cell, newest_cell}
 use Rattle.sdd_tests.proofs.fillings.queue_round.Given as goal
 
 abbrev pub invariant-loop-number : goal.invariant-loop-number

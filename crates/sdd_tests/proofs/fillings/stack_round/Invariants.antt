@@ -1,5 +1,5 @@
 use Rattle.std.proofs.Common.{◌<◌, length}
-use Rattle.sdd.specs.Stacks.{IsSomeStack, stack_cell}
+use Rattle.world_containers.specs.Stacks.{IsSomeStack, stack_cell}
 use Rattle.sdd_tests.proofs.fillings.stack_round.Given as goal
 
 abbrev pub invariant-loop-number : goal.invariant-loop-number

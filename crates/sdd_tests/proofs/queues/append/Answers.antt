@@ -1,8 +1,8 @@
 use Rattle.std.proofs.Common.{[], ◌∷◌, ◌++◌, sym, subst, arith}
-use Rattle.sdd_base.specs.State.{State}
-use Rattle.sdd.specs.Entries.{entry_link}
-use Rattle.sdd.specs.Queues.{IsQueue, oldest_cell, newest_cell}
-use Rattle.sdd.proofs.QueueLemmas.{spare_queue_owner}
+use Rattle.sdd_world.specs.State.{State}
+use Rattle.world_containers.specs.Entries.{entry_link}
+use Rattle.world_containers.specs.Queues.{IsQueue, oldest_cell, newest_cell}
+use Rattle.world_containers.proofs.QueueLemmas.{spare_queue_owner}
 use Rattle.sdd_tests.proofs.queues.append.Goals as goal
 
 pub returns-in-Ok-clause-list : goal.returns-in-Ok-clause-list

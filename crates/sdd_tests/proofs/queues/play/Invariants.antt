@@ -1,7 +1,7 @@
 use Rattle.std.proofs.Common.{◌<◌, length}
-use Rattle.sdd_base.specs.Place.{IsOpen}
-use Rattle.sdd.specs.Entries.{entry_link}
-use Rattle.sdd.specs.Queues.{IsSomeQueue, oldest_cell, newest_cell}
+use Rattle.sdd_world.specs.Place.{IsOpen}
+use Rattle.world_containers.specs.Entries.{entry_link}
+use Rattle.world_containers.specs.Queues.{IsSomeQueue, oldest_cell, newest_cell}
 use Rattle.sdd_tests.proofs.queues.play.Given as goal
 
 abbrev pub invariant-loop-at : goal.invariant-loop-at

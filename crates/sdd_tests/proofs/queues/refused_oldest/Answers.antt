@@ -1,7 +1,7 @@
 use Rattle.std.proofs.Common.{sym, subst}
-use Rattle.sdd_base.specs.State.{State}
-use Rattle.sdd.specs.Entries.{entry_link}
-use Rattle.sdd.specs.Queues.{IsQueue, oldest_cell, newest_cell}
+use Rattle.sdd_world.specs.State.{State}
+use Rattle.world_containers.specs.Entries.{entry_link}
+use Rattle.world_containers.specs.Queues.{IsQueue, oldest_cell, newest_cell}
 use Rattle.sdd_tests.proofs.queues.refused_oldest.Goals as goal
 
 pub returns-in-Err-clause-list : goal.returns-in-Err-clause-list

@@ -1,9 +1,9 @@
 use Rattle.std.proofs.Common.{sym, subst, ℕ}
-use Rattle.sdd_base.specs.State.{State}
-use Rattle.sdd.specs.Chain.{IsOut, slots}
-use Rattle.sdd.specs.Entries.{entry_link}
-use Rattle.sdd.specs.Queues.{IsQueue, oldest_cell, newest_cell}
-use Rattle.sdd.proofs.QueueLemmas.{queue_apart}
+use Rattle.sdd_world.specs.State.{State}
+use Rattle.world_containers.specs.Chain.{IsOut, slots}
+use Rattle.world_containers.specs.Entries.{entry_link}
+use Rattle.world_containers.specs.Queues.{IsQueue, oldest_cell, newest_cell}
+use Rattle.world_containers.proofs.QueueLemmas.{queue_apart}
 use Rattle.sdd_tests.proofs.queues.take.Goals as goal
 
 pub returns-in-Some-clause-list : goal.returns-in-Some-clause-list

@@ -1,6 +1,6 @@
 use Rattle.std.proofs.Common.{◌<◌, length}
-use Rattle.sdd.specs.Entries.{entry_link}
-use Rattle.sdd.specs.Queues.{IsSomeQueue, oldest_cell, newest_cell}
+use Rattle.world_containers.specs.Entries.{entry_link}
+use Rattle.world_containers.specs.Queues.{IsSomeQueue, oldest_cell, newest_cell}
 use Rattle.sdd_tests.proofs.random_calls.a_queue_is_a_list.Given as goal
 
 abbrev pub invariant-loop-step : goal.invariant-loop-step

@@ -1,5 +1,5 @@
 use Rattle.std.proofs.Common.{◌<◌, length}
-use Rattle.sdd.specs.Stacks.{IsSomeStack, stack_cell}
+use Rattle.world_containers.specs.Stacks.{IsSomeStack, stack_cell}
 use Rattle.sdd_tests.proofs.random_calls.a_stack_of_values_and_its_clones_are_a_list.Given as goal
 
 abbrev pub invariant-loop-step : goal.invariant-loop-step

@@ -1,10 +1,10 @@
 use Rattle.std.proofs.Common.{Option, ℕ}
-use Rattle.sdd_base.specs.Tokens.{ptr_slot}
-use Rattle.sdd_base.specs.declared.tag.Tag.TheVariants as tag
-use Rattle.sdd.specs.Entries.{entry_link}
-use Rattle.sdd.specs.Nodes.{NamesSomeEntry}
-use Rattle.sdd.specs.Stacks.{stack_cell}
-use Rattle.sdd.proofs.NodeLemmas.{not_null, retagged_first}
+use Rattle.sdd_world.specs.Tokens.{ptr_slot}
+use Rattle.sdd_world.specs.declared.tag.Tag.TheVariants as tag
+use Rattle.world_containers.specs.Entries.{entry_link}
+use Rattle.world_containers.specs.Nodes.{NamesSomeEntry}
+use Rattle.world_containers.specs.Stacks.{stack_cell}
+use Rattle.world_containers.proofs.NodeLemmas.{not_null, retagged_first}
 use Rattle.sdd_tests.proofs.stacks.change_first.Goals as goal
 
 pub delete_self-requires-after_bounds : goal.delete_self-requires-after_bounds

@@ -1,8 +1,8 @@
 use Rattle.std.proofs.Common.{Option, ℕ}
-use Rattle.sdd_base.specs.Tokens.{ptr_slot}
-use Rattle.sdd.specs.Entries.{entry_link}
-use Rattle.sdd.specs.Nodes.{NamesSomeEntry}
-use Rattle.sdd.proofs.NodeLemmas.{not_null}
+use Rattle.sdd_world.specs.Tokens.{ptr_slot}
+use Rattle.world_containers.specs.Entries.{entry_link}
+use Rattle.world_containers.specs.Nodes.{NamesSomeEntry}
+use Rattle.world_containers.proofs.NodeLemmas.{not_null}
 use Rattle.sdd_tests.proofs.stacks.is_tagged.Goals as goal
 
 pub is_clear-requires-after_bounds : goal.is_clear-requires-after_bounds

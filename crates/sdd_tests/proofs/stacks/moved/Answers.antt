@@ -1,10 +1,10 @@
 use Rattle.std.proofs.Common.{[], ◌∷◌}
-use Rattle.sdd_base.specs.declared.tag.Tag.TheVariants as tag
-use Rattle.sdd.specs.Chain.{links, slots}
-use Rattle.sdd.specs.Entries.{entry_link}
-use Rattle.sdd.specs.Stacks.{stack_cell}
-use Rattle.sdd.proofs.ChainLemmas.{hung_left, hung_out, free_cell_out, out_of_none}
-use Rattle.sdd.proofs.ReleaseLemmas.{out_of_one}
+use Rattle.sdd_world.specs.declared.tag.Tag.TheVariants as tag
+use Rattle.world_containers.specs.Chain.{links, slots}
+use Rattle.world_containers.specs.Entries.{entry_link}
+use Rattle.world_containers.specs.Stacks.{stack_cell}
+use Rattle.world_containers.proofs.ChainLemmas.{hung_left, hung_out, free_cell_out, out_of_none}
+use Rattle.world_containers.proofs.ReleaseLemmas.{out_of_one}
 use Rattle.sdd_tests.proofs.stacks.moved.Goals as goal
 
 pub returns-in-Ok-clause-list : goal.returns-in-Ok-clause-list

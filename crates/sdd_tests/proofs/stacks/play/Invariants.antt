@@ -1,6 +1,6 @@
 use Rattle.std.proofs.Common.{◌<◌, length}
-use Rattle.sdd_base.specs.Place.{IsOpen}
-use Rattle.sdd.specs.Stacks.{IsSomeStack, stack_cell}
+use Rattle.sdd_world.specs.Place.{IsOpen}
+use Rattle.world_containers.specs.Stacks.{IsSomeStack, stack_cell}
 use Rattle.sdd_tests.proofs.stacks.play.Given as goal
 
 abbrev pub invariant-loop-at : goal.invariant-loop-at

@@ -1,11 +1,11 @@
 use Rattle.std.proofs.Common.{[], ◌∷◌, sym, subst, ℕ}
-use Rattle.sdd_base.specs.State.{State}
-use Rattle.sdd_base.specs.declared.tag.Tag.TheVariants as tag
-use Rattle.sdd.specs.Chain.{IsOut, slots, links}
-use Rattle.sdd.specs.Entries.{entry_link}
-use Rattle.sdd.specs.Stacks.{IsStack, stack_cell}
-use Rattle.sdd.proofs.ChainLemmas.{hung_left, out_of_none}
-use Rattle.sdd.proofs.ReleaseLemmas.{leaves_released, out_of_one}
+use Rattle.sdd_world.specs.State.{State}
+use Rattle.sdd_world.specs.declared.tag.Tag.TheVariants as tag
+use Rattle.world_containers.specs.Chain.{IsOut, slots, links}
+use Rattle.world_containers.specs.Entries.{entry_link}
+use Rattle.world_containers.specs.Stacks.{IsStack, stack_cell}
+use Rattle.world_containers.proofs.ChainLemmas.{hung_left, out_of_none}
+use Rattle.world_containers.proofs.ReleaseLemmas.{leaves_released, out_of_one}
 use Rattle.sdd_tests.proofs.stacks.pop.Goals as goal
 
 pub returns-in-Some-clause-list : goal.returns-in-Some-clause-list

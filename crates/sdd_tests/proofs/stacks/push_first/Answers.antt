@@ -1,9 +1,9 @@
 use Rattle.std.proofs.Common.{◌∷◌, sym, subst, arith}
-use Rattle.sdd_base.specs.State.{State}
-use Rattle.sdd_base.specs.declared.tag.Tag.TheVariants as tag
-use Rattle.sdd.specs.Entries.{entry_link}
-use Rattle.sdd.specs.Stacks.{IsStack, stack_cell}
-use Rattle.sdd.proofs.ReleaseLemmas.{spare_owner}
+use Rattle.sdd_world.specs.State.{State}
+use Rattle.sdd_world.specs.declared.tag.Tag.TheVariants as tag
+use Rattle.world_containers.specs.Entries.{entry_link}
+use Rattle.world_containers.specs.Stacks.{IsStack, stack_cell}
+use Rattle.world_containers.proofs.ReleaseLemmas.{spare_owner}
 use Rattle.sdd_tests.proofs.stacks.push_first.Goals as goal
 
 pub returns-in-Ok-clause-list : goal.returns-in-Ok-clause-list

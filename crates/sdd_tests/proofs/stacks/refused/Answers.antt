@@ -1,7 +1,7 @@
 use Rattle.std.proofs.Common.{sym, subst}
-use Rattle.sdd_base.specs.State.{State}
-use Rattle.sdd.specs.Chain.{skip}
-use Rattle.sdd.specs.Stacks.{IsStack, stack_cell}
+use Rattle.sdd_world.specs.State.{State}
+use Rattle.world_containers.specs.Chain.{skip}
+use Rattle.world_containers.specs.Stacks.{IsStack, stack_cell}
 use Rattle.sdd_tests.proofs.stacks.refused.Goals as goal
 
 pub returns-in-Err-clause-list : goal.returns-in-Err-clause-list

@@ -1,8 +1,8 @@
 use Rattle.std.proofs.Common.{Option, ℕ}
-use Rattle.sdd_base.specs.Tokens.{ptr_slot}
-use Rattle.sdd.specs.Entries.{entry_link}
-use Rattle.sdd.specs.Nodes.{IsListed}
-use Rattle.sdd.proofs.NodeLemmas.{not_null}
+use Rattle.sdd_world.specs.Tokens.{ptr_slot}
+use Rattle.world_containers.specs.Entries.{entry_link}
+use Rattle.world_containers.specs.Nodes.{IsListed}
+use Rattle.world_containers.proofs.NodeLemmas.{not_null}
 use Rattle.sdd_tests.proofs.walks.second_is_shared.Goals as goal
 
 pub next_shared-next-requires-after_bounds : goal.next_shared-next-requires-after_bounds

@@ -1,5 +1,5 @@
 use Rattle.std.proofs.Common.{◌<◌, ◌∙◌, length, rules, subst, sym}
-use Rattle.sdd.proofs.MutableIterationLemmas.{bag_at, participant_at, told_some}
+use Rattle.world_containers.proofs.MutableIterationLemmas.{bag_at, participant_at, told_some}
 use Rattle.sdd_tests.proofs.writing_walks.exchange.Goals as goal
 
 pub returns-clause-participant : goal.returns-clause-participant

@@ -1,5 +1,5 @@
 use Rattle.std.proofs.Common.{◌<◌, ◌∙◌, length, refl, rules, subst, sym}
-use Rattle.sdd.proofs.MutableIterationLemmas.{bag_at, left_at, participant_at, told_none, told_some}
+use Rattle.world_containers.proofs.MutableIterationLemmas.{bag_at, left_at, participant_at, told_none, told_some}
 use Rattle.sdd_tests.proofs.writing_walks.raise.Goals as goal
 
 pub loop-passed-init : goal.loop-passed-init

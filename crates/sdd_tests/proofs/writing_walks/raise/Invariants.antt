@@ -1,6 +1,6 @@
 use Rattle.std.proofs.Common.{◌≡◌, ◌<◌, length}
-use Rattle.sdd.specs.Bags.{IsSomeBag, bag_cells}
-use Rattle.sdd.specs.MutableIteration.{IsSomeLeft, walk_cells}
+use Rattle.world_containers.specs.Bags.{IsSomeBag, bag_cells}
+use Rattle.world_containers.specs.MutableIteration.{IsSomeLeft, walk_cells}
 use Rattle.sdd_tests.proofs.writing_walks.raise.Given as goal
 
 abbrev pub invariant-loop-passed : goal.invariant-loop-passed

@@ -1,5 +1,5 @@
 use Rattle.std.proofs.Common.{◌≡◌, []}
-use Rattle.sdd_domain.specs.Tokens.{own_of, hand_of, home_of}
+use Rattle.ordered_index.specs.Tokens.{own_of, hand_of, home_of}
 use Rattle.shared_configuration.proofs.service.change.Given as goal
 
 abbrev pub invariant-loop-turn : goal.invariant-loop-turn

@@ -1,6 +1,6 @@
 use Rattle.std.proofs.Crossing.{crosses}
 use denote.Param.Send.{sendable}
-use Rattle.shared_index.proofs.SendLemmas.{index_sync}
+use Rattle.ordered_index.proofs.SendLemmas.{index_sync}
 use Rattle.shared_configuration.proofs.service.play.Goals as goal
 
 pub join_over-sessions-requires-sync-T : goal.join_over-sessions-requires-sync-T

@@ -1,4 +1,4 @@
-use Rattle.sdd_base.specs.Epochs.{tag_number}
+use Rattle.sdd_plain.specs.Epochs.{tag_number}
 use Rattle.shared_containers.proofs.TakenLemmas.{read_some, swap_takes}
 use Rattle.shared_containers.proofs.bag.take_from.Goals as goal
 

@@ -1,12 +1,12 @@
 use Rattle.std.proofs.Common.{◌≡◌, ◌∙◌, ℕ, ap, sym, subst, arith, length}
-use Rattle.sdd_base.specs.Counting.{Counted}
-use Rattle.sdd_base.specs.Passing.{accelerated, passed}
-use Rattle.sdd_base.specs.State.{State}
-use Rattle.sdd_base.specs.Steps.{guard_closed, guard_opened}
-use Rattle.sdd_base.specs.Tokens.{guard_participant}
+use Rattle.sdd_world.specs.Counting.{Counted}
+use Rattle.sdd_world.specs.Passing.{accelerated, passed}
+use Rattle.sdd_world.specs.State.{State}
+use Rattle.sdd_world.specs.Steps.{guard_closed, guard_opened}
+use Rattle.sdd_world.specs.Tokens.{guard_participant}
 use Rattle.version_views.specs.Items.{held_by}
 use Rattle.version_views.specs.declared.item.Item.{Item}
-use Rattle.versions.proofs.ReclaimLemmas.{counted_passed}
+use Rattle.local_versions.proofs.ReclaimLemmas.{counted_passed}
 use Rattle.version_tests.proofs.placing.passes.Goals.{in-Ok, in_default}
 use Rattle.version_tests.proofs.placing.passes.Goals as goal
 

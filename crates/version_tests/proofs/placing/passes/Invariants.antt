@@ -1,6 +1,6 @@
 use Rattle.std.proofs.Common.{◌<◌, List, length}
-use Rattle.sdd_base.specs.Counting.{Counted}
-use Rattle.sdd_base.specs.Holding.{Hold}
+use Rattle.sdd_world.specs.Counting.{Counted}
+use Rattle.sdd_world.specs.Holding.{Hold}
 use Rattle.version_views.specs.Items.{held_by}
 use Rattle.version_tests.proofs.placing.passes.Given as goal
 

@@ -1,6 +1,6 @@
 use Rattle.std.proofs.Common.{List, [], ◌∷◌}
-use Rattle.sdd_base.specs.Holding.{Hold, SharedIn, SharedItem}
-use Rattle.sdd_base.specs.Tokens.{shared_cell, shared_slot}
+use Rattle.sdd_world.specs.Holding.{Hold, SharedIn, SharedItem}
+use Rattle.sdd_world.specs.Tokens.{shared_cell, shared_slot}
 use Rattle.version_tests.proofs.single_steps.a_place_goes_as_the_single_steps_say.Goals as goal
 
 -- the owner of the second version is in hand beside the root

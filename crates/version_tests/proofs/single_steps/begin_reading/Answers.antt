@@ -1,9 +1,9 @@
 use Rattle.std.proofs.Common.{◌<◌, ℕ, List, ◌∷◌, length, sym, subst, arith}
-use Rattle.sdd_base.specs.Counting.{Counted, OwnersAreCounted}
-use Rattle.sdd_base.specs.Holding.{Hold, SharedIn}
-use Rattle.sdd_base.specs.State.{State}
-use Rattle.sdd_base.specs.Tokens.{shared_cell}
-use Rattle.sdd_base.proofs.CountLemmas.{owners_are_counted}
+use Rattle.sdd_world.specs.Counting.{Counted, OwnersAreCounted}
+use Rattle.sdd_world.specs.Holding.{Hold, SharedIn}
+use Rattle.sdd_world.specs.State.{State}
+use Rattle.sdd_world.specs.Tokens.{shared_cell}
+use Rattle.sdd_world.proofs.CountLemmas.{owners_are_counted}
 use Rattle.version_views.specs.Items.{held_by}
 use Rattle.version_views.specs.declared.item.Item.{Item}
 use Rattle.version_tests.proofs.single_steps.begin_reading.Goals as goal

@@ -1,7 +1,7 @@
 use Rattle.std.proofs.Common.{ℕ, []}
-use Rattle.sdd_base.specs.Counting.{OwnersAreCounted}
-use Rattle.sdd_base.specs.Tokens.{shared_cell}
-use Rattle.sdd_base.proofs.CountLemmas.{owners_are_counted}
+use Rattle.sdd_world.specs.Counting.{OwnersAreCounted}
+use Rattle.sdd_world.specs.Tokens.{shared_cell}
+use Rattle.sdd_world.proofs.CountLemmas.{owners_are_counted}
 use Rattle.version_views.specs.Items.{held_by}
 use Rattle.version_views.specs.declared.item.Item.{Item}
 use Rattle.version_tests.proofs.single_steps.end.Goals as goal

@@ -1,8 +1,8 @@
 use Rattle.std.proofs.Common.{ℕ, sym, subst}
-use Rattle.sdd_base.specs.Counting.{Counted, OwnersAreCounted}
-use Rattle.sdd_base.specs.State.{State}
-use Rattle.sdd_base.specs.Tokens.{guard_participant}
-use Rattle.sdd_base.proofs.CountLemmas.{owners_are_counted}
+use Rattle.sdd_world.specs.Counting.{Counted, OwnersAreCounted}
+use Rattle.sdd_world.specs.State.{State}
+use Rattle.sdd_world.specs.Tokens.{guard_participant}
+use Rattle.sdd_world.proofs.CountLemmas.{owners_are_counted}
 use Rattle.version_views.specs.Items.{held_by}
 use Rattle.version_views.specs.declared.item.Item.{Item}
 use Rattle.version_tests.proofs.single_steps.end_reading.Goals as goal

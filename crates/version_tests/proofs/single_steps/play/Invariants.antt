@@ -1,7 +1,7 @@
 use Rattle.std.proofs.Common.{◌<◌, List, length}
-use Rattle.sdd_base.specs.Counting.{Counted}
-use Rattle.sdd_base.specs.Holding.{Hold}
-use Rattle.sdd_base.specs.Place.{IsOpen}
+use Rattle.sdd_world.specs.Counting.{Counted}
+use Rattle.sdd_world.specs.Holding.{Hold}
+use Rattle.sdd_world.specs.Place.{IsOpen}
 use Rattle.version_views.specs.Items.{held_by}
 use Rattle.version_tests.proofs.single_steps.play.Given as goal
 

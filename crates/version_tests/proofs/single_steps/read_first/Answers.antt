@@ -1,6 +1,6 @@
 use Rattle.std.proofs.Common.{List, [], ◌∷◌}
-use Rattle.sdd_base.specs.Holding.{Hold, SharedItem}
-use Rattle.sdd_base.specs.Tokens.{shared_slot}
+use Rattle.sdd_world.specs.Holding.{Hold, SharedItem}
+use Rattle.sdd_world.specs.Tokens.{shared_slot}
 use Rattle.version_tests.proofs.single_steps.read_first.Goals as goal
 
 -- the owner of the second version is in hand beside the root

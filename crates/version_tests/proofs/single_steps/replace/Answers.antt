@@ -1,15 +1,15 @@
 use Rattle.std.proofs.Common.{◌∷◌, ◌++◌, ℕ, List, [], Option, Some, None, sym, arith, subst}
-use Rattle.sdd_base.specs.Counting.{Counted, OwnersAreCounted, kept_by}
-use Rattle.sdd_base.specs.Holding.{Hold, SharedIn, SharedItem}
-use Rattle.sdd_base.specs.Place.{IsSharedCell}
-use Rattle.sdd_base.specs.State.{State, with_cell}
-use Rattle.sdd_base.specs.Tokens.{shared_cell, shared_slot}
-use Rattle.sdd_base.specs.declared.status.Cell.TheVariants as cell
-use Rattle.sdd_base.specs.declared.tag.Tag.{Tag}
-use Rattle.sdd_base.specs.declared.tag.Tag.TheVariants as tag
-use Rattle.sdd_base.proofs.CountLemmas.{owners_are_counted}
+use Rattle.sdd_world.specs.Counting.{Counted, OwnersAreCounted, kept_by}
+use Rattle.sdd_world.specs.Holding.{Hold, SharedIn, SharedItem}
+use Rattle.sdd_world.specs.Place.{IsSharedCell}
+use Rattle.sdd_world.specs.State.{State, with_cell}
+use Rattle.sdd_world.specs.Tokens.{shared_cell, shared_slot}
+use Rattle.sdd_world.specs.declared.status.Cell.TheVariants as cell
+use Rattle.sdd_world.specs.declared.tag.Tag.{Tag}
+use Rattle.sdd_world.specs.declared.tag.Tag.TheVariants as tag
+use Rattle.sdd_world.proofs.CountLemmas.{owners_are_counted}
 use Rattle.version_views.specs.Items.{held_by}
-use Rattle.versions.specs.Placing.{owner_given_back}
+use Rattle.local_versions.specs.Placing.{owner_given_back}
 use Rattle.version_views.specs.declared.item.Item.{Item}
 use Rattle.version_tests.proofs.Settled.{counted_first}
 use Rattle.version_tests.proofs.single_steps.replace.Goals as goal

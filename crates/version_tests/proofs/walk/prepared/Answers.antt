@@ -1,13 +1,13 @@
 use Rattle.std.proofs.Common.{ℕ, List, [], ◌∷◌, sym, ap, arith, subst}
 use Rattle.std.specs.Ordering.{nat_cmp}
-use Rattle.sdd_base.specs.Counting.{Counted, OwnersAreCounted}
-use Rattle.sdd_base.specs.Holding.{Hold, SharedItem}
-use Rattle.sdd_base.specs.State.{State}
-use Rattle.sdd_base.specs.Tokens.{shared_slot}
-use Rattle.sdd_base.proofs.CountLemmas.{owners_are_counted}
+use Rattle.sdd_world.specs.Counting.{Counted, OwnersAreCounted}
+use Rattle.sdd_world.specs.Holding.{Hold, SharedItem}
+use Rattle.sdd_world.specs.State.{State}
+use Rattle.sdd_world.specs.Tokens.{shared_slot}
+use Rattle.sdd_world.proofs.CountLemmas.{owners_are_counted}
 use Rattle.version_views.specs.Items.{held_by}
 use Rattle.version_views.specs.declared.item.Item.{Item}
-use Rattle.versions.proofs.PublishLemmas.{empty_placeable}
+use Rattle.local_versions.proofs.PublishLemmas.{empty_placeable}
 use Rattle.version_tests.proofs.Settled.{Settled, settled_fresh, settled_placed, settled_shared}
 use Rattle.version_tests.proofs.walk.prepared.Goals as goal
 

@@ -1,6 +1,6 @@
 use Rattle.std.proofs.Common.{IfOk, ap, subst}
 use Rattle.std.specs.Ordering.{nat_cmp}
-use Rattle.ordered_index.specs.Desk.{Step}
+use Rattle.local_index.specs.Desk.{Step}
 use Rattle.index_script.specs.Script.{Script}
 use Rattle.index_script.proofs.script.Script.play.Goals as goal
 

@@ -1,5 +1,5 @@
 use Rattle.std.proofs.Common.{◌≡◌, ℕ, Option, None, Some, sym, refl, ap, ◌∙◌, arith}
-use Rattle.sdd_base.specs.Epochs.{tag_number}
+use Rattle.sdd_plain.specs.Epochs.{tag_number}
 use Rattle.domain_table.specs.Layout.{packed}
 use Rattle.sdd_domain.specs.Comparing.{owner_code, owner_slot, code_of}
 use Rattle.sdd_domain.specs.Pointers.{ptr_slot, ptr_tag}

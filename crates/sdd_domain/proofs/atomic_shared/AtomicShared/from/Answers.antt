@@ -1,5 +1,5 @@
 use Rattle.std.proofs.Common.{◌+◌, ◌∙◌, ap}
-use Rattle.sdd_base.specs.declared.status.LocalState.{LocalState}
+use Rattle.sdd_plain.specs.declared.local_state.LocalState.{LocalState}
 use Rattle.sdd_domain.specs.Tokens.{own_of}
 use Rattle.sdd_domain.proofs.CellSteps.{exchanged_behind}
 use Rattle.sdd_domain.proofs.atomic_shared.AtomicShared.from.Goals as goal

@@ -1,5 +1,5 @@
 use Rattle.std.proofs.Common.{◌≡◌, ℕ, Option, None, Some, IfSome, ap, ◌∙◌}
-use Rattle.sdd_base.specs.Epochs.{tag_number}
+use Rattle.sdd_plain.specs.Epochs.{tag_number}
 use Rattle.sdd_domain.specs.Comparing.{owner_code, owner_slot, code_of}
 use Rattle.sdd_domain.specs.declared.shared.Shared.{Shared}
 use Rattle.sdd_domain.proofs.atomic_shared.AtomicShared.get_shared.Goals as goal

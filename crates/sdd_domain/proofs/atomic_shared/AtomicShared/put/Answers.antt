@@ -1,5 +1,5 @@
 use Rattle.std.proofs.Common.{◌+◌}
-use Rattle.sdd_base.specs.Epochs.{tag_number}
+use Rattle.sdd_plain.specs.Epochs.{tag_number}
 use Rattle.sdd_domain.specs.Comparing.{owner_code}
 use Rattle.sdd_domain.specs.Tokens.{own_of}
 use Rattle.sdd_domain.proofs.CellSteps.{exchanged_before}

@@ -6,7 +6,7 @@ use Rattle.domain_table.specs.Ledgers.{WaitsIn}
 use Rattle.domain_table.specs.Contents.{blanks}
 use Rattle.domain_table.specs.Owners.{told}
 use Rattle.domain_table.specs.Layout.{claim_word, cell_word}
-use Rattle.sdd_base.specs.declared.sizes.Sizes.{Sizes}
+use Rattle.sdd_plain.specs.declared.sizes.Sizes.{Sizes}
 use Rattle.domain_table.specs.Leases.{lease_told, life_number, leased_homes, row_slots, all_below}
 use Rattle.domain_table.specs.Plays.{own_spare}
 use Rattle.domain_table.specs.declared.board.Acting.{Acting}

@@ -1,5 +1,5 @@
 use Rattle.std.proofs.Common.{◌≡◌, ◌<◌, sym, ap, ◌∙◌, subst}
-use Rattle.sdd_base.specs.Epochs.{tag_number}
+use Rattle.sdd_plain.specs.Epochs.{tag_number}
 use Rattle.domain_table.specs.Layout.{packed}
 use Rattle.sdd_domain.proofs.atomic_shared.AtomicShared.tag.Goals as goal
 

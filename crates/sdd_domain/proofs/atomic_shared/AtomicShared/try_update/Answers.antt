@@ -1,5 +1,5 @@
 use Rattle.std.proofs.Common.{ℕ, arith}
-use Rattle.sdd_base.specs.Epochs.{tag_number}
+use Rattle.sdd_plain.specs.Epochs.{tag_number}
 use Rattle.sdd_domain.specs.Comparing.{code_of}
 use Rattle.sdd_domain.proofs.CellSteps.{one_read, read_often, word_often, often_again, fewer_often, read_and_set}
 use Rattle.sdd_domain.proofs.atomic_shared.AtomicShared.try_update.Goals as goal

@@ -1,5 +1,5 @@
 use Rattle.std.proofs.Common.{◌≡◌, ◌+◌, ℕ, inl, inr, arith}
-use Rattle.sdd_base.specs.Epochs.{tag_number}
+use Rattle.sdd_plain.specs.Epochs.{tag_number}
 use Rattle.sdd_domain.specs.Comparing.{code_of}
 use Rattle.sdd_domain.proofs.CellSteps.{only_often, often_again, fewer_often, found_behind, read_and_tagged}
 use Rattle.sdd_domain.proofs.atomic_shared.AtomicShared.update_tag_if.Goals as goal

@@ -1,6 +1,6 @@
 use Rattle.std.proofs.Common.{◌≡◌, ◌<◌, ◌∙◌, ℕ, List, ap, sym, subst, arith}
 use Rattle.atomic_table.specs.Seated.{TableId}
-use Rattle.sdd_base.specs.declared.sizes.Sizes.{Sizes}
+use Rattle.sdd_plain.specs.declared.sizes.Sizes.{Sizes}
 use Rattle.domain_table.specs.Layout.{claim_word}
 use Rattle.domain_table.specs.Ledgers.{IsEmpty}
 use Rattle.atomic_table.specs.Table.{Me}

@@ -7,7 +7,7 @@ use Rattle.domain_table.specs.Contents.{is_blank}
 use Rattle.domain_table.specs.Layout.{claim_word, cell_word}
 use Rattle.domain_table.specs.declared.board.Plan.{Plan}
 use Rattle.domain_table.specs.Owners.{told}
-use Rattle.sdd_base.specs.declared.sizes.Sizes.{Sizes}
+use Rattle.sdd_plain.specs.declared.sizes.Sizes.{Sizes}
 use Rattle.domain_table.specs.Leases.{lease_told, life_number, leased_homes, has_all, row_slots, all_below}
 use Rattle.domain_table.specs.Plays.{own_spare}
 use Rattle.sdd_domain.proofs.local.Local.read.Goals as goal

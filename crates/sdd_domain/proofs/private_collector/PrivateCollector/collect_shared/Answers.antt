@@ -1,19 +1,22 @@
-use Rattle.std.proofs.Common.{◌≡◌, ◌<◌, ◌≤◌, ◌==◌, ◌+◌, ◌^◌, cond, true, List, map, ap, sym, ◌∙◌, subst, arith}
+use Rattle.std.proofs.Common.{◌≡◌, ◌<◌, ◌≤◌, ◌==◌, ◌+◌, ◌^◌, cond, true, List, ◌∷◌, map, ap, sym, ◌∙◌, subst, arith}
 use Rattle.std.specs.VecDeque.{deque_capacity}
 use Rattle.atomic_table.specs.Seated.{TableId}
 use Rattle.atomic_table.specs.Table.{Me}
-use Rattle.sdd_base.specs.declared.sizes.Sizes.{Sizes}
-use Rattle.sdd_base.specs.declared.status.LocalState.{LocalState}
+use Rattle.sdd_plain.specs.declared.sizes.Sizes.{Sizes}
+use Rattle.sdd_plain.specs.declared.local_state.LocalState.{LocalState}
 use Rattle.sdd_steps.specs.declared.participant.Phase.TheVariants.{Idle, Opened}
+use Rattle.sdd_steps.specs.State.{Has}
 use Rattle.sdd_homes.specs.declared.Garbage.{Garbage}
 use Rattle.sdd_homes.specs.declared.Lease.{Lease}
 use Rattle.domain_table.specs.Ledgers.{WaitsIn}
+use Rattle.domain_table.specs.Views.{rereading}
+use Rattle.sdd_domain.specs.Collecting.{IsSwept}
 use Rattle.domain_table.specs.Layout.{claim_word}
 use Rattle.domain_table.specs.Leases.{life_number, lease_told, row_slots, all_below}
 use Rattle.domain_table.specs.declared.board.Acting.{Acting}
 use Rattle.domain_table.proofs.Rows.{none_same}
-use Rattle.domain_garbage.specs.Bag.{bag_in, noted_told}
-use Rattle.sdd_domain.proofs.Collected.{noted, all, at_last, spare_there, swept_told, put_told}
+use Rattle.domain_garbage.specs.Bag.{bag_in, garbage_told}
+use Rattle.sdd_domain.proofs.Collected.{noted, all, at_last, spare_there, swept_told, put_told, kept_most}
 use Rattle.sdd_domain.proofs.Handed.{owner}
 use Rattle.sdd_domain.proofs.private_collector.PrivateCollector.collect_shared.Goals as goal
 
@@ -54,12 +57,18 @@ invariant_of-local g c = let l = c.args.local.now in let d = l.place.me.0 in let
     }
 
 pub returns-clause-held : goal.returns-clause-held
-returns-clause-held g c = let ws0 = bag_in c.args.self.seat.badge.views in let taken = c.take_bag.ensures.taken ws0 c.args.self.at in let born = ap (λ (z : Me _ Acting). z.0.born) taken in let least = c.reread-note.ensures.least in let most = c.reread-note.ensures.most in
-    let old = c.args.self.waiting.items in let kept = c.sweep.new.waiting.items in (
-      c.reread-note.result,
-      map noted_told kept,
-      swept_told c.reread-note.result old kept c.sweep.ensures.left,
-      put_told c.put_in-last.result (record { slot = c.args.shared.slot; note = c.reread-note.result }) kept c.put_in-last.new.waiting.items c.put_in-last.ensures.last c.put_in-last.ensures.more,
+returns-clause-held g c = let ws0 = bag_in c.args.self.seat.badge.views in let m2 = c.reread-note.new.place.me in let m3 = c.sweep.new.place.me in let m4 = c.take_in.new.place.me in let m5 = c.put_in-last.new.place.me in
+    let taken = c.take_bag.ensures.taken ws0 c.args.self.at in let born = ap (λ (z : Me _ Acting). z.0.born) taken in let least = c.reread-note.ensures.least in let most = c.reread-note.ensures.most in
+    let note = c.reread-note.result in let was : m2.0.collected ≡ ws0 = ap (λ (z : Me _ Acting). z.0.collected) (c.reread-note.ensures.noted ∙ ap (λ (z : Me _ Acting). (record z.0 { known = rereading note z.0.known }, z.1)) taken) in let old = m3.0.collected in
+    let came : m4.0.collected ≡ old = ap (λ (z : Me _ Acting). z.0.collected) (c.take_in.ensures.taken (owner c.args.shared) c.args.shared.owns) in (
+      note,
+      map garbage_told old,
+      subst (λ (ws : List Garbage). IsSwept note (map garbage_told ws) (map garbage_told old)) was (swept_told note m2.0.collected old c.sweep.ensures.left),
+      ap (λ (vs : List Acting). map garbage_told (bag_in vs)) c.part_bag-seat.ensures.bag.1 ∙ (put_told c.put_in-last.result (c.args.shared.slot, note) m4.0.collected m5.0.collected c.put_in-last.ensures.last c.put_in-last.ensures.more ∙ ap (λ (ws : List Garbage). cond c.put_in-last.result ((c.args.shared.slot, note) ∷ map garbage_told ws) (map garbage_told ws)) came),
       omega arith,
       omega arith,
     )
+
+pub put_in-last-requires-clause-most : goal.put_in-last-requires-clause-most
+put_in-last-requires-clause-most g c = λ w has. let m2 = c.reread-note.new.place.me in let m3 = c.sweep.new.place.me in let came = ap (λ (z : Me _ Acting). z.0.collected) (c.take_in.ensures.taken (owner c.args.shared) c.args.shared.owns) in
+    kept_most c.reread-note.result m2.0.collected m3.0.collected c.sweep.ensures.left (λ v h. c.reread-note.ensures.noted_most v (subst (λ (ws : List Garbage). Has ws v) (ap (λ (z : Me _ Acting). z.0.collected) c.reread-note.ensures.noted) h)) w (subst (λ (ws : List Garbage). Has ws w) came has)

@@ -2,7 +2,7 @@ use Rattle.std.proofs.Common.{◌≡◌, ◌<◌, ◌≤◌, true, ℕ, List, []
 use Rattle.std.specs.VecDeque.{deque_capacity}
 use Rattle.atomic_table.specs.Seated.{TableId}
 use Rattle.atomic_table.specs.Table.{Me}
-use Rattle.sdd_base.specs.declared.sizes.Sizes.{Sizes}
+use Rattle.sdd_plain.specs.declared.sizes.Sizes.{Sizes}
 use Rattle.sdd_homes.specs.declared.Garbage.{Garbage}
 use Rattle.sdd_homes.specs.declared.Lease.{Lease}
 use Rattle.sdd_homes.specs.declared.Owner.{Owner}

@@ -1,5 +1,5 @@
 use Rattle.std.proofs.Common.{arith, sym, subst, ◌≤◌, ◌+◌, ℕ}
-use Rattle.sdd_base.specs.Tokens.{shared_cell}
+use Rattle.sdd_world.specs.Tokens.{shared_cell}
 use Rattle.sdd_lists.specs.Chain.{PassedEntries}
 use Rattle.sdd_lists.proofs.WalkLemmas.{count_next, count_small, count_all, behind_hangs}
 use Rattle.sdd_lists.proofs.world.chain.count.Goals as goal

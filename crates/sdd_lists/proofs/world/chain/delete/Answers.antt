@@ -1,9 +1,9 @@
 use Rattle.std.proofs.Common.{◌∙◌, ap, sym, ℕ, None, Option}
-use Rattle.sdd_base.specs.State.{cell_at, with_cell}
-use Rattle.sdd_base.specs.Tokens.{shared_cell, shared_slots}
-use Rattle.sdd_base.specs.declared.owner.Shared.{Shared}
-use Rattle.sdd_base.specs.declared.tag.Tag.TheVariants as tag
-use Rattle.sdd_base.specs.declared.status.Cell.TheVariants as cell
+use Rattle.sdd_world.specs.State.{cell_at, with_cell}
+use Rattle.sdd_world.specs.Tokens.{shared_cell, shared_slots}
+use Rattle.sdd_world.specs.declared.owner.Shared.{Shared}
+use Rattle.sdd_world.specs.declared.tag.Tag.TheVariants as tag
+use Rattle.sdd_world.specs.declared.status.Cell.TheVariants as cell
 use Rattle.sdd_lists.proofs.ChainLemmas.{full_empty}
 use Rattle.sdd_lists.proofs.ReleaseLemmas.{loose_cell}
 use Rattle.sdd_lists.proofs.world.chain.delete.Goals as goal

@@ -1,5 +1,5 @@
 use Rattle.std.proofs.Common.{◌∷◌}
-use Rattle.sdd_base.specs.Tokens.{shared_cell}
+use Rattle.sdd_world.specs.Tokens.{shared_cell}
 use Rattle.sdd_lists.proofs.ChainLemmas.{stays_then}
 use Rattle.sdd_lists.proofs.ReleaseLemmas.{dropped_first, stays_released}
 use Rattle.sdd_lists.proofs.world.chain.drop_first.Goals as goal

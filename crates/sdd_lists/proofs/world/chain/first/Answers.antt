@@ -1,5 +1,5 @@
 use Rattle.std.proofs.Common.{refl}
-use Rattle.sdd_base.specs.Tokens.{shared_cell}
+use Rattle.sdd_world.specs.Tokens.{shared_cell}
 use Rattle.sdd_lists.proofs.ChainLemmas.{head_cell, hung_there, starts, starts_not, starts_link, starts_cell, begins}
 use Rattle.sdd_lists.proofs.world.chain.first.Goals as goal
 

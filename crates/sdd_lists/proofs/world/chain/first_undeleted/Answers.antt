@@ -1,4 +1,4 @@
-use Rattle.sdd_base.specs.Tokens.{shared_cell}
+use Rattle.sdd_world.specs.Tokens.{shared_cell}
 use Rattle.sdd_lists.specs.Chain.{skip}
 use Rattle.sdd_lists.proofs.ChainLemmas.{head_cell, hung_there}
 use Rattle.sdd_lists.proofs.FirstLemmas.{no_item, some_item}

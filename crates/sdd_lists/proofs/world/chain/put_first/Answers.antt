@@ -1,4 +1,4 @@
-use Rattle.sdd_base.specs.Tokens.{shared_cell}
+use Rattle.sdd_world.specs.Tokens.{shared_cell}
 use Rattle.sdd_lists.proofs.ChainLemmas.{head_cell, put_link, put_back, put_all}
 use Rattle.sdd_lists.proofs.world.chain.put_first.Goals as goal
 

@@ -1,7 +1,7 @@
 use Rattle.std.proofs.Common.{◌∙◌, ◌+◌, ap, sym, subst, ℕ, arith}
-use Rattle.sdd_base.specs.State.{status_at, with_status}
-use Rattle.sdd_base.specs.Tokens.{shared_cell}
-use Rattle.sdd_base.specs.declared.status.Status.TheVariants as status
+use Rattle.sdd_world.specs.State.{status_at, with_status}
+use Rattle.sdd_world.specs.Tokens.{shared_cell}
+use Rattle.sdd_world.specs.declared.status.Status.TheVariants as status
 use Rattle.sdd_lists.specs.Chain.{OneMore}
 use Rattle.sdd_lists.proofs.ChainLemmas.{stays_then}
 use Rattle.sdd_lists.proofs.ReleaseLemmas.{stays_owners}

@@ -1,5 +1,5 @@
 use Rattle.std.proofs.Common.{refl, ◌∙◌, arith, subst, Bool}
-use Rattle.sdd_base.specs.Tokens.{shared_cell}
+use Rattle.sdd_world.specs.Tokens.{shared_cell}
 use Rattle.sdd_lists.specs.Chain.{BeginsWithItem}
 use Rattle.sdd_lists.proofs.ChainLemmas.{stays_then, stays_refl}
 use Rattle.sdd_lists.proofs.ReleaseLemmas.{drop_start, drop_next, drop_all, drop_hangs}

@@ -1,7 +1,7 @@
 use Rattle.std.proofs.Common.{List, ◌<◌, length}
-use Rattle.sdd_base.specs.Frame.{OnlyParticipant}
-use Rattle.sdd_base.specs.Tokens.{shared_cell}
-use Rattle.sdd_base.specs.declared.tag.Tag.{Tag}
+use Rattle.sdd_world.specs.Frame.{OnlyParticipant}
+use Rattle.sdd_world.specs.Tokens.{shared_cell}
+use Rattle.sdd_world.specs.declared.tag.Tag.{Tag}
 use Rattle.sdd_lists.specs.Chain.{Entry, IsList, Hangs, CutDeleted, Stays}
 use Rattle.sdd_lists.proofs.world.chain.skip_deleted.Given as goal
 

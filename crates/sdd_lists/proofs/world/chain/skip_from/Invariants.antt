@@ -1,6 +1,6 @@
 use Rattle.std.proofs.Common.{List}
-use Rattle.sdd_base.specs.Tokens.{shared_cell}
-use Rattle.sdd_base.specs.declared.tag.Tag.{Tag}
+use Rattle.sdd_world.specs.Tokens.{shared_cell}
+use Rattle.sdd_world.specs.declared.tag.Tag.{Tag}
 use Rattle.sdd_lists.specs.Chain.{Entry, IsList, Hangs, Skipped}
 use Rattle.sdd_lists.proofs.world.chain.skip_from.Given as goal
 

@@ -1,4 +1,4 @@
-use Rattle.sdd_base.specs.Tokens.{shared_cell}
+use Rattle.sdd_world.specs.Tokens.{shared_cell}
 use Rattle.sdd_lists.proofs.ChainLemmas.{head_cell, takes, took_linked, took_cell, took_back, took_all, took_none}
 use Rattle.sdd_lists.proofs.world.chain.take_first.Goals as goal
 

@@ -1,6 +1,6 @@
 use Rattle.std.proofs.Common.{◌≡◌, ◌∙◌, sym, subst, ℕ, Option, Some, IfSome}
-use Rattle.sdd_base.specs.State.{value_at}
-use Rattle.sdd_base.specs.Tokens.{shared_cell}
+use Rattle.sdd_world.specs.State.{value_at}
+use Rattle.sdd_world.specs.Tokens.{shared_cell}
 use Rattle.sdd_lists.specs.Chain.{IsList, skip}
 use Rattle.sdd_lists.proofs.ChainLemmas.{head_cell, kept_same, kept_tag, some_same}
 use Rattle.sdd_lists.proofs.ListHeadLemmas.{skipped_first}

@@ -1,6 +1,6 @@
 use Rattle.std.proofs.Common.{◌∙◌, ◌+◌, sym, subst, ℕ, arith}
-use Rattle.sdd_base.specs.State.{State}
-use Rattle.sdd_base.specs.Tokens.{shared_cell, shared_slot}
+use Rattle.sdd_world.specs.State.{State}
+use Rattle.sdd_world.specs.Tokens.{shared_cell, shared_slot}
 use Rattle.sdd_lists.specs.Chain.{IsList, skip}
 use Rattle.sdd_lists.proofs.ChainLemmas.{head_cell, kept_same, inside_states}
 use Rattle.sdd_lists.proofs.ReleaseLemmas.{hung_owners, added_back}

@@ -1,9 +1,9 @@
 use Rattle.std.proofs.Common.{◌∙◌, ap, sym, subst, refl, Some, ℕ}
 use Rattle.std.proofs.lemmas.Bool.{false≢true}
-use Rattle.sdd_base.specs.State.{cell_at}
-use Rattle.sdd_base.specs.Place.{IsSharedCell}
-use Rattle.sdd_base.specs.Tokens.{ptr_slot, shared_cell, shared_slot}
-use Rattle.sdd_base.specs.declared.tag.Tag.{Tag}
+use Rattle.sdd_world.specs.State.{cell_at}
+use Rattle.sdd_world.specs.Place.{IsSharedCell}
+use Rattle.sdd_world.specs.Tokens.{ptr_slot, shared_cell, shared_slot}
+use Rattle.sdd_world.specs.declared.tag.Tag.{Tag}
 use Rattle.sdd_lists.specs.Chain.{deleted}
 use Rattle.sdd_lists.specs.Nodes.{Inserts}
 use Rattle.sdd_lists.proofs.ChainLemmas.{inside_cells, kept_same}

@@ -1,5 +1,5 @@
 use Rattle.std.proofs.Common.{◌∙◌, ap, ℕ}
-use Rattle.sdd_base.specs.State.{cell_at}
+use Rattle.sdd_world.specs.State.{cell_at}
 use Rattle.sdd_lists.proofs.NodeLemmas.{node_cell}
 use Rattle.sdd_lists.proofs.world.linked_list.tag_of.Goals as goal
 

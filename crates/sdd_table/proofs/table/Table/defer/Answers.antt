@@ -53,6 +53,7 @@ invariant_of-self g c =
       tally = h.tally;
       links = h.links;
       held = h.held;
+      small = h.small;
       kinds = h.kinds;
       slots = h.slots;
       places = stack_kept idleness a.states.items (length a.jobs.items) a.idle c.pop.new.self h.places e.items (omega (arith, e.capacity));

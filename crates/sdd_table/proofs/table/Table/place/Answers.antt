@@ -54,6 +54,7 @@ invariant_of-self g c =
       tally = h.tally;
       links = h.links;
       held = h.held;
+      small = h.small;
       kinds = h.kinds;
       slots = stack_kept vacancy a.states.items a.slots a.free c.pop.new.self h.slots e.items (omega (arith, e.capacity));
       places = h.places;

@@ -1,5 +1,5 @@
 use Rattle.std.proofs.Common.{IfSome, sym, subst}
-use Rattle.sdd_base.specs.Epochs.{tag_number}
+use Rattle.sdd_plain.specs.Epochs.{tag_number}
 use Rattle.sdd_domain.specs.Comparing.{code_of}
 use Rattle.shared_containers.specs.Taken.{IsLinkOf}
 use Rattle.shared_containers.proofs.TakenLemmas.{read_some, taken_behind, marked_behind}

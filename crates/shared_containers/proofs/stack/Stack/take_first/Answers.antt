@@ -1,5 +1,5 @@
 use Rattle.std.proofs.Common.{ℕ, sym, ◌∙◌}
-use Rattle.sdd_base.specs.Epochs.{tag_number}
+use Rattle.sdd_plain.specs.Epochs.{tag_number}
 use Rattle.sdd_domain.specs.Comparing.{code_of}
 use Rattle.shared_containers.proofs.TakenLemmas.{read_some, quiet_some, some_then, differ, first_taken}
 use Rattle.shared_containers.proofs.stack.Stack.take_first.Goals as goal

@@ -5,7 +5,7 @@ use Rattle.serial_history.specs.declared.transaction.Transaction.{Transaction}
 use Rattle.serial_history.proofs.RunLemmas.{length-replies}
 use Rattle.shared_versions.specs.Drafts.{list_of}
 use Rattle.version_views.specs.Writes.{after_writes, replies_to}
-use Rattle.shared_index.specs.Books.{BookState, present_list}
+use Rattle.shared_index.specs.Books.{BookState, number_of, present_list}
 use Rattle.shared_index.proofs.BookLemmas.{history_longer, latest_longer, still_at_rest}
 use Rattle.shared_index.proofs.book.Book.add.Goals as goal
 
@@ -34,7 +34,7 @@ invariant_of-self-2 g c =
     rw longer (
       still_at_rest kept.0 new.same new.hand,
       latest_longer g.K.Ord.cmp t kept.1 new.place new.number list,
-      history_longer g.K.Ord.cmp c.raise.new.book.total t kept.2 reads told (λ e. c.requires.can.not_last (ap (λ (b : BookState _ _). length b.history) (sym c.self.view_is) ∙ e ∙ ap (λ (b : BookState _ _). b.last) c.self.view_is)) c.raise.ensures.total,
+      history_longer g.K.Ord.cmp c.raise.new.book.total t kept.2 reads told (λ e. c.requires.can.not_last (ap (λ (b : BookState _ _). number_of b) (sym c.self.view_is) ∙ e ∙ ap (λ (b : BookState _ _). b.last) c.self.view_is)) c.raise.ensures.total,
       kept.3,
     )
 

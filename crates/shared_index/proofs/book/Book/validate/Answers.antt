@@ -1,21 +1,21 @@
-use Rattle.std.proofs.Common.{List, length, sym, ap, ◌∙◌, subst}
+use Rattle.std.proofs.Common.{List, sym, ap, ◌∙◌, subst}
 use Rattle.std.specs.List.{All}
 use Rattle.serial_history.specs.Serial.{Holds}
 use Rattle.version_views.specs.Cuts.{pairs_in}
 use Rattle.shared_index.specs.Books.{BookState, present_list}
 use Rattle.shared_index.proofs.book.Book.validate.Goals as goal
 
-pub returns-then-len-self-clause-some : goal.returns-then-len-self-clause-some
-returns-then-len-self-clause-some g c =
+pub returns-then-number-self-clause-some : goal.returns-then-number-self-clause-some
+returns-then-number-self-clause-some g c =
     let is = ap pairs_in c.view.ensures ∙ c.self.invariant.1.list ∙ ap (present_list g.K.Ord.cmp) c.self.view_is in (
       subst (λ (ps : List _). All (Holds g.K.Ord.cmp ps) c.args.reads.now) is c.in-None.ensures.none,
-      ap (λ (b : BookState _ _). length b.history) (sym c.self.view_is) ∙ sym c.self.inside.history.ok.0 ∙ sym c.len.ensures ∙ c.if-len-self.true ∙ ap (λ (b : BookState _ _). b.last) c.self.view_is,
+      sym c.number.ensures.number ∙ c.if-number-self.true ∙ ap (λ (b : BookState _ _). b.last) c.self.view_is,
     )
 
-pub returns-else-len-self-clause-none : goal.returns-else-len-self-clause-none
-returns-else-len-self-clause-none g c =
+pub returns-else-number-self-clause-none : goal.returns-else-number-self-clause-none
+returns-else-number-self-clause-none g c =
     let is = ap pairs_in c.view.ensures ∙ c.self.invariant.1.list ∙ ap (present_list g.K.Ord.cmp) c.self.view_is in
     record {
       reads_hold = subst (λ (ps : List _). All (Holds g.K.Ord.cmp ps) c.args.reads.now) is c.in-None.ensures.none;
-      not_last = λ e. c.if-len-self.false (c.len.ensures ∙ c.self.inside.history.ok.0 ∙ ap (λ (b : BookState _ _). length b.history) c.self.view_is ∙ e ∙ ap (λ (b : BookState _ _). b.last) (sym c.self.view_is));
+      not_last = λ e. c.if-number-self.false (c.number.ensures.number ∙ e ∙ ap (λ (b : BookState _ _). b.last) (sym c.self.view_is));
     }

@@ -1,6 +1,6 @@
 use Rattle.std.proofs.Common.{◌≡◌, ◌≢◌, ℕ, refl, ap, sym, ◌∙◌, arith}
 use Rattle.std.proofs.lemmas.Bool.{false≢true}
-use Rattle.sdd_base.specs.Epochs.{tag_number}
+use Rattle.sdd_plain.specs.Epochs.{tag_number}
 use Rattle.sdd_domain.specs.Comparing.{owner_code}
 use Rattle.sdd_domain.proofs.CellSteps.{exchanged_before}
 use Rattle.shared_owned.proofs.RawLemmas.{told, none_code, some_code, other_code}

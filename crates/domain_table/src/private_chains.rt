@@ -1,0 +1,103 @@
+//! Private bags as chains: the same steps on link words as those of the bags of a participant (`links`, `bags`), on what is in
+//! the private bag that is at the participant's seat.
+
+ghost use Rattle.std.specs.Prelude.{◌≡◌, ◌∷◌, ◌++◌, ◌+◌, ◌<◌, ◌≤◌, ◌^◌, [], List, None, IfSome, IfNone};
+ghost use Rattle.sdd_homes.specs.declared.Garbage.{Garbage};
+ghost use Rattle.domain_table.specs.Bags.{IsBag, AreAlike};
+ghost use Rattle.domain_table.specs.Chains.{AllBelow};
+ghost use Rattle.domain_table.specs.Fitting.{FitsSizes};
+ghost use Rattle.domain_table.specs.Layout.{all_words, IsSized};
+ghost use Rattle.domain_table.specs.Plays.{follow_noted_then};
+
+use crate::bags::Ends;
+use crate::board::{Acting, Home, Place, Words};
+use crate::holding::Holding;
+use crate::links::load_link;
+use atomic_table::Play;
+use sdd_plain::sizes::Sizes;
+
+struct OnFollowNoted;
+
+impl<T> Play<Home<T>, Acting> for OnFollowNoted {
+    ghost then = { follow_noted_then };
+}
+
+/// What came into the private bag last, in slot `next`, follows what came before it, in `slot`.
+fn follow_noted<T, H: Holding<T>>(
+    words: &Words<T, H>,
+    place: &mut Place<T>,
+    sizes: &Sizes,
+    slot: usize,
+    next: usize,
+)
+    requires table { (place.old.table_id ≡ words.now.table_id) × (words.now.key.sizes ≡ sizes.now) × (place.old.me.0.sizes ≡ sizes.now) × IsSized sizes.now × (all_words sizes.now ≤ words.now.table_id.words) × (slot < sizes.now.slots) }
+    requires acts { (place.old.me.0.kind ≡ 1) × (next < 2 ^ 30) }
+    requires held { (xs : List Garbage) × (w : Garbage) × (v : Garbage) × (ys : List Garbage) × (place.old.me.0.collected ≡ xs ++ (w ∷ v ∷ ys)) × (w.slot ≡ next) × (v.slot ≡ slot) }
+    ensures seat { (place.new.table_id ≡ place.old.table_id) × (place.new.id ≡ place.old.id) }
+    ensures followed { (xs : List Garbage) (w v : Garbage) (ys : List Garbage) → place.old.me.0.collected ≡ xs ++ (w ∷ v ∷ ys) → w.slot ≡ next → v.slot ≡ slot → place.new.me ≡ (record place.old.me.0 { collected = xs ++ (w ∷ record v { next = w.slot + 1 } ∷ ys) }, place.old.me.1) }
+{
+    words.store::<OnFollowNoted>(
+        place,
+        8 * sizes.participants + 16 + sizes.cells + sizes.slots + slot,
+        next as u64 + 1,
+    );
+}
+
+/// Joins two chains of the private bag that lie one behind the other: what is in `newer` comes behind all that is in
+/// `older`.
+pub fn join_noted<T, H: Holding<T>>(
+    words: &Words<T, H>,
+    place: &mut Place<T>,
+    sizes: &Sizes,
+    newer: Option<Ends>,
+    older: Option<Ends>,
+) -> Option<Ends>
+    requires table { FitsSizes words.now.table_id words.now.key.sizes place.old.table_id place.old.me.0.sizes sizes.now }
+    requires acts { (place.old.me.0.kind ≡ 1) × AllBelow sizes.now.slots place.old.me.0.collected }
+    requires bags { (fs : List Garbage) × (bs : List Garbage) × (rest : List Garbage) × (place.old.me.0.collected ≡ fs ++ (bs ++ rest)) × IsBag fs newer × IsBag bs older }
+    ensures seat { (place.new.table_id ≡ place.old.table_id) × (place.new.id ≡ place.old.id) }
+    ensures joined { (fs bs rest : List Garbage) → place.old.me.0.collected ≡ fs ++ (bs ++ rest) → IsBag fs newer → IsBag bs older
+        → (cs : List Garbage) × AreAlike bs cs × IsBag (fs ++ cs) result × (place.new.me ≡ (record place.old.me.0 { collected = fs ++ (cs ++ rest) }, place.old.me.1)) }
+{
+    let Some(behind) = newer else {
+        return older;
+    };
+    let Some(front) = older else {
+        return newer;
+    };
+    follow_noted(words, place, sizes, front.last, behind.first);
+    Some(Ends {
+        first: front.first,
+        last: behind.last,
+    })
+}
+
+/// Takes out of the chain what has been in the private bag the longest. The item stays noted.
+pub fn take_noted<T, H: Holding<T>>(
+    words: &Words<T, H>,
+    place: &mut Place<T>,
+    sizes: &Sizes,
+    bag: Option<Ends>,
+) -> (Option<usize>, Option<Ends>)
+    requires table { FitsSizes words.now.table_id words.now.key.sizes place.old.table_id place.old.me.0.sizes sizes.now }
+    requires acts { (place.old.me.0.kind ≡ 1) × AllBelow sizes.now.slots place.old.me.0.collected }
+    requires bag { (ps : List Garbage) × (cs : List Garbage) × (place.old.me.0.collected ≡ ps ++ cs) × IsBag cs bag }
+    ensures seat { (place.new.table_id ≡ place.old.table_id) × (place.new.id ≡ place.old.id) × (place.new.me ≡ place.old.me) }
+    ensures none { IfNone result.0 ((bag ≡ None) × (result.1 ≡ None)) }
+    ensures taken { IfSome result.0 (λ slot. (ps cs : List Garbage) → place.old.me.0.collected ≡ ps ++ cs → IsBag cs bag → (ds : List Garbage) × (w : Garbage) × (cs ≡ ds ++ w ∷ []) × (w.slot ≡ slot) × IsBag ds result.1) }
+{
+    let Some(ends) = bag else {
+        return (None, None);
+    };
+    let found = load_link(words, place, sizes, ends.first);
+    if ends.first == ends.last {
+        return (Some(ends.first), None);
+    }
+    (
+        Some(ends.first),
+        Some(Ends {
+            first: found as usize - 1,
+            last: ends.last,
+        }),
+    )
+}

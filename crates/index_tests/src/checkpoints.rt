@@ -1,0 +1,283 @@
+//! Checkpoints: what becomes of numbers, sessions, audits, conflicts and slots.
+
+use crate::reads::{
+    COMMIT_1, COMMIT_2, COMMIT_3, COMMIT_4, COMMIT_5, COMMIT_6, LIST_0, LIST_1, LIST_2, LIST_3,
+    LIST_4, LIST_5, LIST_6,
+};
+use crate::table::Call::{
+    Audit, AuditOf, Base, Checkpoint, Close, Commit, CommitOf, CommitOn, Len, Look, Number, Open,
+    Read, Reclaim, Since, Slots,
+};
+use crate::table::Claim::Got;
+use crate::table::Told::{
+    Accepted, Ahead, Audited, Based, Behind, Checkpointed, Closed, Done, Fed, Holds, Opened,
+    Refused, Seen, Unfed,
+};
+use crate::table::{Row, Table, Told, first_wrong};
+use local_index::Audit::{No, TooOld, Unknown, Yes};
+use local_index::{Cause, Reply, SinceRefused, Write};
+
+const UPSERTED: &[Reply] = &[Reply::Upserted];
+
+// The key 1 is 10, 11 and 12 by the numbers 1, 2 and 3, and a session reads it at the first.
+const TEN: Row = (Commit(&[Write::Upsert(1, 10)]), Accepted(1, UPSERTED));
+
+const ELEVEN: Row = (Commit(&[Write::Upsert(1, 11)]), Accepted(2, UPSERTED));
+
+const TWELVE: Row = (Commit(&[Write::Upsert(1, 12)]), Accepted(3, UPSERTED));
+
+const OF_A_NUMBER: Table = Table {
+    about: "the list of a number becomes the base",
+    places: 1,
+    slots: 16,
+    last: u64::MAX,
+    parts: &[&[
+        TEN,
+        (Open(1), Opened(1)),
+        (Read(1, Got(1, Some(10))), Holds),
+        ELEVEN,
+        TWELVE,
+        (Base, Based(0, &[])),
+        (Slots, Told::Slots(7)),
+        (Checkpoint(4), Ahead(3)),
+        (Base, Based(0, &[])),
+        (Checkpoint(2), Checkpointed(2)),
+        (Base, Based(2, &[(1, 11)])),
+        (Slots, Told::Slots(7)),
+        (Checkpoint(1), Behind(2)),
+        (Base, Based(2, &[(1, 11)])),
+        (Look(1, 1), Seen(1, 1, Some(10))),
+        (AuditOf(1), Audited(TooOld(2))),
+        (Audit(2, &[Got(1, Some(11))]), Audited(Yes)),
+        (Audit(4, &[]), Audited(Unknown)),
+        (CommitOf(1, &[]), Refused(Cause::Conflict(0))),
+        (Commit(&[]), Accepted(4, &[])),
+        (Close(1), Closed(1, &[Got(1, Some(10))])),
+    ]],
+};
+
+// The base's number is that of a session, another session is below it, and a third one above.
+const BESIDE_SESSIONS: Table = Table {
+    about: "sessions below, at and above a checkpoint read on",
+    places: 3,
+    slots: 32,
+    last: u64::MAX,
+    parts: &[&[
+        TEN,
+        (Open(1), Opened(1)),
+        (Read(1, Got(1, Some(10))), Holds),
+        ELEVEN,
+        (Open(2), Opened(2)),
+        (Read(2, Got(1, Some(11))), Holds),
+        (Checkpoint(2), Checkpointed(2)),
+        TWELVE,
+        (Open(3), Opened(3)),
+        (Read(3, Got(1, Some(12))), Holds),
+        (Number(1), Told::Number(1)),
+        (Len(1), Told::Len(1)),
+        (Look(1, 1), Seen(1, 1, Some(10))),
+        (Look(2, 1), Seen(2, 1, Some(11))),
+        (AuditOf(1), Audited(TooOld(2))),
+        (AuditOf(2), Audited(Yes)),
+        (AuditOf(3), Audited(Yes)),
+        (Audit(3, &[Got(1, Some(11))]), Audited(No(0))),
+        (Close(1), Closed(1, &[Got(1, Some(10))])),
+        (Close(2), Closed(2, &[Got(1, Some(11))])),
+        (Close(3), Closed(3, &[Got(1, Some(12))])),
+        (Audit(2, &[Got(1, Some(11))]), Audited(Yes)),
+        (Audit(2, &[Got(1, Some(12))]), Audited(No(0))),
+        (Reclaim, Done),
+        (Slots, Told::Slots(2)),
+        (Base, Based(2, &[(1, 11)])),
+    ]],
+};
+
+const PRESENT: Table = Table {
+    about: "the present list can become the base, and each later one",
+    places: 1,
+    slots: 32,
+    last: 3,
+    parts: &[&[
+        (Checkpoint(0), Checkpointed(0)),
+        (Checkpoint(1), Ahead(0)),
+        TEN,
+        (Checkpoint(1), Checkpointed(1)),
+        (Base, Based(1, &[(1, 10)])),
+        (Checkpoint(1), Checkpointed(1)),
+        (Checkpoint(0), Behind(1)),
+        ELEVEN,
+        TWELVE,
+        (Checkpoint(3), Checkpointed(3)),
+        (Base, Based(3, &[(1, 12)])),
+        (Open(1), Opened(3)),
+        (Look(1, 1), Seen(3, 1, Some(12))),
+        (Commit(&[]), Refused(Cause::Exhausted)),
+        (Checkpoint(2), Behind(3)),
+        (Checkpoint(4), Ahead(3)),
+        (AuditOf(1), Audited(Yes)),
+        (Audit(3, &[Got(1, Some(12))]), Audited(Yes)),
+        (Audit(u64::MAX, &[]), Audited(Unknown)),
+    ]],
+};
+
+// Reads made below the base conflict if and only if they no longer hold of the present list.
+const BELOW: Table = Table {
+    about: "a commit on a receipt below the base is tested by answers",
+    places: 0,
+    slots: 32,
+    last: u64::MAX,
+    parts: &[&[
+        TEN,
+        ELEVEN,
+        TWELVE,
+        (Checkpoint(3), Checkpointed(3)),
+        (
+            CommitOn(1, &[Got(1, Some(10))], &[]),
+            Refused(Cause::Conflict(0)),
+        ),
+        (
+            CommitOn(
+                1,
+                &[Got(1, Some(12)), Got(2, None)],
+                &[Write::Upsert(1, 10)],
+            ),
+            Accepted(4, UPSERTED),
+        ),
+        (
+            CommitOn(1, &[Got(1, Some(10))], &[Write::Insert(2, 20)]),
+            Accepted(5, &[Reply::Inserted]),
+        ),
+        (Audit(1, &[Got(1, Some(10))]), Audited(TooOld(3))),
+        (Audit(4, &[Got(1, Some(10))]), Audited(Yes)),
+    ]],
+};
+
+// Audits of each number from a base on.
+const FROM_3: &[Row] = &[
+    (Audit(2, &[LIST_2]), Audited(TooOld(3))),
+    (Audit(3, &[LIST_3]), Audited(Yes)),
+    (Audit(4, &[LIST_4]), Audited(Yes)),
+    (Audit(5, &[LIST_5]), Audited(Yes)),
+    (Audit(6, &[LIST_6]), Audited(Yes)),
+    (Audit(3, &[LIST_2]), Audited(No(0))),
+    (Audit(5, &[LIST_6]), Audited(No(0))),
+    (Audit(7, &[LIST_6]), Audited(Unknown)),
+];
+
+const FROM_5: &[Row] = &[
+    (Audit(0, &[LIST_0]), Audited(TooOld(5))),
+    (Audit(4, &[LIST_4]), Audited(TooOld(5))),
+    (Audit(5, &[LIST_5]), Audited(Yes)),
+    (Audit(6, &[LIST_6]), Audited(Yes)),
+    (Audit(5, &[LIST_4]), Audited(No(0))),
+    (Audit(6, &[LIST_5]), Audited(No(0))),
+];
+
+// The fourth commit removes all pairs. A session is at the first number, below each base.
+const BEFORE_AND_BEHIND_A_CLEARING: Table = Table {
+    about: "a base before a clearing, and one behind it",
+    places: 1,
+    slots: 64,
+    last: u64::MAX,
+    parts: &[
+        &[
+            COMMIT_1,
+            (Open(1), Opened(1)),
+            COMMIT_2,
+            COMMIT_3,
+            COMMIT_4,
+            COMMIT_5,
+            COMMIT_6,
+            (Checkpoint(1), Checkpointed(1)),
+            (Base, Based(1, &[(1, 10)])),
+            (Audit(0, &[LIST_0]), Audited(TooOld(1))),
+            (Audit(1, &[LIST_1]), Audited(Yes)),
+            (Checkpoint(3), Checkpointed(3)),
+            (Base, Based(3, &[(2, 21)])),
+        ],
+        FROM_3,
+        &[(Close(1), Closed(1, &[]))],
+        FROM_3,
+        &[
+            (Checkpoint(5), Checkpointed(5)),
+            (Base, Based(5, &[(5, 50), (6, 60)])),
+        ],
+        FROM_5,
+    ],
+};
+
+// A session is at a later number than the base, so that lists are made again from what it reads.
+const BEHIND_A_SESSION: Table = Table {
+    about: "a base behind a session and a base before it",
+    places: 1,
+    slots: 64,
+    last: u64::MAX,
+    parts: &[
+        &[
+            COMMIT_1,
+            COMMIT_2,
+            COMMIT_3,
+            COMMIT_4,
+            (Open(1), Opened(4)),
+            COMMIT_5,
+            COMMIT_6,
+            (Checkpoint(3), Checkpointed(3)),
+            (Base, Based(3, &[(2, 21)])),
+        ],
+        FROM_3,
+        &[
+            (Checkpoint(5), Checkpointed(5)),
+            (Base, Based(5, &[(5, 50), (6, 60)])),
+            (Look(1, 5), Seen(4, 1, Some(50))),
+        ],
+        FROM_5,
+    ],
+};
+
+const UPSERT_11: &[Write<u64, u64>] = &[Write::Upsert(1, 11)];
+
+const UPSERT_12: &[Write<u64, u64>] = &[Write::Upsert(1, 12)];
+
+// What came behind a number is told from the base on.
+const FEED: Table = Table {
+    about: "the transactions behind a number are told",
+    places: 0,
+    slots: 32,
+    last: u64::MAX,
+    parts: &[&[
+        (Since(0), Fed(&[])),
+        (Since(1), Unfed(SinceRefused::Ahead(0))),
+        TEN,
+        ELEVEN,
+        TWELVE,
+        (
+            Since(0),
+            Fed(&[&[Write::Upsert(1, 10)], UPSERT_11, UPSERT_12]),
+        ),
+        (Since(1), Fed(&[UPSERT_11, UPSERT_12])),
+        (Since(3), Fed(&[])),
+        (Since(4), Unfed(SinceRefused::Ahead(3))),
+        (Checkpoint(2), Checkpointed(2)),
+        (Since(1), Unfed(SinceRefused::TooOld(2))),
+        (Since(2), Fed(&[UPSERT_12])),
+        (Since(3), Fed(&[])),
+        (Commit(&[]), Accepted(4, &[])),
+        (Since(3), Fed(&[&[]])),
+        (Since(2), Fed(&[UPSERT_12, &[]])),
+    ]],
+};
+
+const TABLES: &[Table] = &[
+    OF_A_NUMBER,
+    BESIDE_SESSIONS,
+    PRESENT,
+    BELOW,
+    BEFORE_AND_BEHIND_A_CLEARING,
+    BEHIND_A_SESSION,
+    FEED,
+];
+
+#[test]
+fn checkpoints_drop_what_came_before(rt: HostRuntime) {
+    assert_eq!(rt; first_wrong::<_, 2>(&rt, rt.alloc(), TABLES), None);
+}

@@ -1,0 +1,10 @@
+pub mod State
+pub mod Invariant
+pub mod Desk
+pub mod Receipts
+pub mod Conflicts
+pub mod Feeds
+pub mod FromBase
+pub mod Reading
+pub mod Lending
+pub use Rattle.local_versions.specs.Store

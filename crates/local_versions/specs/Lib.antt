@@ -1,0 +1,5 @@
+pub mod Built
+pub mod Placing
+pub mod Reclaiming
+pub mod Staying
+pub mod Store

@@ -1,6 +1,0 @@
-use Rattle.std.proofs.Common.{◌≡◌, ◌≤◌, None, replicate, vec_capacity}
-use Rattle.ordered_index.proofs.desk.Desk.new.Given as goal
-
--- so many slots, and room for the others
-abbrev pub invariant-loop : goal.invariant-loop
-invariant-loop g l = record { made : l.seats.items ≡ replicate l.counter None; room : l.places ≤ vec_capacity l.seats }

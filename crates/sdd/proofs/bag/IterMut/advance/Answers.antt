@@ -1,7 +1,0 @@
-use Rattle.std.proofs.Common.{ℕ, ◌∷◌, drop, map, sym, subst, ◌∙◌}
-use Rattle.sdd_base.specs.Tokens.{shared_cell}
-use Rattle.sdd.specs.MutableIteration.{IsLeft}
-use Rattle.sdd.proofs.bag.IterMut.advance.Goals as goal
-
-pub returns-in_default-clause-none : goal.returns-in_default-clause-none
-returns-in_default-clause-none g c = λ es l. c.in_default.ensures.none es (subst (λ (j : ℕ). IsLeft (g.W.ExclusiveAccess.state c.args.self.now.place.now) (j ∷ drop c.args.self.now.row (map shared_cell c.args.self.now.cells.now.items)) es) (sym (c.of-from.ensures ∙ c.cell.ensures)) l)

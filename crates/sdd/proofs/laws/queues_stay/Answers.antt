@@ -1,5 +1,0 @@
-use Rattle.sdd.proofs.QueueLemmas.{queue_stays}
-use Rattle.sdd.proofs.laws.queues_stay.Goals as goal
-
-pub returns : goal.returns
-returns g c = queue_stays g.L.LinkedList.link

@@ -1,5 +1,0 @@
-use Rattle.sdd_lists.proofs.ReleaseLemmas.{leaves_released}
-use Rattle.sdd.proofs.laws.releases_leave.Goals as goal
-
-pub returns : goal.returns
-returns g c = λ p i w. leaves_released p i w

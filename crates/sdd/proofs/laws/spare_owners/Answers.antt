@@ -1,5 +1,0 @@
-use Rattle.sdd_lists.proofs.ReleaseLemmas.{spare_owner}
-use Rattle.sdd.proofs.laws.spare_owners.Goals as goal
-
-pub returns : goal.returns
-returns g c = spare_owner g.L.LinkedList.link

@@ -1,5 +1,0 @@
-use Rattle.sdd.proofs.QueueLemmas.{spare_queue_owner}
-use Rattle.sdd.proofs.laws.spare_queue_owners.Goals as goal
-
-pub returns : goal.returns
-returns g c = spare_queue_owner g.L.LinkedList.link

@@ -1,5 +1,0 @@
-use Rattle.sdd_base.specs.declared.tag.Tag.TheVariants as tag
-use Rattle.sdd.proofs.world.queue.len.Goals as goal
-
-pub returns : goal.returns
-returns g c = λ es q. c.count.ensures tag.None es q.hung

@@ -1,8 +1,0 @@
-use Rattle.std.proofs.Common.{ℕ, ◌<◌, ◌≤◌, not}
-use Rattle.sdd.specs.Bags.{IsNull, cell_of}
-use Rattle.sdd.proofs.world.row.find.Given as goal
-
-abbrev pub invariant-loop-at : goal.invariant-loop-at
-invariant-loop-at g l = record {
-  passed : (k : ℕ) → l.from ≤ k → k < l.at → IsNull l.w (cell_of l.cells.items k) (not l.null);
-}

@@ -1,5 +1,0 @@
-use Rattle.sdd_base.proofs.NoteLemmas.{collectors_are_in_order}
-use Rattle.sdd_base.proofs.laws.collectors_are_in_order.Goals as goal
-
-pub returns : goal.returns
-returns g c = collectors_are_in_order g.T.Holds.holds

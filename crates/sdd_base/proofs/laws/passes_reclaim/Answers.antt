@@ -1,5 +1,0 @@
-use Rattle.sdd_base.proofs.PassLemmas.{passes_reclaim}
-use Rattle.sdd_base.proofs.laws.passes_reclaim.Goals as goal
-
-pub returns : goal.returns
-returns g c = passes_reclaim g.T.Holds.holds

@@ -1,0 +1,12 @@
+pub use Rattle.sdd_table.proofs.ListLemmas
+pub use Rattle.sdd_table.proofs.SlotLemmas
+pub use Rattle.sdd_table.proofs.BagInvariantLemmas
+pub use Rattle.sdd_table.proofs.PlaceLemmas
+pub mod FrameLemmas
+pub mod CountLemmas
+pub mod PrivateCollectorLemmas
+pub mod PassLemmas
+pub mod NoteLemmas
+pub mod CellLemmas
+pub mod IdleParticipantLemmas
+pub mod CelledLemmas

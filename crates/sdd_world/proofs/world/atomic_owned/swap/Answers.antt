@@ -1,0 +1,31 @@
+use Rattle.std.proofs.Common.{◌<◌, ℕ, length, ap, sym, subst, ◌∙◌}
+use Rattle.sdd_table.specs.State.{State, emptiness}
+use Rattle.sdd_table.specs.Place.{IsOwnedCell}
+use Rattle.sdd_table.specs.declared.status.Cell.TheVariants as cell
+use Rattle.sdd_world.specs.Tokens.{owned_cell}
+use Rattle.sdd_world.proofs.CelledLemmas.{celled_keeps, celled_place}
+use Rattle.sdd_world.proofs.FrameLemmas.{owned_cell_used}
+use Rattle.sdd_world.proofs.world.atomic_owned.swap.Goals as goal
+
+pub set_cell-requires-clause-inside : goal.set_cell-requires-clause-inside
+set_cell-requires-clause-inside g c =
+    let inside = subst (λ (w : State _). owned_cell c.args.cell.now < length w.cells) (sym c.w.view_is) c.requires.inside in
+    subst (λ (n : ℕ). n < length c.w.inside.table.cells) (sym c.number_of_owned_cell-number.ensures) inside
+
+pub set_cell-requires-clause-was_used : goal.set_cell-requires-clause-was_used
+set_cell-requires-clause-was_used g c = ap emptiness (sym c.cell.ensures ∙ c.in-OfOwned.is)
+
+pub invariant_of-w : goal.invariant_of-w
+invariant_of-w g c = celled_place c.w.inside.table c.set_cell.new.self c.number_of_owned_cell-number.result (cell.OfOwned c.into_slot-slot.result c.args.new.1) c.set_cell.ensures c.w.invariant
+
+-- the cell is still in use
+pub returns-clause-used : goal.returns-clause-used
+returns-clause-used g c =
+    let w = c.w.inside.table in
+    let number = c.number_of_owned_cell-number.ensures in
+    let inside = subst (λ (w : State _). owned_cell c.args.cell.now < length w.cells) (sym c.w.view_is) c.requires.inside in
+    let at = subst (λ (n : ℕ). n < length w.cells) (sym number) inside in
+    subst (λ (n : ℕ). IsOwnedCell c.set_cell.new.self n) number (owned_cell_used w _ c.number_of_owned_cell-number.result _ _ at c.set_cell.ensures)
+
+pub returns-clause-keeps : goal.returns-clause-keeps
+returns-clause-keeps g c = celled_keeps c.w.inside.table c.set_cell.new.self c.number_of_owned_cell-number.result (cell.OfOwned c.into_slot-slot.result c.args.new.1) c.set_cell.ensures c.args.w.now c.w.view_is

@@ -1,0 +1,14 @@
+pub use Rattle.sdd_table.specs.Epochs
+pub use Rattle.sdd_table.specs.Holding
+pub use Rattle.sdd_table.specs.State
+pub use Rattle.sdd_table.specs.Steps
+pub use Rattle.sdd_table.specs.Place
+pub use Rattle.sdd_table.specs.View
+pub use Rattle.sdd_table.specs.Frame
+pub use Rattle.sdd_table.specs.Dropping
+pub mod Tokens
+pub mod Counting
+pub mod Passing
+pub mod Collecting
+pub mod Notes
+pub mod Filled

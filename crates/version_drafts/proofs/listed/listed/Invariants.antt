@@ -1,0 +1,12 @@
+use Rattle.std.proofs.Common.{◌≡◌, take, []}
+use Rattle.version_drafts.specs.Cutting.{IsCutting, given_pairs, room_spent}
+use Rattle.version_drafts.specs.Parts.{no_pairs}
+use Rattle.version_drafts.proofs.listed.listed.Given as goal
+
+-- the first pairs were given, and trees were begun for as many
+abbrev pub invariant-loop-pair : goal.invariant-loop-pair
+invariant-loop-pair g l = record {
+  whole : IsCutting no_pairs g.K.Ord.cmp g.row.S [] l.out;
+  given : given_pairs no_pairs l.out ≡ take l.pair-index l.pairs;
+  spent : room_spent g.row.S l.out ≡ l.pair-index;
+}

@@ -1,5 +1,0 @@
-use Rattle.versions.proofs.ReclaimLemmas.{passes_leave_one}
-use Rattle.versions.proofs.laws.passes_leave_one.Goals as goal
-
-pub returns : goal.returns
-returns g c = passes_leave_one

@@ -1,5 +1,0 @@
-use Rattle.version_views.proofs.BlockListLemmas.{blocks_fit}
-use Rattle.versions.proofs.laws.segments_are_few.Goals as goal
-
-pub returns : goal.returns
-returns g c = blocks_fit

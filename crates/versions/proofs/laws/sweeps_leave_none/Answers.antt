@@ -1,5 +1,0 @@
-use Rattle.versions.proofs.SweepLemmas.{sweeps_leave_none}
-use Rattle.versions.proofs.laws.sweeps_leave_none.Goals as goal
-
-pub returns : goal.returns
-returns g c = sweeps_leave_none

@@ -1,8 +1,0 @@
-use Rattle.std.proofs.Common.{◌≡◌}
-use Rattle.sdd_base.specs.Passing.{passed_times}
-use Rattle.version_views.specs.Items.{held_by}
-use Rattle.versions.proofs.store.reclaiming.run_passes.Given as goal
-
--- so many guards were opened and closed
-abbrev pub invariant-loop : goal.invariant-loop
-invariant-loop g l = l.w ≡ passed_times held_by l.writer l.counter l.fn.w

@@ -1,0 +1,14 @@
+pub use Rattle.sdd_lists.proofs.ChainLemmas
+pub use Rattle.sdd_lists.proofs.ReleaseLemmas
+pub use Rattle.sdd_lists.proofs.NodeLemmas
+pub use Rattle.sdd_lists.proofs.InsertionLemmas
+pub mod QueueTailLemmas
+pub mod QueueLemmas
+pub mod FromIterLemmas
+pub mod RowLemmas
+pub mod BagLemmas
+pub mod BagInitLemmas
+pub mod BagLenLemmas
+pub mod FoldLemmas
+pub mod MutableIterationLemmas
+pub mod GuardLemmas

@@ -1,0 +1,5 @@
+use Rattle.sdd_world.specs.declared.tag.Tag.TheVariants as tag
+use Rattle.world_containers.proofs.world.queue.len.Goals as goal
+
+pub returns : goal.returns
+returns g c = λ es q. c.count.ensures tag.None es q.hung

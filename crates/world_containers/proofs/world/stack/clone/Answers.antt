@@ -1,0 +1,170 @@
+use Rattle.std.proofs.Common.{◌≡◌, ◌∙◌, ◌++◌, ◌⊎◌, ℕ, List, [], Option, MatchOption, sym, subst, arith}
+use Rattle.sdd_world.specs.State.{State, NoneFree, NoCellFree}
+use Rattle.sdd_world.specs.Tokens.{link_cell, shared_cell}
+use Rattle.sdd_world.specs.declared.tag.Tag.TheVariants as tag
+use Rattle.sdd_lists.specs.Chain.{undeleted}
+use Rattle.sdd_lists.specs.Entries.{entry_link, entry_value}
+use Rattle.world_containers.specs.Stacks.{stack_cell}
+use Rattle.world_containers.specs.FromIter.{FillsStack, Copies, entry_values}
+use Rattle.sdd_lists.proofs.ChainLemmas.{stays_then}
+use Rattle.sdd_lists.proofs.ListHeadLemmas.{still_hung}
+use Rattle.sdd_lists.proofs.WalkLemmas.{hung_length}
+use Rattle.world_containers.proofs.FromIterLemmas.{given, Copying, grown_start, stack_next, stack_same, copy_start, copy_next, copying_now, copied_all, copied_end, stopped_at, copied_kept, memory_not, place_not}
+use Rattle.world_containers.proofs.world.stack.clone.Goals as goal
+
+pub loop-passed-init : goal.loop-passed-init
+loop-passed-init g c =
+    let e = c.in-Ok.ensures in
+    let w = c.args.w.now in
+    record {
+      copying = λ es q. (
+        [],
+        subst (λ (j : ℕ). Copying w es 0 j []) (sym c.of-at.ensures) (copy_start w (stack_cell c.args.stack.now) tag.None es q),
+        grown_start w c.new.new.w (stack_cell c.in-Ok.copy) (link_cell c.of-end.result) e.fresh e.made e.leaves e.stays c.of-end.ensures,
+      );
+      participants = e.participants;
+    }
+
+pub first-requires-clause-list : goal.first-requires-clause-list
+first-requires-clause-list g c =
+    let k = c.loop-passed.invariant.copying c.requires.list.entries c.requires.list.is in
+    record { tag = k.1.tag; entries = k.1.rest; is = copying_now c.args.w.now c.loop-passed.w c.requires.list.entries c.loop-passed._passed (link_cell c.loop-passed.at) (shared_cell c.cell.result.now) k.0 k.2.built.leaves c.cell.ensures k.1 }
+
+pub add_last-requires : goal.add_last-requires
+add_last-requires g c = (c.loop-passed.invariant.copying c.requires.list.entries c.requires.list.is).2.empty
+
+pub loop-passed-preserved : goal.loop-passed-preserved
+loop-passed-preserved g c =
+    let v = c.loop-passed.invariant in
+    let a = c.in-Ok-add_last.ensures in
+    let w = c.args.w.now in
+    let w1 = c.loop-passed.w in
+    let next = c.in-Some.next in
+    record {
+      copying = λ es q.
+          let k = v.copying es q in
+          let h = copying_now w w1 es c.loop-passed._passed (link_cell c.loop-passed.at) (shared_cell c.cell.result.now) k.0 k.2.built.leaves c.cell.ensures k.1 in
+          let x = subst (λ (o : Option _). MatchOption o (k.1.rest ≡ []) (λ n. Copies k.1.rest (link_cell n.link) n.value)) c.in-Some.is (c.in-Ok-first.ensures.first k.1.tag k.1.rest h) in (
+            k.0 ++ given next.value,
+            copy_next w es c.loop-passed._passed (link_cell c.loop-passed.at) (link_cell next.link) k.0 next.value k.1 x,
+            stack_next w w1 c.add_last.new.w (stack_cell c.in-Ok.copy) (link_cell c.loop-passed.end) (link_cell c.add_last.new.end) k.0 next.value k.2 (stays_then _ _ _ k.2.built.stays a.stays) a.added a.leaves,
+          );
+      participants = a.participants ∙ v.participants;
+    }
+
+-- a value wasn't cloned
+pub returns-in_default-clause-partly : goal.returns-in_default-clause-partly
+returns-in_default-clause-partly g c = λ es q.
+    let k = c.loop-passed.invariant.copying es q in
+    let w = c.args.w.now in
+    let h = copying_now w c.loop-passed.w es c.loop-passed._passed (link_cell c.loop-passed.at) (shared_cell c.cell.result.now) k.0 k.2.built.leaves c.cell.ensures k.1 in
+    let x = c.in_default.ensures.refused k.1.tag k.1.rest h in (
+      k.0,
+      entry_value x.first.item,
+      entry_values (undeleted x.rest),
+      stopped_at w es c.loop-passed._passed (link_cell c.loop-passed.at) k.0 k.1 x.first x.rest x.is x.kept,
+      k.2.built.fills,
+      λ e. absurd (memory_not e),
+      λ _. x.refused,
+    )
+
+pub returns-in_default-clause-kept : goal.returns-in_default-clause-kept
+returns-in_default-clause-kept g c = λ es q. still_hung c.args.w.now c.loop-passed.w (c.loop-passed.invariant.copying es q).2.built.leaves (stack_cell c.args.stack.now) tag.None es q
+
+pub returns-in_default-clause-leaves : goal.returns-in_default-clause-leaves
+returns-in_default-clause-leaves g c = (c.loop-passed.invariant.copying c.requires.list.entries c.requires.list.is).2.built.leaves
+
+pub returns-in_default-clause-participants : goal.returns-in_default-clause-participants
+returns-in_default-clause-participants g c = c.loop-passed.invariant.participants
+
+pub returns-in_default-clause-stays : goal.returns-in_default-clause-stays
+returns-in_default-clause-stays g c = (c.loop-passed.invariant.copying c.requires.list.entries c.requires.list.is).2.built.stays
+
+-- nothing is left
+pub returns-in_default-next-clause-cloned : goal.returns-in_default-next-clause-cloned
+returns-in_default-next-clause-cloned g c = λ es q.
+    let k = c.loop-passed.invariant.copying es q in
+    let w = c.args.w.now in
+    let h = copying_now w c.loop-passed.w es c.loop-passed._passed (link_cell c.loop-passed.at) (shared_cell c.cell.result.now) k.0 k.2.built.leaves c.cell.ensures k.1 in
+    let none = subst (λ (o : Option _). MatchOption o (k.1.rest ≡ []) (λ n. Copies k.1.rest (link_cell n.link) n.value)) c.in_default-next.is (c.in-Ok-first.ensures.first k.1.tag k.1.rest h) in
+    subst (λ (us : List _). FillsStack w c.loop-passed.w (stack_cell c.in-Ok.copy) us) (copied_all w es c.loop-passed._passed (link_cell c.loop-passed.at) k.0 k.1 none) k.2.built.fills
+
+pub returns-in_default-next-clause-kept : goal.returns-in_default-next-clause-kept
+returns-in_default-next-clause-kept g c = λ es q. still_hung c.args.w.now c.loop-passed.w (c.loop-passed.invariant.copying es q).2.built.leaves (stack_cell c.args.stack.now) tag.None es q
+
+pub returns-in_default-next-clause-leaves : goal.returns-in_default-next-clause-leaves
+returns-in_default-next-clause-leaves g c = (c.loop-passed.invariant.copying c.requires.list.entries c.requires.list.is).2.built.leaves
+
+pub returns-in_default-next-clause-participants : goal.returns-in_default-next-clause-participants
+returns-in_default-next-clause-participants g c = c.loop-passed.invariant.participants
+
+pub returns-in_default-next-clause-stays : goal.returns-in_default-next-clause-stays
+returns-in_default-next-clause-stays g c = (c.loop-passed.invariant.copying c.requires.list.entries c.requires.list.is).2.built.stays
+
+-- a clone found no place
+pub returns-in-Err-add_last-clause-partly : goal.returns-in-Err-add_last-clause-partly
+returns-in-Err-add_last-clause-partly g c = λ es q.
+    let k = c.loop-passed.invariant.copying es q in
+    let w = c.args.w.now in
+    let r = c.in-Err-add_last.ensures.refused in
+    let h = copying_now w c.loop-passed.w es c.loop-passed._passed (link_cell c.loop-passed.at) (shared_cell c.cell.result.now) k.0 k.2.built.leaves c.cell.ensures k.1 in
+    let x = subst (λ (o : Option _). MatchOption o (k.1.rest ≡ []) (λ n. Copies k.1.rest (link_cell n.link) n.value)) c.in-Some.is (c.in-Ok-first.ensures.first k.1.tag k.1.rest h) in (
+      k.0,
+      entry_value x.first.item,
+      entry_values (undeleted x.rest),
+      stopped_at w es c.loop-passed._passed (link_cell c.loop-passed.at) k.0 k.1 x.first x.rest x.is (copied_kept _ _ _ c.in-Some.next.value r.0 x.value),
+      (stack_same w c.loop-passed.w c.add_last.new.w (stack_cell c.in-Ok.copy) k.0 r.1 k.2.built).fills,
+      λ _. subst (λ (u : State _). NoneFree u ⊎ NoCellFree u) (sym r.1) r.2,
+      λ e. absurd (place_not e),
+    )
+
+pub returns-in-Err-add_last-clause-kept : goal.returns-in-Err-add_last-clause-kept
+returns-in-Err-add_last-clause-kept g c = λ es q.
+    let k = c.loop-passed.invariant.copying es q in
+    still_hung c.args.w.now c.add_last.new.w (stack_same c.args.w.now c.loop-passed.w c.add_last.new.w (stack_cell c.in-Ok.copy) k.0 c.in-Err-add_last.ensures.refused.1 k.2.built).leaves (stack_cell c.args.stack.now) tag.None es q
+
+pub returns-in-Err-add_last-clause-leaves : goal.returns-in-Err-add_last-clause-leaves
+returns-in-Err-add_last-clause-leaves g c =
+    let k = c.loop-passed.invariant.copying c.requires.list.entries c.requires.list.is in
+    (stack_same c.args.w.now c.loop-passed.w c.add_last.new.w (stack_cell c.in-Ok.copy) k.0 c.in-Err-add_last.ensures.refused.1 k.2.built).leaves
+
+pub returns-in-Err-add_last-clause-participants : goal.returns-in-Err-add_last-clause-participants
+returns-in-Err-add_last-clause-participants g c = c.add_last.ensures.participants ∙ c.loop-passed.invariant.participants
+
+pub returns-in-Err-add_last-clause-stays : goal.returns-in-Err-add_last-clause-stays
+returns-in-Err-add_last-clause-stays g c =
+    let k = c.loop-passed.invariant.copying c.requires.list.entries c.requires.list.is in
+    (stack_same c.args.w.now c.loop-passed.w c.add_last.new.w (stack_cell c.in-Ok.copy) k.0 c.in-Err-add_last.ensures.refused.1 k.2.built).stays
+
+pub returns-clause-cloned : goal.returns-clause-cloned
+returns-clause-cloned g c = λ es q.
+    let k = c.loop-passed.invariant.copying es q in
+    let w = c.args.w.now in
+    let there = still_hung w c.new.new.w c.in-Ok.ensures.leaves (stack_cell c.args.stack.now) tag.None es q in
+    let enough = hung_length entry_link c.new.new.w (stack_cell c.args.stack.now) tag.None es there in
+    let n = c.slots_in_use-passed-end.ensures in
+    subst (λ (us : List _). FillsStack w c.loop-passed.w (stack_cell c.in-Ok.copy) us) (copied_end w es c.loop-passed._passed (link_cell c.loop-passed.at) k.0 k.1 (omega (arith, enough, n, c.loop-passed-test.false))) k.2.built.fills
+
+pub returns-clause-kept : goal.returns-clause-kept
+returns-clause-kept g c = λ es q. still_hung c.args.w.now c.loop-passed.w (c.loop-passed.invariant.copying es q).2.built.leaves (stack_cell c.args.stack.now) tag.None es q
+
+pub returns-clause-leaves : goal.returns-clause-leaves
+returns-clause-leaves g c = (c.loop-passed.invariant.copying c.requires.list.entries c.requires.list.is).2.built.leaves
+
+pub returns-clause-participants : goal.returns-clause-participants
+returns-clause-participants g c = c.loop-passed.invariant.participants
+
+pub returns-clause-stays : goal.returns-clause-stays
+returns-clause-stays g c = (c.loop-passed.invariant.copying c.requires.list.entries c.requires.list.is).2.built.stays
+
+pub returns-clause-list : goal.returns-clause-list
+returns-clause-list g c = let f = (c.loop-passed.invariant.copying c.requires.list.entries c.requires.list.is).2.built.fills in record { entries = f.entries; is = f.is }
+
+pub returns-in_default-next-clause-list : goal.returns-in_default-next-clause-list
+returns-in_default-next-clause-list g c = let f = (c.loop-passed.invariant.copying c.requires.list.entries c.requires.list.is).2.built.fills in record { entries = f.entries; is = f.is }
+
+pub returns-in_default-clause-built : goal.returns-in_default-clause-built
+returns-in_default-clause-built g c = let f = (c.loop-passed.invariant.copying c.requires.list.entries c.requires.list.is).2.built.fills in record { entries = f.entries; is = f.is }
+
+pub returns-in-Err-add_last-clause-built : goal.returns-in-Err-add_last-clause-built
+returns-in-Err-add_last-clause-built g c = let k = (c.loop-passed.invariant.copying c.requires.list.entries c.requires.list.is) in let f = (stack_same c.args.w.now c.loop-passed.w c.add_last.new.w (stack_cell c.in-Ok.copy) k.0 c.in-Err-add_last.ensures.refused.1 k.2.built).fills in record { entries = f.entries; is = f.is }

@@ -1,0 +1,10 @@
+//! Walks along the containers.
+
+use crate::linked_entry::LinkedEntry;
+use sdd_world::link::Link;
+
+/// Where a walk along a queue or a stack stands: behind what it gave. It is plain data, and ends.
+#[derive(Drop)]
+pub struct Iter<T> {
+    pub(crate) at: Link<LinkedEntry<T>>,
+}
