@@ -3,7 +3,7 @@
 
 use sdd_base::{AtomicShared, Domain, Guard, NoJob, Shared, Sizes, World, world};
 use std::alloc::{AllocError, Global};
-use std::process::{Abort, ExitCode};
+use std::process::ExitCode;
 use std::sync::Wait;
 
 const SIZES: Sizes = Sizes {
@@ -50,7 +50,7 @@ fn end<R: Wait>(rt: &R, mut domain: Domain<u64>) {
 }
 
 // The number again, by an item of a place of one thread, whose calls name the participant.
-fn kept<R: Abort>(rt: &R, alloc: Global, number: u64) -> Result<Option<u64>, AllocError> {
+fn kept<R: Wait>(rt: &R, alloc: Global, number: u64) -> Result<Option<u64>, AllocError> {
     let mut w = World::<u64, NoJob>::new(alloc, SIZES)?;
     let found = match world::shared::new(&mut w, number) {
         Ok(owner) => {
@@ -60,10 +60,19 @@ fn kept<R: Abort>(rt: &R, alloc: Global, number: u64) -> Result<Option<u64>, All
         }
         Err(_) => None,
     };
-    match w.close() {
-        Ok(()) => Ok(found),
-        Err(_) => panic!(rt; "no owner is out, and no guard is open"),
+    end_world(rt, w);
+    Ok(found)
+}
+
+// Ends a place of one thread: at once, since no owner is out and no guard is open.
+fn end_world<R: Wait>(rt: &R, mut w: World<u64, NoJob>) {
+    for _ in rt.forever() {
+        match w.close() {
+            Ok(()) => return,
+            Err(back) => w = back,
+        }
     }
+    unreachable!()
 }
 
 fn main(rt: HostRuntime) -> ExitCode {

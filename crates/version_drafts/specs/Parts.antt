@@ -1,5 +1,5 @@
 -- parts of a version that is being built
-use Rattle.std.specs.Prelude.{◌≡◌, ℕ, List, [], map, sum_by}
+use Rattle.std.specs.Prelude.{◌≡◌, ℕ, List, [], ◌∷◌, Option, Some, None, map, sum_by}
 use Rattle.tree_index.specs.Tree.{Tree}
 use Rattle.version_drafts.specs.declared.segments.Part.{Part}
 use Rattle.version_drafts.specs.declared.segments.Part.TheVariants as parts
@@ -8,6 +8,15 @@ module _ {K V N : Type 0} where
   -- where nothing is older, no name has pairs
   abbrev pub no_pairs : N → List (K × V)
   no_pairs name = []
+
+  -- a segment with its name, or none: its pairs, and the blocks of a version that has no other segment
+  abbrev pub lone_pairs : Option (Tree K V × N) → List (K × V)
+  lone_pairs None = []
+  lone_pairs (Some lone) = lone.0.pairs
+
+  abbrev pub lone_blocks : Option (Tree K V × N) → List (List (K × V))
+  lone_blocks None = []
+  lone_blocks (Some lone) = lone.0.pairs ∷ []
 
   -- the pairs of a part, where older segments have these pairs by their names
   abbrev pub part_pairs : (N → List (K × V)) → Part K V N → List (K × V)

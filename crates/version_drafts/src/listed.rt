@@ -12,26 +12,31 @@ use std::alloc::{AllocError, Global};
 use std::cmp::Ordering;
 use tree_index::TreeIndex;
 
-/// A version without segments, so that none is taken over.
+/// A version of one segment at most. A list is cut beside one without any, so that none is taken over.
 #[derive(Drop)]
-struct NoSegments;
+struct AtMostOne<K: Ord, V, N> {
+    only: Option<(TreeIndex<K, V>, N)>,
+}
 
-impl<K: Ord, V, N> BaseVersion<K, V, N> for NoSegments {
+impl<K: Ord, V, N: Copy> BaseVersion<K, V, N> for AtMostOne<K, V, N> {
     ghost use Rattle.std.specs.Prelude.{[]};
-    ghost use Rattle.version_drafts.specs.Parts.{no_pairs};
+    ghost use Rattle.version_drafts.specs.Parts.{lone_blocks, lone_pairs};
 
-    ghost blocks = { λ _. [] };
+    ghost blocks = { λ v. lone_blocks v.only };
 
     ghost separators = { λ _. [] };
 
-    ghost named = { λ _. no_pairs };
+    ghost named = { λ v _. lone_pairs v.only };
 
     fn count(&self) -> usize {
-        0
+        usize::from(self.only.is_some())
     }
 
     fn segment(&self, _place: usize) -> &TreeIndex<K, V> {
-        unreachable!()
+        match &self.only {
+            Some(only) => &only.0,
+            None => unreachable!(),
+        }
     }
 
     fn separators(&self) -> &[K] {
@@ -39,17 +44,23 @@ impl<K: Ord, V, N> BaseVersion<K, V, N> for NoSegments {
     }
 
     fn name(&self, _place: usize) -> N {
-        unreachable!()
+        match &self.only {
+            Some(only) => only.1,
+            None => unreachable!(),
+        }
     }
 
-    fn contains(&self, _key: &K) -> bool {
-        false
+    fn contains(&self, key: &K) -> bool {
+        match &self.only {
+            Some(only) => only.0.contains(key),
+            None => false,
+        }
     }
 }
 
 /// The segments of clones of these pairs, whose keys rise: all of them new, and as few as can hold the pairs. Fails only
 /// if an allocation fails.
-pub fn listed<K: Clone + Ord + Drop, V: Clone + Drop, N: Drop, const S: usize>(
+pub fn listed<K: Clone + Ord + Drop, V: Clone + Drop, N: Copy + Drop, const S: usize>(
     alloc: Global,
     pairs: &[(K, V)],
 ) -> Result<Segments<K, V, N>, AllocError>
@@ -63,13 +74,13 @@ pub fn listed<K: Clone + Ord + Drop, V: Clone + Drop, N: Drop, const S: usize>(
     ensures new { IfOk result (λ made. made_in made.parts.items ≡ length made.parts.items) }
     ensures fewest { IfOk result (λ made. S * length made.parts.items < length pairs.now + S) }
 {
-    let old = NoSegments;
-    let mut out = begun::<K, V, N, NoSegments, S>(alloc, &old, pairs.len())?;
+    let old = AtMostOne { only: None };
+    let mut out = begun::<K, V, N, AtMostOne<K, V, N>, S>(alloc, &old, pairs.len())?;
     expect::<K, V, N, S>(&mut out, pairs.len())?;
     for pair in pairs {
-        push::<K, V, N, NoSegments, S>(&mut out, &old, pair.0.clone()?, pair.1.clone()?)?;
+        push::<K, V, N, AtMostOne<K, V, N>, S>(&mut out, &old, pair.0.clone()?, pair.1.clone()?)?;
     }
-    let segments = finish::<K, V, N, NoSegments, S>(out, &old)?;
+    let segments = finish::<K, V, N, AtMostOne<K, V, N>, S>(out, &old)?;
     Ok(segments)
 }
 
