@@ -17,6 +17,8 @@ mod hostile;
 #[cfg(test)]
 mod large;
 #[cfg(test)]
+mod past;
+#[cfg(test)]
 mod plain;
 #[cfg(test)]
 mod play;

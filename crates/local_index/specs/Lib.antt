@@ -5,6 +5,7 @@ pub mod Receipts
 pub mod Conflicts
 pub mod Feeds
 pub mod FromBase
+pub mod Past
 pub mod Reading
 pub mod Lending
 pub use Rattle.local_versions.specs.Store

@@ -1,7 +1,7 @@
 //! The index of one thread.
 
-ghost use Rattle.std.specs.Prelude.{ℕ, ◌+◌, ◌≢◌, ◌≤◌, ◌≡◌, [], None, IfSome, IfNone, IfOk, OnOk, IsErr, IsOk, OnErr, replicate, slice_set, length, List, IfErr, ◌-◌, ◌*◌, ◌<◌, ◌^◌, ◌↔◌, ◌++◌, ◌∷◌, vec_capacity};
-ghost use Rattle.std.specs.Option.{option_copied};
+ghost use Rattle.std.specs.Prelude.{ℕ, ◌+◌, ◌≢◌, ◌≤◌, ◌≡◌, [], None, IfSome, IfNone, IfOk, OnOk, IsErr, IsOk, OnErr, get_or, replicate, slice_set, length, List, IfErr, ◌-◌, ◌*◌, ◌<◌, ◌^◌, ◌↔◌, ◌++◌, ◌∷◌, vec_capacity};
+ghost use Rattle.std.specs.Option.{option_copied, option_map};
 ghost use Rattle.leaf_array.specs.Pairs.{has_key, value_of_key};
 ghost use Rattle.leaf_array.specs.Values.{ClonesAreSame, EqualsAreSame};
 ghost use Rattle.tree_index.specs.Cursor.{whole};
@@ -11,26 +11,26 @@ ghost use Rattle.version_views.specs.Nearby.{as_proximity};
 ghost use Rattle.version_views.specs.Cuts.{pairs_in};
 ghost use Rattle.version_views.specs.Views.{cursor_within};
 ghost use Rattle.version_views.specs.Writes.{after_writes, replies_to};
-ghost use Rattle.std.specs.List.{All};
+ghost use Rattle.std.specs.List.{All, sum_by};
 ghost use Rattle.serial_history.specs.Answers.{answer_to};
-ghost use Rattle.serial_history.specs.Serial.{Holds, IsFirstConflict, RefusesSince, history_behind};
-ghost use Rattle.leaf_array.specs.Pairs.{IsAscending};
+ghost use Rattle.serial_history.specs.Serial.{Holds, IsFirstConflict};
 ghost use Rattle.version_views.specs.Sizes.{IsStoreSized, room_for, segments_for};
-ghost use Rattle.local_versions.specs.Store.{Version};
-ghost use Rattle.local_index.specs.State.{State, Has, latest_number, IsOpenAt, IsSessionAt, IsSessionOf, HasNoPlace, HasNoSession, Opens, Closes, Checkpoints, Rebases, list_at, list_open, list_read, present, transaction_of, MayAccept, MayRefuse, Commits, Refuses, Reads, Audits, Reclaims};
+ghost use Rattle.local_versions.specs.Store.{Version, gap};
+ghost use Rattle.local_index.specs.State.{State, Has, latest_number, IsOpenAt, IsSessionAt, IsSessionOf, HasNoPlace, HasNoSession, Opens, Closes, list_at, list_open, list_read, present, transaction_of, MayAccept, MayRefuse, Commits, Refuses, Reads, Audits, Reclaims};
 
 pub mod from_base;
+pub mod past;
 
 use crate::session::Session;
 use local_versions::{LocalStore, LocalView, Reply, Write, WriteRefused};
-use serial_history::base::{Base, drop_first, pairs_of};
+use serial_history::base::Base;
 use serial_history::ordered_view::{answer, first_conflict};
 use serial_history::replay::replay;
 use serial_history::transaction::{Prepared, copied_replies, prepare};
 use serial_history::version_view::value_in_counted;
 use serial_history::{
-    Accepted, Answer, Audit, Cause, CheckpointRefused, Nearby, Query, Receipt, Recorded, Refused,
-    Seq, SinceRefused, Transaction, Walk,
+    Accepted, Answer, Audit, Cause, Nearby, Query, Receipt, Recorded, Refused, Seq, Transaction,
+    Walk,
 };
 use std::alloc::{AllocError, Global};
 use std::marker::Model;
@@ -311,63 +311,6 @@ impl<K: Clone + Ord, V: Clone + Eq, const S: usize> LocalIndex<K, V, S> {
         })
     }
 
-    /// Makes the list of a number the base, in whose place the transactions up to it go: audits of lower numbers are
-    /// `TooOld` then. Sessions and slots stay as they are. What it keeps is one copy of each pair of that list.
-    ///
-    /// It is refused as `Behind` where the number is below the base's, as `Ahead` where it is above the present one,
-    /// and as `Memory`; each changes nothing. The base's own number is accepted without memory, and changes nothing.
-    pub fn checkpoint(&mut self, upto: u64) -> Result<(), CheckpointRefused>
-        requires keys { ClonesAreSame K.is_clone }
-        requires values { ClonesAreSame V.is_clone }
-        ensures { Checkpoints K.cmp self.old upto result self.new }
-    {
-        let first = self.first_number();
-        if upto < first {
-            return Err(CheckpointRefused::Behind(first));
-        }
-        let present = self.present_number();
-        if upto > present {
-            return Err(CheckpointRefused::Ahead(present));
-        }
-        if upto == first {
-            return Ok(());
-        }
-        let Ok(pairs) = self.pairs_at(upto) else {
-            return Err(CheckpointRefused::Memory);
-        };
-        self.rebase(upto, pairs);
-        Ok(())
-    }
-
-    /// The number of the base, and the pairs of its list by rising keys. It takes no memory.
-    pub fn base(&self) -> (u64, &[(K, V)])
-        ensures number { result.0 ≡ self.now.base.number }
-        ensures pairs { result.1.now ≡ self.now.base.pairs }
-        ensures rising { IsAscending K.cmp result.1.now }
-    {
-        (self.base.number(), self.base.pairs())
-    }
-
-    /// The transactions behind a number, in order: those that lead from its list to the present one. It takes no memory.
-    ///
-    /// It is refused as `TooOld` where the number is below the base's, since some of them are gone, and as `Ahead` where it is
-    /// above the present one. Whoever keeps a copy of the list asks for what came since, by the number of its copy.
-    pub fn since(&self, number: u64) -> Result<&[Transaction<K, V>], SinceRefused>
-        ensures told { IfOk result (λ rest. rest.now ≡ history_behind self.now.base self.now.history number) }
-        ensures has { IfOk result (λ _. Has self.now number) }
-        ensures refused { IfErr result (RefusesSince self.now.base self.now.history number) }
-    {
-        let first = self.first_number();
-        if number < first {
-            return Err(SinceRefused::TooOld(first));
-        }
-        let present = self.present_number();
-        if number > present {
-            return Err(SinceRefused::Ahead(present));
-        }
-        Ok(&self.history[(number - first) as usize..])
-    }
-
     /// How many slots are in use: those of the present version, of versions that sessions have, and
     /// of what is yet to be reclaimed; at least one, and at most all.
     pub fn slots_in_use(&self) -> usize
@@ -376,6 +319,36 @@ impl<K: Clone + Ord, V: Clone + Eq, const S: usize> LocalIndex<K, V, S> {
         ensures within { self.now.used ≤ self.now.slots }
     {
         self.store.slots_in_use()
+    }
+
+    /// How many slots are free. A commit of `w` writes isn't refused as `NoSlot` where `2 * w + 1` are.
+    pub fn free_slots(&self) -> usize
+        ensures { result + self.now.used ≡ self.now.slots }
+    {
+        self.store.free_slots()
+    }
+
+    /// For how many sessions at a time the index was made.
+    pub fn places(&self) -> usize
+        ensures { result ≡ length self.now.places }
+    {
+        self.store.places()
+    }
+
+    /// How many more sessions can be opened.
+    pub fn free_places(&self) -> usize
+        ensures { result ≡ sum_by gap self.now.places }
+    {
+        self.store.free_places()
+    }
+
+    /// The number of the list that the session at a place reads; none where no session is open there. A session that stays
+    /// open keeps all versions from its own on: the one with the lowest number is why slots aren't reclaimed.
+    pub fn number_at(&self, place: usize) -> Option<u64>
+        requires { place < length self.now.places }
+        ensures { result ≡ option_map (λ (version : Version K V). version.number) (get_or self.now.places place None) }
+    {
+        self.store.number_at(place)
     }
 
     /// Reclaims versions that no session has, with their segments: it opens and closes eight
@@ -537,32 +510,6 @@ impl<K: Clone + Ord, V: Clone + Eq, const S: usize> LocalIndex<K, V, S> {
         }
         let since = &self.history[..(number - first) as usize];
         replay(self.alloc, &self.base, since)
-    }
-
-    // Copies of the pairs of a number's list.
-    fn pairs_at(&self, number: u64) -> Result<Vec<(K, V)>, AllocError>
-        requires number { Has self.now number }
-        requires keys { ClonesAreSame K.is_clone }
-        requires values { ClonesAreSame V.is_clone }
-        ensures pairs { IfOk result (λ pairs. pairs.items ≡ list_at K.cmp self.now number) }
-        ensures rising { IfOk result (λ pairs. IsAscending K.cmp pairs.items) }
-    {
-        let list = self.rebuild_at(number)?;
-        // what is asked here tells the proof that the keys rise
-        let _count = list.len();
-        pairs_of(self.alloc, &list)
-    }
-
-    // Makes a list, that of a number, the base.
-    fn rebase(&mut self, upto: u64, pairs: Vec<(K, V)>)
-        requires has { Has self.old upto }
-        requires pairs { pairs.items ≡ list_at K.cmp self.old upto }
-        requires rising { IsAscending K.cmp pairs.items }
-        ensures { Rebases K.cmp self.old upto self.new }
-    {
-        let count = (upto - self.base.number()) as usize;
-        drop_first(&mut self.history, count);
-        self.base = Base::new(upto, pairs);
     }
 
     fn last(&self) -> u64

@@ -19,6 +19,7 @@ mod text;
 
 pub use desk::Desk;
 pub use index::from_base::{BaseCause, BaseRefused};
+pub use index::past::PastRefused;
 pub use index::{LocalIndex, NoPlace};
 pub use laws::{
     a_changed_range_is_a_conflict, a_feed_leads_to_the_present_list, own_receipts_audit_yes,

@@ -1,9 +1,12 @@
 //! An index that ends by itself.
 
-ghost use Rattle.std.specs.Prelude.{◌≡◌, ◌-◌, ◌^◌, [], None, IfOk, replicate};
-ghost use Rattle.version_views.specs.Sizes.{IsStoreSized};
+ghost use Rattle.std.specs.Prelude.{◌≡◌, ◌≤◌, ◌-◌, ◌^◌, [], None, IfErr, IfOk, length, replicate};
+ghost use Rattle.leaf_array.specs.Values.{ClonesAreSame};
+ghost use Rattle.version_views.specs.Sizes.{IsStoreSized, room_for};
+ghost use Rattle.local_index.specs.FromBase.{MayRefuseBase};
 
 use crate::index::LocalIndex;
+use crate::index::from_base::BaseRefused;
 use std::alloc::{AllocError, Global};
 
 /// An index that ends where it is let go, with the sessions that are open then.
@@ -20,6 +23,27 @@ impl<K: Clone + Ord, V: Clone + Eq, const S: usize> ScopedIndex<K, V, S> {
     {
         Ok(ScopedIndex {
             index: LocalIndex::new(alloc, places, slots)?,
+        })
+    }
+
+    /// An index that begins with a list under this number, as [`LocalIndex::from_base`] makes it, with the same refusals.
+    pub fn from_base(
+        alloc: Global,
+        number: u64,
+        pairs: Vec<(K, V)>,
+        places: usize,
+        slots: usize,
+    ) -> Result<Self, BaseRefused<K, V>>
+        requires size { IsStoreSized places slots S }
+        requires keys { ClonesAreSame K.is_clone }
+        requires values { ClonesAreSame V.is_clone }
+        ensures begins { IfOk result (λ scope. scope.index ≡ record { base = record { number = number; pairs = pairs.items }; history = []; places = replicate places None; last = 2 ^ 64 - 1; slots = slots; used = scope.index.used; raises = 0 }) }
+        ensures room { IfOk result (λ scope. scope.index.used ≤ room_for S (length pairs.items)) }
+        ensures cause { IfErr result (λ back. MayRefuseBase K.cmp S slots pairs.items back.cause) }
+        ensures back { IfErr result (λ back. back.pairs.items ≡ pairs.items) }
+    {
+        Ok(ScopedIndex {
+            index: LocalIndex::from_base(alloc, number, pairs, places, slots)?,
         })
     }
 }

@@ -1,7 +1,9 @@
 -- the places of a store that have no reader
-use Rattle.std.proofs.Common.{◌≡◌, ℕ, ◌<◌, ◌≤◌, List, [], ◌∷◌, ◌++◌, Option, None, Some, IsSome, get_or, length, set, refl, ap, arith, subst, length-set}
+use Rattle.std.proofs.Common.{◌≡◌, ℕ, ◌<◌, ◌≤◌, List, [], ◌∷◌, ◌++◌, Option, None, Some, IsSome, get_or, length, map, set, refl, ap, arith, subst, length-set}
 use Rattle.std.specs.Global.{Vec}
-use Rattle.std.specs.List.{All}
+use Rattle.std.specs.List.{All, sum_by}
+use Rattle.std.specs.Option.{option_map}
+use Rattle.std.proofs.lemmas.List.Sums.{sum_by-cons}
 use Rattle.std.specs.Vec.{vec_capacity}
 use Rattle.sdd_world.specs.View.{IsFreeList, Lists}
 use Rattle.sdd_world.proofs.ListLemmas.{lists_names, lists_none, lists_pop, lists_push}
@@ -18,6 +20,20 @@ gap_none (Some x) h = absurd (omega (arith, h))
 no_gap : {X : Type 0} (x : Option X) → gap x ≡ 0 → IsSome x
 no_gap None e = absurd (omega (arith, e))
 no_gap (Some x) e = refl
+
+-- as many places have no reader, whatever the others show
+pub gaps_mapped : {X Y : Type 0} (f : X → Y) (places : List (Option X)) → sum_by gap (map (option_map f) places) ≡ sum_by gap places
+gaps_mapped f [] = refl
+gaps_mapped f (place ∷ places) =
+    let rest = gaps_mapped f places in
+    let shown = sum_by-cons gap (option_map f place) (map (option_map f) places) in
+    let all = sum_by-cons gap place places in
+    let same = gap_mapped place in
+    omega (arith, rest, shown, all, same)
+  where
+    gap_mapped : (place : Option _) → gap (option_map f place) ≡ gap place
+    gap_mapped None = refl
+    gap_mapped (Some x) = refl
 
 module _ {X : Type 0} (places : List (Option X)) (free : Vec ℕ) (stack : IsFreeList gap places (length places) free) where
   -- the place that is taken has no reader

@@ -75,7 +75,7 @@
 
 pub use local_index::{
     Accepted, Answer, Audit, BaseCause, BaseRefused, Cause, CheckpointRefused, Desk, DeskCall,
-    DeskRefused, DeskReply, LocalIndex, Near, Nearby, NoPlace, Query, ReadSet, Reading, Receipt,
+    DeskRefused, DeskReply, LocalIndex, Near, Nearby, NoPlace, PastRefused, Query, ReadSet, Reading, Receipt,
     Recorded, Refused, Reply, ScopedIndex, Seq, Session, SinceRefused, Text, Transaction, Walk,
     Write, a_changed_range_is_a_conflict, a_feed_leads_to_the_present_list, clones_of_lists,
     equals_of_lists, ordered_view, own_receipts_audit_yes, play_all, play_one,

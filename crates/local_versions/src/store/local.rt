@@ -1,7 +1,8 @@
 //! The store of one thread.
 
-ghost use Rattle.std.specs.Prelude.{◌≡◌, ◌≤◌, ◌<◌, ◌+◌, ◌-◌, ◌*◌, ◌^◌, List, Option, None, Some, IfOk, IfSome, IfNone, IsErrOf, IsSome, IsTrue, IsFalse, ◌↔◌, OnOk, OnErr, length, replicate, slice_get, slice_set};
-ghost use Rattle.std.specs.List.{All};
+ghost use Rattle.std.specs.Prelude.{◌≡◌, ◌≤◌, ◌<◌, ◌+◌, ◌-◌, ◌*◌, ◌^◌, List, Option, None, Some, IfOk, IfSome, IfNone, IsErrOf, IsSome, IsTrue, IsFalse, ◌↔◌, OnOk, OnErr, get_or, length, replicate, slice_get, slice_set};
+ghost use Rattle.std.specs.List.{All, sum_by};
+ghost use Rattle.std.specs.Option.{option_map};
 ghost use Rattle.leaf_array.specs.Values.{ClonesAreSame};
 ghost use Rattle.sdd_world.specs.Passing.{slot_kept};
 ghost use Rattle.sdd_world.specs.State.{cell_at, value_at};
@@ -10,7 +11,7 @@ ghost use Rattle.version_views.specs.Cuts.{pairs_in};
 ghost use Rattle.version_views.specs.Items.{slots_of};
 ghost use Rattle.local_versions.specs.Placing.{CanBeShared, StandsAlone, list_alone, slots_for};
 ghost use Rattle.version_views.specs.Sizes.{IsStoreSized, room_for, segments_for};
-ghost use Rattle.local_versions.specs.Store.{Version, IsKeptHere, IsStore, next_version, no_version, version_in};
+ghost use Rattle.local_versions.specs.Store.{Version, IsKeptHere, IsStore, gap, next_version, no_version, version_in};
 ghost use Rattle.version_views.specs.Versions.{IsVersion, list_of};
 ghost use Rattle.version_views.specs.Writes.{after_writes, replies_to};
 ghost use Rattle.local_versions.specs.declared.store.readers.Opened.{Opened};
@@ -275,6 +276,38 @@ impl<K: Clone + Ord, V: Clone, const S: usize> LocalStore<K, V, S> {
         self.world.slots_in_use()
     }
 
+    /// How many slots are free.
+    pub fn free_slots(&self) -> usize
+        ensures { result + self.now.used ≡ self.now.slots }
+    {
+        self.world.free_slots()
+    }
+
+    /// How many places there are for readers.
+    pub fn places(&self) -> usize
+        ensures { result ≡ length self.now.readers }
+    {
+        self.readers.len()
+    }
+
+    /// How many places have no reader.
+    pub fn free_places(&self) -> usize
+        ensures { result ≡ sum_by gap self.now.readers }
+    {
+        self.free.len()
+    }
+
+    /// The number of the version that the reader of a place has; none where the place has no reader.
+    pub fn number_at(&self, place: usize) -> Option<u64>
+        requires { place < length self.now.readers }
+        ensures { result ≡ option_map (λ (v : Version K V). v.number) (get_or self.now.readers place None) }
+    {
+        if !self.is_read(place) {
+            return None;
+        }
+        Some(read_at(&self.world, &self.readers, place).number())
+    }
+
     // Whether a place has a reader.
     fn is_read(&self, place: usize) -> bool
         requires { place < length self.now.readers }
@@ -292,12 +325,6 @@ impl<K: Clone + Ord, V: Clone, const S: usize> LocalStore<K, V, S> {
         if self.is_read(place) {
             self.close(place);
         }
-    }
-
-    fn places(&self) -> usize
-        ensures { result ≡ length self.now.readers }
-    {
-        self.readers.len()
     }
 
     /// All readers go.

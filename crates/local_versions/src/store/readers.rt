@@ -32,6 +32,7 @@ pub(crate) fn read_at<'w, K: Ord, V, const S: usize>(
     requires reader { (v : Version K V) × (slice_get (map (option_map (read_by w.now)) readers.now) place ≡ Some (Some v)) }
     ensures version { IsVersion K.cmp (value_at w.now) result.now }
     ensures is { (v : Version K V) → slice_get (map (option_map (read_by w.now)) readers.now) place ≡ Some (Some v) → list_of (value_at w.now) result.now ≡ v.pairs }
+    ensures number { (v : Version K V) → slice_get (map (option_map (read_by w.now)) readers.now) place ≡ Some (Some v) → result.now.number ≡ v.number }
 {
     match &readers[place] {
         Some(opened) => seen(w, opened),
