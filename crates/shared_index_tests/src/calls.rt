@@ -11,7 +11,7 @@ use crate::place::Item;
 use sdd_domain::domain::Domain;
 use sdd_domain::local::Local;
 use sdd_plain::sizes::Sizes;
-use serial_history::{Accepted, Answer, Audit, Query, Receipt, Refused};
+use serial_history::{Accepted, Answer, Audit, CheckpointRefused, Query, Receipt, Refused};
 use shared_index::{Naming, Share, SharedIndex};
 use shared_sessions::{OpenRefused, SharedSession};
 use std::alloc::{AllocError, Global};
@@ -156,6 +156,15 @@ pub(crate) fn audit<L: Naming, R: Wait, const S: usize>(
     receipt: &Receipt<u64, u64>,
 ) -> Result<Audit, AllocError> {
     index.audit(rt, receipt)
+}
+
+/// Makes the list of a number the base.
+pub(crate) fn checkpoint<L: Naming, R: Wait, const S: usize>(
+    rt: &R,
+    index: &Index<'_, L, S>,
+    upto: u64,
+) -> Result<(), CheckpointRefused> {
+    index.checkpoint(rt, upto)
 }
 
 /// Reclaims what nobody reads.

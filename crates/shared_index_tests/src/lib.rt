@@ -4,6 +4,8 @@
 #[cfg(test)]
 mod calls;
 #[cfg(test)]
+mod checkpoints;
+#[cfg(test)]
 mod crowd;
 #[cfg(test)]
 mod index;
