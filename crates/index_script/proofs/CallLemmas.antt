@@ -18,6 +18,8 @@ stays_staged width old new (calls.Get label key) (replies.Accepted told) staged 
 stays_staged width old new (calls.Contains label key) (replies.Accepted told) staged other step = absurd step
 stays_staged width old new (calls.Range label lower upper) (replies.Accepted told) staged other step = absurd step
 stays_staged width old new (calls.Locate label key) (replies.Accepted told) staged other step = absurd step
+stays_staged width old new (calls.First label lower upper count) (replies.Accepted told) staged other step = absurd step
+stays_staged width old new (calls.Last label lower upper count) (replies.Accepted told) staged other step = absurd step
 stays_staged width old new (calls.Audit on) (replies.Accepted told) staged other step = absurd step
 stays_staged width old new (calls.Commit on writes) (replies.Accepted told) staged other step = absurd other
 stays_staged width old new calls.Reclaim (replies.Accepted told) staged other step = absurd step

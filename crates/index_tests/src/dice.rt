@@ -78,9 +78,11 @@ impl Dice {
 
     pub(crate) fn query(&mut self) -> Query<u64> {
         match self.throw(8) {
-            0 | 1 => Query::Get(self.key()),
-            2 => Query::Contains(self.key()),
-            3 | 4 | 5 => Query::Range(self.bound(), self.bound()),
+            0 => Query::Get(self.key()),
+            1 => Query::Contains(self.key()),
+            2 | 3 => Query::Range(self.bound(), self.bound()),
+            4 => Query::First(self.bound(), self.bound(), self.throw(6) as usize),
+            5 => Query::Last(self.bound(), self.bound(), self.throw(6) as usize),
             _ => Query::Locate(self.key()),
         }
     }

@@ -9,6 +9,8 @@ mod comparisons;
 #[cfg(test)]
 mod dice;
 #[cfg(test)]
+mod ends;
+#[cfg(test)]
 mod errors;
 #[cfg(test)]
 mod from_base;

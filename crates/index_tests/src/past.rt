@@ -5,6 +5,7 @@ use local_index::{
 };
 use std::alloc::{AllocError, Global};
 use std::process::Abort;
+use tree_index::TreeIndex;
 
 // An index of numbers, with two pairs in a segment.
 type Numbers = LocalIndex<u64, u64, 2>;
@@ -47,7 +48,10 @@ fn put<R: Abort>(rt: &R, alloc: Global, index: &mut Numbers, value: u64, met: &m
         Err(Refused { cause, writes }) => {
             assert!(rt; cause == Cause::Memory);
             *met = true;
-            assert!(rt; index.commit(&none, writes).is_ok(), "memory was refused twice");
+            assert!(rt;
+                index.commit(&none, writes).is_ok(),
+                "memory was refused twice"
+            );
         }
     }
 }
@@ -65,10 +69,15 @@ fn put_all<R: Abort>(
     }
 }
 
-// Whether the list of a number is the key 1 with this value.
+// Whether a list is the key 1 with this value.
+fn is_one(list: &TreeIndex<u64, u64>, value: u64) -> bool {
+    list.len() == 1 && list.peek(&1).copied() == Some(value)
+}
+
+// Whether the list of a number is so.
 fn was(index: &Numbers, number: u64, value: u64) -> bool {
     match index.past(number) {
-        Ok(list) => list.len() == 1 && list.peek(&1).copied() == Some(value),
+        Ok(list) => is_one(&list, value),
         Err(_) => false,
     }
 }
@@ -143,7 +152,7 @@ fn commits_keep_the_last_transactions(rt: HostRuntime) {
     let index = &mut scope.index;
     let mut value = 0u64;
     for base in BASES {
-        value += 1;
+        value = value.saturating_add(1);
         assert_eq!(rt; kept(&rt, rt.alloc(), index, value, &mut met), base);
     }
     assert!(rt; was(index, 9, 9) && was(index, 12, 12));
@@ -162,13 +171,13 @@ fn cut<R: Abort>(rt: &R, index: &mut Numbers, met: &mut bool) {
 // Asks for an older list, again where memory was refused.
 fn rebuilt<R: Abort>(rt: &R, index: &Numbers, met: &mut bool) {
     match index.past(2) {
-        Ok(_list) => {}
+        Ok(list) => assert!(rt; is_one(&list, 2)),
         Err(refused) => {
             assert!(rt; refused == PastRefused::Memory);
             *met = true;
+            assert!(rt; was(index, 2, 2), "memory was refused twice");
         }
     }
-    assert!(rt; was(index, 2, 2), "memory was refused twice");
 }
 
 // Whether memory was refused while an older list was asked for, and a history cut by itself and behind commits.

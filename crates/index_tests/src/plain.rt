@@ -18,6 +18,17 @@ pub(crate) fn answer(
             Ok(Answer::Range(Seq::from_vec(found)))
         }
         Query::Locate(key) => Ok(Answer::Locate(near(pairs, *key))),
+        Query::First(lower, upper, count) => {
+            let mut found = between(alloc, pairs, lower, upper)?;
+            found.truncate(*count);
+            Ok(Answer::Range(Seq::from_vec(found)))
+        }
+        Query::Last(lower, upper, count) => {
+            let found = between(alloc, pairs, lower, upper)?;
+            let from = found.len().saturating_sub(*count);
+            let last = Vec::from_clones(alloc, &found[from..])?;
+            Ok(Answer::Range(Seq::from_vec(last)))
+        }
     }
 }
 

@@ -131,7 +131,7 @@ impl Scene<2> {
 
 // Whether an allocation was refused while the calls of a table were made, each of which tells what is wanted, and then those
 // that take no memory, each of which is made once.
-fn insisted<R: Abort>(rt: &R, alloc: Global, rows: &[Row], once: &[Row]) -> bool {
+pub(crate) fn insisted<R: Abort>(rt: &R, alloc: Global, rows: &[Row], once: &[Row]) -> bool {
     let mut scene = Scene::<2>::new(rt, alloc, 2, 16, u64::MAX);
     let mut right = scene.insists_on(rows);
     for row in once {

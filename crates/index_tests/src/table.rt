@@ -18,6 +18,10 @@ pub(crate) enum Claim {
     Has(u64, bool),
     /// The pairs within two bounds.
     Listed(Bound<u64>, Bound<u64>, &'static [(u64, u64)]),
+    /// The first pairs within two bounds, up to a count.
+    Firsts(Bound<u64>, Bound<u64>, usize, &'static [(u64, u64)]),
+    /// The last ones.
+    Lasts(Bound<u64>, Bound<u64>, usize, &'static [(u64, u64)]),
     /// What is near a key: the pair that has it, those around it, or the one nearest.
     Exact(u64, (u64, u64)),
     Between(u64, (u64, u64), (u64, u64)),
@@ -113,6 +117,8 @@ fn query(claim: Claim) -> Query<u64> {
         Claim::Got(key, _) | Claim::Mixed(key, _) => Query::Get(key),
         Claim::Has(key, _) => Query::Contains(key),
         Claim::Listed(lower, upper, _) => Query::Range(lower, upper),
+        Claim::Firsts(lower, upper, count, _) => Query::First(lower, upper, count),
+        Claim::Lasts(lower, upper, count, _) => Query::Last(lower, upper, count),
         Claim::Exact(key, _)
         | Claim::Between(key, _, _)
         | Claim::Smaller(key, _)
@@ -125,7 +131,8 @@ fn answer(alloc: Global, claim: Claim) -> Result<Answer<u64, u64>, AllocError> {
     Ok(match claim {
         Claim::Got(_, value) => Answer::Get(value),
         Claim::Has(_, there) | Claim::Mixed(_, there) => Answer::Contains(there),
-        Claim::Listed(_, _, pairs) => Answer::Range(Seq::from_vec(Vec::from_clones(alloc, pairs)?)),
+        Claim::Listed(_, _, pairs) | Claim::Firsts(_, _, _, pairs) | Claim::Lasts(_, _, _, pairs) =>
+            { Answer::Range(Seq::from_vec(Vec::from_clones(alloc, pairs)?)) }
         Claim::Exact(_, (key, value)) => Answer::Locate(Near::Exact(key, value)),
         Claim::Between(_, (k, v), (l, w)) => Answer::Locate(Near::Between(k, v, l, w)),
         Claim::Smaller(_, (key, value)) => Answer::Locate(Near::Smaller(key, value)),
@@ -207,6 +214,8 @@ pub(crate) fn read_of(label: u64, query: Query<u64>) -> DeskCall<u64, u64> {
         Query::Contains(key) => DeskCall::Contains(label, key),
         Query::Range(lower, upper) => DeskCall::Range(label, lower, upper),
         Query::Locate(key) => DeskCall::Locate(label, key),
+        Query::First(lower, upper, count) => DeskCall::First(label, lower, upper, count),
+        Query::Last(lower, upper, count) => DeskCall::Last(label, lower, upper, count),
     }
 }
 

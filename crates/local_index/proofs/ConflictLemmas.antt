@@ -1,5 +1,8 @@
 -- Reads are tested by their answers alone.
-use Rattle.std.proofs.Common.{◌≡◌, ◌≢◌, ℕ, Bool, true, false, cond, List, [], ◌∷◌, ◌++◌, Some, refl, sym, ap, ◌∙◌}
+use Rattle.std.proofs.Common.{◌≡◌, ◌≢◌, ℕ, ◌+◌, ◌-◌, ◌≤◌, Bool, true, false, cond, List, [], ◌∷◌, ◌++◌, Some, length, take, drop, refl, sym, ap, ◌∙◌, arith, length-append}
+use Rattle.std.proofs.Math.Seq.{drop-append-add}
+use Rattle.std.proofs.lemmas.List.{take-append-le}
+use Rattle.std.proofs.lemmas.List.Elements.{filter-append}
 use Rattle.std.specs.BTreeMap.{is_at}
 use Rattle.std.specs.BTreeMap.Range.{entries_between, range_contains}
 use Rattle.std.specs.Cmp.{IsTotalOrder}
@@ -15,6 +18,7 @@ use Rattle.version_views.specs.declared.write.Write.{Write}
 use Rattle.version_views.specs.declared.write.Write.TheVariants as writes
 use Rattle.version_drafts.proofs.RangeLemmas.{fair_range}
 use Rattle.serial_history.specs.Answers.{answer_to}
+use Rattle.serial_history.specs.Parts.{last_items}
 use Rattle.serial_history.specs.Serial.{Holds, Read}
 use Rattle.local_index.specs.State.{MayRefuse, State, present}
 use Rattle.serial_history.specs.declared.commit.Cause.TheVariants as causes
@@ -56,3 +60,27 @@ module _ {K V : Type 0} {cmp : K → K → Ordering} (o : IsTotalOrder cmp) wher
 -- reads that hold are no conflict
 pub held_is_no_conflict : {K V : Type 0} (cmp : K → K → Ordering) (width : ℕ) (s : State K V) (reads : List (Read K V)) (writes : List (Write K V)) (place : ℕ) → All (Holds cmp (present cmp s)) reads → MayRefuse cmp width s reads writes (causes.Conflict place) → ⊥
 held_is_no_conflict cmp width s reads writes place hold first = let d = first_of reads place first.within in first.differs d (hold place d first.within)
+
+module _ {K V : Type 0} (cmp : K → K → Ordering) (lower upper : Bound K) (count : ℕ) where
+  -- what comes behind so many pairs of a range changes nothing in its first ones
+  first_same : (front xs : List (K × V)) → count ≤ length (entries_between cmp lower upper front) → take count (entries_between cmp lower upper (front ++ xs)) ≡ take count (entries_between cmp lower upper front)
+  first_same front xs few =
+      ap (take count) (filter-append (λ e. range_contains cmp lower upper e.0) front xs)
+      ∙ take-append-le count (entries_between cmp lower upper front) (entries_between cmp lower upper xs) few
+
+  pub first_holds : (front old new : List (K × V)) → count ≤ length (entries_between cmp lower upper front) → Holds cmp (front ++ new) (queries.First lower upper count, answer_to cmp (queries.First lower upper count) (front ++ old))
+  first_holds front old new few = ap answers.Range (first_same front old few ∙ sym (first_same front new few))
+
+  -- and what comes before so many changes nothing in its last ones
+  last_same : (xs back : List (K × V)) → count ≤ length (entries_between cmp lower upper back) → last_items count (entries_between cmp lower upper (xs ++ back)) ≡ last_items count (entries_between cmp lower upper back)
+  last_same xs back few =
+      let before : List (K × V) = entries_between cmp lower upper xs in
+      let last : List (K × V) = entries_between cmp lower upper back in
+      ap (last_items count) (filter-append (λ e. range_contains cmp lower upper e.0) xs back)
+      ∙ ap (λ n. drop n (before ++ last)) (passed before last few) ∙ drop-append-add before last (length last - count)
+    where
+      passed : (before last : List (K × V)) → count ≤ length last → length (before ++ last) - count ≡ length before + (length last - count)
+      passed before last few = omega (arith, few, length-append before last)
+
+  pub last_holds : (old new back : List (K × V)) → count ≤ length (entries_between cmp lower upper back) → Holds cmp (new ++ back) (queries.Last lower upper count, answer_to cmp (queries.Last lower upper count) (old ++ back))
+  last_holds old new back few = ap answers.Range (last_same old back few ∙ sym (last_same new back few))

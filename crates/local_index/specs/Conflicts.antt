@@ -1,6 +1,6 @@
 -- When reads are a conflict.
-use Rattle.std.specs.Prelude.{◌≡◌, ◌≢◌, ◌∷◌, ◌++◌, [], ℕ, List, Some, true}
-use Rattle.std.specs.BTreeMap.Range.{range_contains}
+use Rattle.std.specs.Prelude.{◌≡◌, ◌≢◌, ◌≤◌, ◌∷◌, ◌++◌, [], ℕ, List, Some, length, true}
+use Rattle.std.specs.BTreeMap.Range.{entries_between, range_contains}
 use Rattle.std.specs.List.{All}
 use Rattle.std.specs.declared.cmp.Ordering.{Ordering}
 use Rattle.std.specs.declared.ops.Bound.{Bound}
@@ -27,3 +27,11 @@ module _ {K : Type 0} (V : Type 0) (cmp : K → K → Ordering) where
   -- the range of a list that has a key in it isn't that of one that hasn't the key
   abbrev pub ChangedRangeDiffers : Type 0
   ChangedRangeDiffers = (lower upper : Bound K) (key : K) (old new : List (K × V)) → range_contains cmp lower upper key ≡ true → has_key cmp key old ≢ has_key cmp key new → Holds cmp new (queries.Range lower upper, answer_to cmp (queries.Range lower upper) old) → ⊥
+
+  -- the first pairs of a range are the same in lists that begin alike, as many as lie in that beginning
+  abbrev pub FirstPairsHold : Type 0
+  FirstPairsHold = (lower upper : Bound K) (count : ℕ) (front old new : List (K × V)) → count ≤ length (entries_between cmp lower upper front) → Holds cmp (front ++ new) (queries.First lower upper count, answer_to cmp (queries.First lower upper count) (front ++ old))
+
+  -- the last ones are the same in lists that end alike
+  abbrev pub LastPairsHold : Type 0
+  LastPairsHold = (lower upper : Bound K) (count : ℕ) (old new back : List (K × V)) → count ≤ length (entries_between cmp lower upper back) → Holds cmp (new ++ back) (queries.Last lower upper count, answer_to cmp (queries.Last lower upper count) (old ++ back))

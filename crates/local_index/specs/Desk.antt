@@ -174,6 +174,8 @@ module _ {K V : Type 0} where
     Step old (calls.Contains label key) reply new = ReadStep old label (queries.Contains key) reply new
     Step old (calls.Range label lower upper) reply new = ReadStep old label (queries.Range lower upper) reply new
     Step old (calls.Locate label key) reply new = ReadStep old label (queries.Locate key) reply new
+    Step old (calls.First label lower upper count) reply new = ReadStep old label (queries.First lower upper count) reply new
+    Step old (calls.Last label lower upper count) reply new = ReadStep old label (queries.Last lower upper count) reply new
     Step old (calls.Audit on) reply new = AuditStep old on reply new
     Step old (calls.Commit on writes) reply new = CommitStep old on writes.items reply new
     Step old calls.Reclaim reply new = ReclaimStep old reply new
@@ -189,6 +191,8 @@ module _ {K V : Type 0} where
     MayWantMemory m (calls.Contains label key) = IsKnown m.desk label
     MayWantMemory m (calls.Range label lower upper) = IsKnown m.desk label
     MayWantMemory m (calls.Locate label key) = IsKnown m.desk label
+    MayWantMemory m (calls.First label lower upper count) = IsKnown m.desk label
+    MayWantMemory m (calls.Last label lower upper count) = IsKnown m.desk label
     MayWantMemory m (calls.Audit on) = (receipt : Receipt K V) × RestsOn m.desk on receipt × Has m.index receipt.number
     MayWantMemory m (calls.Commit on writes) = (receipt : Receipt K V) × RestsOn m.desk on receipt × MayAccept cmp m.index receipt.reads
     MayWantMemory m (calls.Open label) = ⊥

@@ -1,7 +1,7 @@
 //! Laws of the model, which users of an index may rest on.
 
 ghost use Rattle.local_index.specs.Receipts.{CheckpointsKeepReceipts, CheckpointsKeepSessions, CommitsKeepReceipts, CommitsKeepSessions, OpeningsAreOwn, OthersKeepReceipts, OthersKeepSessions, OwnReceiptsAuditYes, ReadsKeepSessions};
-ghost use Rattle.local_index.specs.Conflicts.{ChangedRangeDiffers, HeldIsNoConflict, WrittenBackHolds};
+ghost use Rattle.local_index.specs.Conflicts.{ChangedRangeDiffers, FirstPairsHold, HeldIsNoConflict, LastPairsHold, WrittenBackHolds};
 ghost use Rattle.local_index.specs.Feeds.{FeedLeadsToPresent};
 
 /// A receipt of an index's own session audits `Yes`, memory aside, whatever is committed
@@ -30,6 +30,13 @@ pub fn reads_that_hold_are_no_conflict<K: Ord, V>()
 /// lists has a key within the bounds and the other hasn't, what one answers doesn't hold of the other.
 pub fn a_changed_range_is_a_conflict<K: Ord, V>()
     ensures { ChangedRangeDiffers V K.cmp }
+{}
+
+/// Whatever is written behind the first pairs of a recorded range, or before its last ones, is no conflict: the answer of a list is
+/// that of each that begins, or ends, with the same pairs, as long as these have so many of the range.
+pub fn pairs_beyond_a_part_are_no_conflict<K: Ord, V>()
+    ensures first { FirstPairsHold V K.cmp }
+    ensures last { LastPairsHold V K.cmp }
 {}
 
 /// The transactions behind a number lead from its list to the present one, so who has that list and makes their writes, one

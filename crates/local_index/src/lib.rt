@@ -23,7 +23,7 @@ pub use index::past::PastRefused;
 pub use index::{LocalIndex, NoPlace};
 pub use laws::{
     a_changed_range_is_a_conflict, a_feed_leads_to_the_present_list, own_receipts_audit_yes,
-    reads_that_hold_are_no_conflict,
+    pairs_beyond_a_part_are_no_conflict, reads_that_hold_are_no_conflict,
 };
 pub use play::{DeskCall, DeskReply, ReadSet, play_all, play_one};
 pub use reading::Reading;

@@ -30,7 +30,7 @@ pub enum DeskCall<K, V> {
     Open(u64),
     /// Closes the session with the label.
     Close(u64),
-    /// Reads the value of the pair with the key. This and the next three are recorded.
+    /// Reads the value of the pair with the key. This and the next five are recorded.
     Get(u64, K),
     /// Reads whether a pair has the key.
     Contains(u64, K),
@@ -38,6 +38,10 @@ pub enum DeskCall<K, V> {
     Range(u64, Bound<K>, Bound<K>),
     /// Reads the pair with the key, or the nearest ones.
     Locate(u64, K),
+    /// Reads the first of the pairs within two bounds, up to this count.
+    First(u64, Bound<K>, Bound<K>, usize),
+    /// Reads the last of the pairs within two bounds, up to this count.
+    Last(u64, Bound<K>, Bound<K>, usize),
     /// Audits these reads.
     Audit(ReadSet<K, V>),
     /// Commits the writes, on these reads.
@@ -164,6 +168,12 @@ pub fn play_one<K: Clone + Ord, V: Clone + Eq, const S: usize>(
             play_read(alloc, index, desk, label, Query::Range(lower, upper))
         }
         DeskCall::Locate(label, key) => play_read(alloc, index, desk, label, Query::Locate(key)),
+        DeskCall::First(label, lower, upper, count) => {
+            play_read(alloc, index, desk, label, Query::First(lower, upper, count))
+        }
+        DeskCall::Last(label, lower, upper, count) => {
+            play_read(alloc, index, desk, label, Query::Last(lower, upper, count))
+        }
         DeskCall::Audit(on) => play_audit(alloc, index, desk, &on),
         DeskCall::Commit(on, writes) => play_commit(alloc, index, desk, &on, writes),
         DeskCall::Reclaim => {

@@ -1,6 +1,8 @@
 pub mod RunLemmas
 pub mod ListLemmas
 pub mod RemainingPairsLemmas
+pub mod RemainingBackLemmas
+pub mod PartLemmas
 pub mod NearbyLemmas
 pub mod ReplayLemmas
 pub mod StepLemmas

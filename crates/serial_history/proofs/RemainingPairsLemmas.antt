@@ -32,18 +32,18 @@ module _ {K : Type 0} {cmp : K → K → Ordering} (o : IsTotalOrder cmp) where
   lt_after a p k Greater e t l = cc
 
   -- what comes behind a key within a lower bound is within it too, and what comes behind one past an upper bound is past it
-  from_after : (b : Bound K) (p k : K) → is_from_start cmp b p ≡ true → cmp p k ≡ Less → is_from_start cmp b k ≡ true
+  pub from_after : (b : Bound K) (p k : K) → is_from_start cmp b p ≡ true → cmp p k ≡ Less → is_from_start cmp b k ≡ true
   from_after (Included a) p k e l = le_after a p k (cmp a p) refl e l
   from_after (Excluded a) p k e l = lt_after a p k (cmp a p) refl e l
   from_after Unbounded p k e l = refl
 
-  past_after : (b : Bound K) (p k : K) → is_past_end cmp b p ≡ true → cmp p k ≡ Less → is_past_end cmp b k ≡ true
+  pub past_after : (b : Bound K) (p k : K) → is_past_end cmp b p ≡ true → cmp p k ≡ Less → is_past_end cmp b k ≡ true
   past_after (Included a) p k e l = lt_after a p k (cmp a p) refl e l
   past_after (Excluded a) p k e l = le_after a p k (cmp a p) refl e l
   past_after Unbounded p k e l = e
 
 module _ {K V : Type 0} {cmp : K → K → Ordering} (o : IsTotalOrder cmp) (lower upper : Bound K) where
-  none_between : (ps : List (K × V)) → AllKeys (λ k. is_past_end cmp upper k ≡ true) ps → entries_between cmp lower upper ps ≡ []
+  pub none_between : (ps : List (K × V)) → AllKeys (λ k. is_past_end cmp upper k ≡ true) ps → entries_between cmp lower upper ps ≡ []
   none_between [] a = refl
   none_between (p ∷ ps) a =
       on_test (is_from_start cmp lower p.0)
@@ -150,9 +150,15 @@ module _ {X : Type 0} where
   nothing [] e = refl
   nothing (x ∷ xs) e = absurd cc
 
-  -- a list that begins with what was given isn't the whole, where another item comes next
-  pub differs : (n : ℕ) (told left all : List X) → take n told ++ left ≡ all → n < length told → (slice_get left 0 ≡ slice_get told n → ⊥) → told ≡ all → ⊥
-  differs n told left all e h other same = other (sym (ap (λ xs. slice_get xs n) (same ∙ sym e) ∙ get_behind n told left h))
+  get_front : (n : ℕ) (xs ys : List X) → n < length xs → slice_get (xs ++ ys) n ≡ slice_get xs n
+  get_front n [] ys h = absurd (omega (arith, h))
+  get_front zero (x ∷ xs) ys h = refl
+  get_front (suc n) (x ∷ xs) ys h = get_front n xs ys (omega (arith, h))
+
+  -- no list that begins with these items is the whole, where another one was given among them
+  pub differs : (n : ℕ) (told left all : List X) → take n told ++ left ≡ all → n < length told → (slice_get left 0 ≡ slice_get told n → ⊥) → (more : List X) → told ++ more ≡ all → ⊥
+  differs n told left all e h other more same =
+      other (sym (sym (get_front n told more h) ∙ ap (λ xs. slice_get xs n) (same ∙ sym e) ∙ get_behind n told left h))
 
   pub done_all : (done left all : List X) → done ++ left ≡ all → slice_get left 0 ≡ None → done ≡ all
   done_all done left all e none = sym (append-nil done) ∙ ap (λ xs. done ++ xs) (sym (nothing left none)) ∙ e

@@ -1,5 +1,5 @@
 -- Answers to queries of a list of pairs.
-use Rattle.std.specs.Prelude.{◌-◌, List, length, slice_get, Option, Some, None}
+use Rattle.std.specs.Prelude.{◌-◌, List, length, slice_get, take, Option, Some, None}
 use Rattle.std.specs.Borrow.{Bor}
 use Rattle.std.specs.BTreeMap.{is_at}
 use Rattle.std.specs.BTreeMap.Range.{entries_between}
@@ -7,6 +7,7 @@ use Rattle.std.specs.Map.{lookup_entry}
 use Rattle.std.specs.declared.cmp.Ordering.{Ordering}
 use Rattle.leaf_array.specs.Edits.{above, below}
 use Rattle.leaf_array.specs.Pairs.{has_key, value_of_key}
+use Rattle.serial_history.specs.Parts.{last_items}
 use Rattle.serial_history.specs.declared.query.Query.{Query}
 use Rattle.serial_history.specs.declared.query.Query.TheVariants as queries
 use Rattle.serial_history.specs.declared.query.Answer.{Answer}
@@ -45,3 +46,5 @@ module _ {K V : Type 0} (cmp : K → K → Ordering) where
   answer_to (queries.Contains key) pairs = answers.Contains (has_key cmp key pairs)
   answer_to (queries.Range lower upper) pairs = answers.Range (entries_between cmp lower upper pairs)
   answer_to (queries.Locate key) pairs = answers.Locate (near key pairs)
+  answer_to (queries.First lower upper count) pairs = answers.Range (take count (entries_between cmp lower upper pairs))
+  answer_to (queries.Last lower upper count) pairs = answers.Range (last_items count (entries_between cmp lower upper pairs))

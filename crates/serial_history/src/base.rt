@@ -6,6 +6,7 @@ ghost use Rattle.leaf_array.specs.Values.{ClonesAreSame};
 ghost use Rattle.serial_history.specs.Serial.{Base};
 
 use crate::ordered_view::OrderedView;
+use crate::query::Part;
 use crate::transaction::Transaction;
 use std::alloc::{AllocError, Global};
 use std::marker::Model;
@@ -74,7 +75,7 @@ pub fn pairs_of<K: Clone + Ord, V: Clone + Eq, L: OrderedView<K, V>>(
     requires values { ClonesAreSame V.is_clone }
     ensures { IfOk result (λ copy. copy.items ≡ L.pairs list.now) }
 {
-    list.copy_between(alloc, &Bound::Unbounded, &Bound::Unbounded)
+    list.copy_between(alloc, &Bound::Unbounded, &Bound::Unbounded, Part::All)
 }
 
 /// Drops the first `count` transactions, which must be there. It takes no memory.

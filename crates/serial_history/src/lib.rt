@@ -27,7 +27,7 @@ pub mod version_view;
 
 pub use base::Base;
 pub use commit::{Accepted, Cause, CheckpointRefused, Refused, SinceRefused};
-pub use query::{Answer, Near, Query};
+pub use query::{Answer, Near, Part, Query};
 pub use seq::{Seq, clones_of_lists, equals_of_lists};
 pub use transaction::{Audit, Receipt, Recorded, Transaction};
 pub use version_view::{Nearby, Walk};

@@ -8,9 +8,10 @@ ghost use Rattle.leaf_array.specs.Pairs.{has_key, value_of_key};
 ghost use Rattle.leaf_array.specs.Values.{ClonesAreSame, EqualsAreSame};
 ghost use Rattle.tree_index.specs.Cursor.{deref_pair};
 ghost use Rattle.serial_history.specs.Answers.{answer_to, behind, near, near_by};
+ghost use Rattle.serial_history.specs.Parts.{part_of};
 ghost use Rattle.serial_history.specs.Serial.{Holds, IsFirstConflict};
 
-use crate::query::{Answer, Near, Query};
+use crate::query::{Answer, Near, Part, Query};
 use crate::scan::copied_pair;
 use crate::seq::Seq;
 use crate::transaction::Recorded;
@@ -26,22 +27,24 @@ pub trait OrderedView<K: Clone + Ord, V: Clone + Eq> {
     fn find(&self, key: &K) -> Option<&V>
         ensures { option_copied result ≡ value_of_key K.cmp key.now (pairs self.now) };
 
-    /// Whether these are the pairs within the bounds.
-    fn has_between(&self, lower: &Bound<K>, upper: &Bound<K>, told: &[(K, V)]) -> bool
+    /// Whether these are that part of the pairs within the bounds. No pair is read behind the first one that differs, and none
+    /// that lies out of the part but for one behind it.
+    fn has_between(&self, lower: &Bound<K>, upper: &Bound<K>, part: Part, told: &[(K, V)]) -> bool
         requires keys { EqualsAreSame K.eq }
         requires values { EqualsAreSame V.eq }
-        ensures { IsTrue result ↔ (told.now ≡ entries_between K.cmp lower.now upper.now (pairs self.now)) };
+        ensures { IsTrue result ↔ (told.now ≡ part_of part (entries_between K.cmp lower.now upper.now (pairs self.now))) };
 
-    /// A copy of the pairs within the bounds.
+    /// A copy of that part of the pairs within the bounds. No pair is read that lies out of the part but for one behind it.
     fn copy_between(
         &self,
         alloc: Global,
         lower: &Bound<K>,
         upper: &Bound<K>,
+        part: Part,
     ) -> Result<Vec<(K, V)>, AllocError>
         requires keys { ClonesAreSame K.is_clone }
         requires values { ClonesAreSame V.is_clone }
-        ensures { IfOk result (λ copy. copy.items ≡ entries_between K.cmp lower.now upper.now (pairs self.now)) };
+        ensures { IfOk result (λ copy. copy.items ≡ part_of part (entries_between K.cmp lower.now upper.now (pairs self.now))) };
 
     /// The pair with the key, or the nearest ones.
     fn near(&self, key: &K) -> Near<&K, &V>
@@ -65,10 +68,18 @@ pub fn answer<K: Clone + Ord, V: Clone + Eq, L: OrderedView<K, V>>(
         },
         Query::Contains(key) => Ok(Answer::Contains(has(list, key))),
         Query::Range(lower, upper) => {
-            let pairs = list.copy_between(alloc, lower, upper)?;
+            let pairs = list.copy_between(alloc, lower, upper, Part::All)?;
             Ok(Answer::Range(Seq::from_vec(pairs)))
         }
         Query::Locate(key) => Ok(Answer::Locate(cloned(&list.near(key))?)),
+        Query::First(lower, upper, most) => {
+            let pairs = list.copy_between(alloc, lower, upper, Part::First(*most))?;
+            Ok(Answer::Range(Seq::from_vec(pairs)))
+        }
+        Query::Last(lower, upper, most) => {
+            let pairs = list.copy_between(alloc, lower, upper, Part::Last(*most))?;
+            Ok(Answer::Range(Seq::from_vec(pairs)))
+        }
     }
 }
 
@@ -90,9 +101,15 @@ pub(crate) fn holds<K: Clone + Ord, V: Clone + Eq, L: OrderedView<K, V>>(
         },
         (Query::Contains(key), Answer::Contains(told)) => has(list, key) == *told,
         (Query::Range(lower, upper), Answer::Range(told)) => {
-            list.has_between(lower, upper, told.as_slice())
+            list.has_between(lower, upper, Part::All, told.as_slice())
         }
         (Query::Locate(key), Answer::Locate(told)) => is_same(&list.near(key), told),
+        (Query::First(lower, upper, most), Answer::Range(told)) => {
+            list.has_between(lower, upper, Part::First(*most), told.as_slice())
+        }
+        (Query::Last(lower, upper, most), Answer::Range(told)) => {
+            list.has_between(lower, upper, Part::Last(*most), told.as_slice())
+        }
         _ => false,
     }
 }

@@ -1,5 +1,8 @@
 //! Questions to a list of pairs, and their answers.
 
+ghost use Rattle.std.specs.Prelude.{◌≡◌, ◌<◌};
+ghost use Rattle.serial_history.specs.Parts.{has_room, is_over, place_of};
+
 use crate::seq::Seq;
 use std::ops::Bound;
 
@@ -14,10 +17,16 @@ pub enum Query<K> {
     Range(Bound<K>, Bound<K>),
     /// The pair with this key, or the nearest ones.
     Locate(K),
+    /// The first of the pairs within two bounds: so many, or all if there are fewer. A write behind
+    /// the last of so many changes nothing in it.
+    First(Bound<K>, Bound<K>, usize),
+    /// The last of the pairs within two bounds, by rising keys: so many, or all if there are fewer. A
+    /// write before the first of so many changes nothing in it.
+    Last(Bound<K>, Bound<K>, usize),
 }
 
-/// The answer to a [`Query`] of the same name. An answer of another kind than its query is never
-/// the right one.
+/// The answer to a [`Query`]: `Range` to `Range`, `First` and `Last`, and else that of the same name. An
+/// answer of another kind is never the right one.
 #[derive(Clone, Debug, PartialEq, Eq, Drop)]
 pub enum Answer<K, V> {
     /// The value, or none where no pair has the key.
@@ -28,6 +37,52 @@ pub enum Answer<K, V> {
     Range(Seq<(K, V)>),
     /// What stands at the key or around it.
     Locate(Near<K, V>),
+}
+
+/// Which of the pairs within two bounds are meant.
+#[derive(Clone, Copy, Debug, PartialEq, Eq)]
+pub enum Part {
+    /// All of them.
+    All,
+    /// The first ones: so many, or all if there are fewer.
+    First(usize),
+    /// The last ones: so many, or all if there are fewer.
+    Last(usize),
+}
+
+impl Part {
+    /// Whether it may have another pair beside so many.
+    pub(crate) fn has_room(self, count: usize) -> bool
+        ensures { result ≡ has_room self count }
+    {
+        match self {
+            Part::All => true,
+            Part::First(most) | Part::Last(most) => count < most,
+        }
+    }
+
+    /// Whether so many pairs are more than it may have.
+    pub(crate) fn is_over(self, count: usize) -> bool
+        ensures { result ≡ is_over self count }
+    {
+        match self {
+            Part::All => false,
+            Part::First(most) | Part::Last(most) => most < count,
+        }
+    }
+
+    /// Where the pair with this number stands among so many, if a cursor gives them: the last one first, where the last
+    /// ones are meant.
+    pub(crate) fn place(self, number: usize, count: usize) -> usize
+        requires { number < count }
+        ensures within { result < count }
+        ensures place { result ≡ place_of self number count }
+    {
+        match self {
+            Part::Last(_) => count - 1 - number,
+            _ => number,
+        }
+    }
 }
 
 /// The pair with a key, or the nearest ones where no pair has it.

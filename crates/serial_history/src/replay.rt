@@ -11,7 +11,7 @@ ghost use Rattle.serial_history.specs.RemainingPairs.{IsStart};
 
 use crate::base::Base;
 use crate::ordered_view::{OrderedView, around};
-use crate::query::Near;
+use crate::query::{Near, Part};
 use crate::scan::{Steps, collect, copied_pair, matches, next};
 use crate::transaction::Transaction;
 use crate::version_view::walk_all;
@@ -225,9 +225,9 @@ impl<K: Clone + Ord, V: Clone + Eq> OrderedView<K, V> for TreeIndex<K, V> {
         self.peek(key)
     }
 
-    fn has_between(&self, lower: &Bound<K>, upper: &Bound<K>, told: &[(K, V)]) -> bool {
+    fn has_between(&self, lower: &Bound<K>, upper: &Bound<K>, part: Part, told: &[(K, V)]) -> bool {
         let _ = self.len();
-        matches(self.range(lower.as_ref(), upper.as_ref()), told)
+        matches(self.range(lower.as_ref(), upper.as_ref()), part, told)
     }
 
     fn copy_between(
@@ -235,9 +235,10 @@ impl<K: Clone + Ord, V: Clone + Eq> OrderedView<K, V> for TreeIndex<K, V> {
         alloc: Global,
         lower: &Bound<K>,
         upper: &Bound<K>,
+        part: Part,
     ) -> Result<Vec<(K, V)>, AllocError> {
         let _ = self.len();
-        collect(alloc, self.range(lower.as_ref(), upper.as_ref()))
+        collect(alloc, self.range(lower.as_ref(), upper.as_ref()), part)
     }
 
     fn near(&self, key: &K) -> Near<&K, &V> {

@@ -9,7 +9,7 @@ ghost use Rattle.serial_history.specs.Answers.{behind, near};
 ghost use Rattle.serial_history.specs.RemainingPairs.{IsStart};
 
 use crate::ordered_view::{OrderedView, around};
-use crate::query::Near;
+use crate::query::{Near, Part};
 use crate::scan::{Steps, collect, matches};
 use std::alloc::{AllocError, Global};
 use std::ops::Bound;
@@ -26,6 +26,10 @@ impl<'t, K: Ord, V, W: Trees<K, V>> Steps<'t, K, V> for version_views::Walk<'t, 
 
     fn step(&mut self) -> Option<(&'t K, &'t V)> {
         self.next()
+    }
+
+    fn step_back(&mut self) -> Option<(&'t K, &'t V)> {
+        self.next_back()
     }
 }
 
@@ -111,8 +115,8 @@ impl<'w, K: Clone + Ord, V: Clone + Eq, W: Trees<K, V>> OrderedView<K, V>
         value_in(&self.reborrow(), key)
     }
 
-    fn has_between(&self, lower: &Bound<K>, upper: &Bound<K>, told: &[(K, V)]) -> bool {
-        matches(walk_within(self, lower, upper), told)
+    fn has_between(&self, lower: &Bound<K>, upper: &Bound<K>, part: Part, told: &[(K, V)]) -> bool {
+        matches(walk_within(self, lower, upper), part, told)
     }
 
     fn copy_between(
@@ -120,8 +124,9 @@ impl<'w, K: Clone + Ord, V: Clone + Eq, W: Trees<K, V>> OrderedView<K, V>
         alloc: Global,
         lower: &Bound<K>,
         upper: &Bound<K>,
+        part: Part,
     ) -> Result<Vec<(K, V)>, AllocError> {
-        collect(alloc, walk_within(self, lower, upper))
+        collect(alloc, walk_within(self, lower, upper), part)
     }
 
     fn near(&self, key: &K) -> Near<&K, &V> {

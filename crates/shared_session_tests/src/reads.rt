@@ -279,12 +279,16 @@ pub fn each_kind<R: Abort>(
     ensures closed { (own_of local.new).nesting ≡ 0 }
 {
     let range = Query::Range(Bound::Included(2), Bound::Unbounded);
+    let head = Query::First(Bound::Included(2), Bound::Unbounded, 1);
+    let tail = Query::Last(Bound::Unbounded, Bound::Excluded(5), 1);
     let rows = [
         (Query::Get(1), Answer::Get(Some(10))),
         (Query::Get(3), Answer::Get(None)),
         (Query::Contains(5), Answer::Contains(true)),
         (Query::Contains(4), Answer::Contains(false)),
         (range, pairs(rt, alloc, &[(2, 20), (5, 50)])),
+        (head, pairs(rt, alloc, &[(2, 20)])),
+        (tail, pairs(rt, alloc, &[(2, 20)])),
         (Query::Locate(2), Answer::Locate(Near::Exact(2, 20))),
         (
             Query::Locate(4),

@@ -9,9 +9,7 @@ ghost use Rattle.local_index.specs.Past.{CommitsKeeping, RefusesPast, Trims};
 
 use crate::index::LocalIndex;
 use serial_history::base::{Base, drop_first, pairs_of};
-use serial_history::{
-    Accepted, CheckpointRefused, Receipt, Refused, SinceRefused, Transaction,
-};
+use serial_history::{Accepted, CheckpointRefused, Receipt, Refused, SinceRefused, Transaction};
 use std::alloc::AllocError;
 use thiserror::Error;
 use tree_index::TreeIndex;

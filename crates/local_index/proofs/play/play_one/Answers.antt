@@ -62,6 +62,26 @@ returns-in-Locate g c = record {
   keeps_all = c.play_read-in-Locate.ensures.keeps_all;
 }
 
+pub returns-in-First : goal.returns-in-First
+returns-in-First g c = record {
+  step = rw c.in-First.is c.play_read-in-First.ensures.step;
+  memory = rw c.in-First.is c.play_read-in-First.ensures.memory;
+  index_kept = if_err c.play_read-in-First.result refl;
+  desk_kept = c.play_read-in-First.ensures.err;
+  serves = c.play_read-in-First.ensures.serves;
+  keeps_all = c.play_read-in-First.ensures.keeps_all;
+}
+
+pub returns-in-Last : goal.returns-in-Last
+returns-in-Last g c = record {
+  step = rw c.in-Last.is c.play_read-in-Last.ensures.step;
+  memory = rw c.in-Last.is c.play_read-in-Last.ensures.memory;
+  index_kept = if_err c.play_read-in-Last.result refl;
+  desk_kept = c.play_read-in-Last.ensures.err;
+  serves = c.play_read-in-Last.ensures.serves;
+  keeps_all = c.play_read-in-Last.ensures.keeps_all;
+}
+
 pub returns-in-Audit : goal.returns-in-Audit
 returns-in-Audit g c = record {
   step = rw c.in-Audit.is c.play_audit.ensures.step;

@@ -1,4 +1,4 @@
-use Rattle.std.proofs.Common.{◌≡◌, ◌∙◌, subst}
+use Rattle.std.proofs.Common.{◌≡◌, subst}
 use Rattle.std.specs.Prelude.{IfOk}
 use Rattle.serial_history.proofs.BaseLemmas.{between_all}
 use Rattle.serial_history.proofs.base.pairs_of.Goals as goal

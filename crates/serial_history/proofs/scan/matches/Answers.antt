@@ -1,20 +1,27 @@
-use Rattle.std.proofs.Common.{sym, ap, ◌∙◌, ◌++◌}
-use Rattle.std.proofs.lemmas.List.{take_all}
-use Rattle.serial_history.specs.RemainingPairs.{remaining_pairs}
-use Rattle.serial_history.proofs.RemainingPairsLemmas.{all_given, differs, left_at_start}
-use Rattle.version_views.proofs.OptionLemmas.{at_some}
+use Rattle.std.proofs.Common.{refl, sym, ◌∙◌}
+use Rattle.serial_history.specs.RemainingPairs.{remaining_of}
+use Rattle.serial_history.proofs.PartLemmas.{begins, full_given, left_at_first, part_given, rest_of, too_many}
 use Rattle.serial_history.proofs.scan.matches.Goals as goal
 
-pub returns-then-not-is_pair : goal.returns-then-not-is_pair
-returns-then-not-is_pair g c = (
+pub returns-then-is_over : goal.returns-then-is_over
+returns-then-is_over g c = (λ t. absurd cc, λ same. absurd (too_many c.args.part c.args.told.now _ (sym c.if-is_over.ensures) same))
+
+pub returns-then-not-gives : goal.returns-then-not-gives
+returns-then-not-gives g c = (
   λ t. absurd cc,
-  λ same. absurd (differs c.loop-pair.pair-index c.args.told.now (remaining_pairs g.K.Ord.cmp (g.C.Steps.cursor c.loop-pair.cursor)) _ c.loop-pair.invariant.given c.loop-pair-test.true
-      (λ first. let t = c.if-not-is_pair.ensures.1 (c.next.ensures.first ∙ first ∙ at_some c.loop-pair.pair-index c.args.told.now c.pair-item.result c.pair-item.result c.loop-pair-test.true c.pair-item.is) in cc)
-      (same ∙ sym (left_at_start g.met.K.Ord.total (g.C.Steps.cursor c.args.cursor) c.requires.start))),
+  λ same. absurd (c.if-not-gives.ensures.differs (rest_of c.args.part _) (begins c.args.part c.args.told.now _ same ∙ sym (left_at_first g.met.K.Ord.total c.args.part (g.C.Steps.cursor c.args.cursor) c.requires.start))),
 )
 
+pub returns-then-has_room : goal.returns-then-has_room
+returns-then-has_room g c =
+    part_given c.args.part c.args.told.now (remaining_of g.K.Ord.cmp c.args.part (g.C.Steps.cursor c.gives.new.cursor)) _ c.give.result c.is_none.result
+    (c.if-not-gives.ensures.given refl ∙ left_at_first g.met.K.Ord.total c.args.part (g.C.Steps.cursor c.args.cursor) c.requires.start)
+    c.is_none.ensures c.give.ensures.first (sym c.if-is_over.ensures) (sym c.if-has_room.ensures)
+
 pub returns : goal.returns
-returns g c =
-    all_given c.args.told.now (remaining_pairs g.K.Ord.cmp (g.C.Steps.cursor c.loop-pair.cursor)) _ c.next-2.result c.is_none.result
-    (ap (λ xs. xs ++ remaining_pairs g.K.Ord.cmp (g.C.Steps.cursor c.loop-pair.cursor)) (sym (take_all c.loop-pair.pair-index c.args.told.now c.loop-pair-test.false)) ∙ c.loop-pair.invariant.given ∙ left_at_start g.met.K.Ord.total (g.C.Steps.cursor c.args.cursor) c.requires.start)
-    c.is_none.ensures c.next-2.ensures.first
+returns g c = (
+  λ t. full_given c.args.part c.args.told.now (remaining_of g.K.Ord.cmp c.args.part (g.C.Steps.cursor c.gives.new.cursor)) _
+      (c.if-not-gives.ensures.given refl ∙ left_at_first g.met.K.Ord.total c.args.part (g.C.Steps.cursor c.args.cursor) c.requires.start)
+      (sym c.if-is_over.ensures) (sym c.if-has_room.ensures),
+  λ same. refl,
+)
