@@ -1,13 +1,14 @@
 //! Checkpoints: a number's list becomes the base, in whose place the transactions up to it go.
 
-use crate::table::Call::{Audit, Base, Checkpoint, Commit, Counts};
+use crate::table::Call::{Audit, Base, Checkpoint, Commit, Counts, Since};
 use crate::table::Claim::{Got, Listed};
-use crate::table::Told::{Accepted, Audited, Based, Counted, Done, Kept, Refused};
+use crate::table::Told::{Accepted, Audited, Based, Counted, Done, Fed, Kept, Refused, Unfed};
 use crate::table::{Call, Told, on_a_book, on_books};
 use serial_history::Audit::{No, TooOld, Unknown, Yes};
 use serial_history::Cause::{Conflict, Exhausted};
 use serial_history::CheckpointRefused::{Ahead, Behind};
 use serial_history::Reply::{Cleared, Inserted, Removed, Upserted};
+use shared_index::FeedRefused;
 use std::ops::Bound::Unbounded;
 use version_views::Write::{Clear, Insert, Remove, Upsert};
 
@@ -121,6 +122,57 @@ fn the_list_of_a_number_becomes_the_base(rt: HostRuntime) {
         rt.alloc(),
         &[BY_NUMBER, OF_NOTHING, TWO, AROUND_A_CLEARING],
     );
+}
+
+/// What came behind a number, before a checkpoint and afterwards.
+const FED: &[(Call, Told)] = &[
+    (Since(0), Fed(&[])),
+    (Since(1), Unfed(FeedRefused::Ahead(0))),
+    (Commit(0, &[], &[Insert(1, 10)]), Accepted(1, &[Inserted])),
+    (
+        Commit(
+            1,
+            &[Got(1, Some(10)), Got(2, None)],
+            &[Upsert(1, 11), Remove(1)],
+        ),
+        Accepted(2, &[Upserted, Removed]),
+    ),
+    (Commit(0, &[], &[]), Accepted(3, &[])),
+    (
+        Since(0),
+        Fed(&[
+            (&[], &[Insert(1, 10)], &[Inserted]),
+            (
+                &[Got(1, Some(10)), Got(2, None)],
+                &[Upsert(1, 11), Remove(1)],
+                &[Upserted, Removed],
+            ),
+            (&[], &[], &[]),
+        ]),
+    ),
+    (
+        Since(1),
+        Fed(&[
+            (
+                &[Got(1, Some(10)), Got(2, None)],
+                &[Upsert(1, 11), Remove(1)],
+                &[Upserted, Removed],
+            ),
+            (&[], &[], &[]),
+        ]),
+    ),
+    (Since(3), Fed(&[])),
+    (Since(4), Unfed(FeedRefused::Ahead(3))),
+    (Checkpoint(2), Done),
+    (Since(1), Unfed(FeedRefused::TooOld(2))),
+    (Since(2), Fed(&[(&[], &[], &[])])),
+    (Since(3), Fed(&[])),
+    (Counts, Counted(3, 0, 3)),
+];
+
+#[test]
+fn a_book_tells_what_came_behind_a_number(rt: HostRuntime) {
+    on_books(&rt, rt.alloc(), &[FED]);
 }
 
 /// The last number is two, which a checkpoint doesn't move.

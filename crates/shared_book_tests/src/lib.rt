@@ -10,6 +10,8 @@ mod checkpoints;
 #[cfg(test)]
 mod commits;
 #[cfg(test)]
+mod from_base;
+#[cfg(test)]
 mod refusals;
 #[cfg(test)]
 mod scene;

@@ -1,19 +1,19 @@
 //! Runs in which any one allocation may be refused. A script has each refused in turn: whatever is refused, nothing has
 //! changed, and the same call then succeeds.
 
-ghost use Rattle.std.specs.Prelude.{◌≡◌};
+ghost use Rattle.std.specs.Prelude.{◌≡◌, ◌≤◌};
 ghost use Rattle.sdd_domain.specs.Tokens.{place_of};
 ghost use Rattle.shared_index.specs.SharedInvariant.{IsUnengaged};
 ghost use Rattle.shared_book_tests.specs.Scenes.{CanBegin};
 
-use crate::scene::{Item, Scene, closed, in_use, member, place, registered};
+use crate::scene::{Item, Scene, closed, end, in_use, member, place, registered};
 use sdd_domain::domain::Domain;
 use sdd_domain::local::Local;
 use sdd_domain::refusal::RegisterRefused;
 use serial_history::{
     Accepted, Answer, Audit, Cause, CheckpointRefused, Query, Receipt, Refused, Reply,
 };
-use shared_index::{Naming, NewRefused};
+use shared_index::{FeedRefused, Naming, NewRefused};
 use std::alloc::{AllocError, Global};
 use std::marker::Brand;
 use std::process::Abort;
@@ -22,8 +22,39 @@ use version_views::Write;
 
 const TWICE: &str = "memory was refused twice";
 
+/// A place for so many items, made at once or, where memory was refused, by a second try.
+pub(crate) fn place_by_two<R: Abort>(
+    rt: &R,
+    alloc: Global,
+    slots: usize,
+    met: &mut bool,
+) -> Domain<Item>
+    requires { (1 ≤ slots) × (slots ≤ 1073741824) }
+{
+    match place(alloc, slots) {
+        Ok(domain) => domain,
+        Err(AllocError) => {
+            *met = true;
+            place(alloc, slots).expect(rt, TWICE)
+        }
+    }
+}
+
+/// Ends a place that nobody uses, at once or, where memory was refused, by a second try.
+pub(crate) fn end_by_two<R: Abort>(rt: &R, domain: Domain<Item>, met: &mut bool) {
+    let Err(domain) = closed(domain) else {
+        return;
+    };
+    *met = true;
+    end(rt, domain);
+}
+
 /// A participant, registered at once or, where memory was refused, by a second try.
-fn registered_by_two<R: Abort>(rt: &R, domain: &Domain<Item>, met: &mut bool) -> Local<Item>
+pub(crate) fn registered_by_two<R: Abort>(
+    rt: &R,
+    domain: &Domain<Item>,
+    met: &mut bool,
+) -> Local<Item>
     ensures { IsUnengaged (place_of domain.now) result }
 {
     match registered(domain) {
@@ -136,6 +167,18 @@ fn audit<L: Naming, R: Abort>(
     }
 }
 
+/// How many transactions came behind the first list, asked again where memory was refused.
+fn fed<L: Naming, R: Abort>(rt: &R, scene: &Scene<'_, L, 2>, met: &mut bool) -> usize {
+    match scene.since(1) {
+        Ok(rest) => rest.len(),
+        Err(why) => {
+            *met = true;
+            assert!(rt; why == FeedRefused::Memory);
+            scene.since(1).expect(rt, TWICE).len()
+        }
+    }
+}
+
 /// Makes the first list the base, again where memory was refused; then the base and the book were as before.
 fn checkpoint<L: Naming, R: Abort>(rt: &R, scene: &mut Scene<'_, L, 2>, met: &mut bool) {
     let before = state(scene);
@@ -174,6 +217,7 @@ fn writes_and_audits<L: Naming, R: Abort>(
     let read = receipt(rt, alloc, met);
     let second = commit(rt, alloc, &mut scene, &read, met);
     let replayed = audit(rt, &scene, &read, met);
+    assert_eq!(rt; fed(rt, &scene, met), 1);
     checkpoint(rt, &mut scene, met);
     let based = audit(rt, &scene, &read, met);
     let counts = scene.counts();
@@ -199,25 +243,12 @@ fn is_right(found: &Found) -> bool {
 /// memory was refused.
 fn in_a_place<R: Abort>(rt: &R, alloc: Global) -> bool {
     let mut met = false;
-    let domain = match place(alloc, 16) {
-        Ok(domain) => domain,
-        Err(AllocError) => {
-            met = true;
-            place(alloc, 16).expect(rt, TWICE)
-        }
-    };
+    let domain = place_by_two(rt, alloc, 16, &mut met);
     let local = registered_by_two(rt, &domain, &mut met);
     let found = writes_and_audits::<Brand, R>(rt, alloc, &domain, local, Blank::new(1), &mut met);
     assert!(rt; is_right(&found));
-    let mut domain = domain;
-    for _i in 0..2u32 {
-        domain = match closed(domain) {
-            Ok(()) => return met,
-            Err(back) => back,
-        };
-        met = true;
-    }
-    panic!(rt; "nobody is registered")
+    end_by_two(rt, domain, &mut met);
+    met
 }
 
 #[test]

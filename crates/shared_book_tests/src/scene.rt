@@ -11,9 +11,9 @@ use sdd_domain::domain::Domain;
 use sdd_domain::local::Local;
 use sdd_domain::refusal::RegisterRefused;
 use sdd_plain::sizes::Sizes;
-use serial_history::{Accepted, Audit, CheckpointRefused, Receipt, Refused};
-use shared_index::{Book, Naming, NewRefused, Share};
-use shared_versions::Node;
+use serial_history::{Accepted, Audit, CheckpointRefused, Receipt, Refused, Transaction};
+use shared_index::{BaseList, Book, FeedRefused, Naming, NewRefused, Share, SharedBaseRefused};
+use shared_versions::{Node, reclaim};
 use std::alloc::{AllocError, Global};
 use std::process::Abort;
 use std::sync::ledger::Blank;
@@ -59,6 +59,15 @@ pub(crate) fn member<R: Abort>(rt: &R, domain: &Domain<Item>) -> Local<Item>
         Ok(local) => local,
         Err(_) => panic!(rt; "a participant is free"),
     }
+}
+
+/// Reclaims what a participant retired, and ends it.
+pub(crate) fn leave(domain: &Domain<Item>, local: Local<Item>)
+    requires { IsUnengaged (place_of domain.now) local }
+{
+    let mut local = local;
+    reclaim(domain, &mut local);
+    local.end(domain);
 }
 
 /// Ends a place that nobody uses, or hands it back.
@@ -114,6 +123,29 @@ impl<'d, L: Naming, const S: usize> Scene<'d, L, S> {
         })
     }
 
+    /// A book that begins with a list; or what it was to be made of, and why it wasn't.
+    pub(crate) fn holding(
+        alloc: Global,
+        domain: &'d Domain<Item>,
+        local: Local<Item>,
+        blank: Blank,
+        base: BaseList<u64, u64>,
+    ) -> Result<Self, (Local<Item>, Blank, SharedBaseRefused<u64, u64>)>
+        requires begins { CanBegin L.place L.name L.parts 1 domain.now local blank }
+        requires last { L.last ≡ 18446744073709551615 }
+        requires size { (1 ≤ S) × (S ≤ 225) }
+        ensures back { IfErr result (λ back. CanBegin L.place L.name L.parts 1 domain.now back.0 back.1) }
+        ensures domain { IfOk result (λ scene. scene.domain.now ≡ domain.now) }
+    {
+        let (book, root, shares) = Book::from_base(alloc, domain, local, blank, 1, base)?;
+        Ok(Scene {
+            domain,
+            root,
+            book,
+            shares,
+        })
+    }
+
     /// An empty book, for which there is room.
     pub(crate) fn new<R: Abort>(
         rt: &R,
@@ -157,6 +189,16 @@ impl<'d, L: Naming, const S: usize> Scene<'d, L, S> {
     /// The base's number, and its pairs.
     pub(crate) fn base(&self) -> (u64, &[(u64, u64)]) {
         self.book.base()
+    }
+
+    /// The same, copied.
+    pub(crate) fn base_list(&self) -> Result<BaseList<u64, u64>, AllocError> {
+        self.book.base_list()
+    }
+
+    /// Copies of the transactions behind a number.
+    pub(crate) fn since(&self, number: u64) -> Result<Vec<Transaction<u64, u64>>, FeedRefused> {
+        self.book.since(number)
     }
 
     /// The number, how many pairs there are, and the count of the share.

@@ -8,9 +8,9 @@ use sdd_domain::domain::Domain;
 use sdd_domain::local::Local;
 use serial_history::{
     Accepted, Answer, Audit, Cause, CheckpointRefused, Near, Query, Receipt, Recorded, Refused,
-    Reply, Seq,
+    Reply, Seq, Transaction,
 };
-use shared_index::Naming;
+use shared_index::{FeedRefused, Naming};
 use std::alloc::{AllocError, Global};
 use std::marker::Brand;
 use std::ops::Bound;
@@ -42,9 +42,17 @@ pub(crate) enum Call {
     Audit(u64, &'static [Claim]),
     Checkpoint(u64),
     Base,
+    Since(u64),
     Counts,
     Reclaim,
 }
+
+/// What a transaction read, wrote and was told.
+pub(crate) type Entry = (
+    &'static [Claim],
+    &'static [Write<u64, u64>],
+    &'static [Reply],
+);
 
 /// What a call answers.
 #[derive(Clone, Copy)]
@@ -57,6 +65,9 @@ pub(crate) enum Told {
     Kept(CheckpointRefused),
     /// The base's number, and its pairs.
     Based(u64, &'static [(u64, u64)]),
+    /// The transactions behind a number.
+    Fed(&'static [Entry]),
+    Unfed(FeedRefused),
     /// The number, how many pairs there are, and the count of the share.
     Counted(u64, usize, u64),
     Done,
@@ -113,6 +124,37 @@ fn commits<L: Naming, R: Abort, const S: usize>(
     }
 }
 
+/// Whether a transaction read, wrote and was told this.
+fn is_entry<R: Abort>(
+    rt: &R,
+    alloc: Global,
+    transaction: &Transaction<u64, u64>,
+    entry: Entry,
+) -> bool {
+    let claimed = receipt(alloc, 0, entry.0).expect(rt, ROOM);
+    transaction.reads.as_slice() == claimed.reads.as_slice()
+        && transaction.writes.as_slice() == entry.1
+        && transaction.replies.as_slice() == entry.2
+}
+
+/// Whether these are the transactions behind a number.
+fn is_fed<L: Naming, R: Abort, const S: usize>(
+    rt: &R,
+    alloc: Global,
+    scene: &Scene<'_, L, S>,
+    number: u64,
+    entries: &[Entry],
+) -> bool {
+    let Ok(fed) = scene.since(number) else {
+        return false;
+    };
+    let mut alike = fed.len() == entries.len();
+    for (transaction, entry) in fed.iter().zip(entries) {
+        alike = is_entry(rt, alloc, transaction, *entry) && alike;
+    }
+    alike
+}
+
 /// Makes a call, and tells whether it answers what is wanted.
 fn answers<L: Naming, R: Abort, const S: usize>(
     rt: &R,
@@ -133,6 +175,8 @@ fn answers<L: Naming, R: Abort, const S: usize>(
         (Call::Checkpoint(upto), Told::Kept(why)) => scene.checkpoint(upto) == Err(why),
         (Call::Checkpoint(upto), Told::Done) => scene.checkpoint(upto) == Ok(()),
         (Call::Base, Told::Based(number, pairs)) => scene.base() == (number, pairs),
+        (Call::Since(number), Told::Fed(entries)) => is_fed(rt, alloc, scene, number, entries),
+        (Call::Since(number), Told::Unfed(why)) => scene.since(number).err() == Some(why),
         (Call::Counts, Told::Counted(number, pairs, count)) => {
             scene.counts() == (number, pairs, count)
         }
@@ -145,7 +189,7 @@ fn answers<L: Naming, R: Abort, const S: usize>(
 }
 
 /// Makes the calls of a table on a book, and ends it: how many answer what is wanted before the first that doesn't.
-fn played<L: Naming, R: Abort, const S: usize>(
+pub(crate) fn played<L: Naming, R: Abort, const S: usize>(
     rt: &R,
     alloc: Global,
     scene: Scene<'_, L, S>,

@@ -16,6 +16,9 @@ use Rattle.serial_history.proofs.RunLemmas.{IsSerial-push, after_all-push}
 use Rattle.shared_versions.specs.Drafts.{list_of}
 use Rattle.shared_versions.specs.Placing.{IsStillButMisses, Placed}
 use Rattle.shared_index.specs.Books.{LiesOutside}
+use Rattle.shared_index.specs.SharedFeeds.{LiesOutsideFeed, RefusesFeed}
+use Rattle.shared_index.specs.declared.book.feed.FeedRefused.{FeedRefused}
+use Rattle.shared_index.specs.declared.book.feed.FeedRefused.TheVariants as feeds
 use Rattle.shared_index.specs.SharedInvariant.{IsUnengaged, IsHistory, IsLatest}
 
 -- the same guards are open, and nothing is in hand
@@ -75,3 +78,9 @@ pub lies_outside : {K V : Type 0} (base : Base K V) (history : List (Transaction
 lies_outside base history upto (checkpoints.Behind number) h = let below = h.0 in let is = h.1 in omega (arith, below, is)
 lies_outside base history upto (checkpoints.Ahead number) h = let above = h.0 in let is = h.1 in omega (arith, above, is)
 lies_outside base history upto checkpoints.Memory h = tt
+
+-- nor what came behind one
+pub lies_outside_feed : {K V : Type 0} (base : Base K V) (history : List (Transaction K V)) (n : ℕ) (why : FeedRefused) → RefusesFeed base history n why → LiesOutsideFeed n why
+lies_outside_feed base history n (feeds.TooOld number) h = let below = h.0 in let is = h.1 in omega (arith, below, is)
+lies_outside_feed base history n (feeds.Ahead number) h = let above = h.0 in let is = h.1 in omega (arith, above, is)
+lies_outside_feed base history n feeds.Memory h = tt

@@ -1,2 +1,4 @@
 pub mod Books
+pub mod SharedBase
+pub mod SharedFeeds
 pub mod SharedInvariant

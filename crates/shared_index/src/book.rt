@@ -11,6 +11,9 @@ ghost use Rattle.shared_index.specs.Books.{CanCommit, CanRefuse, IsAuditOf, list
 ghost use Rattle.shared_index.specs.SharedInvariant.{IsUnengaged};
 ghost use Rattle.version_views.specs.Writes.{replies_to};
 
+pub mod feed;
+pub mod from_base;
+
 use crate::commit::{begin, install};
 use crate::naming::Naming;
 use crate::share::{Share, cut, end_all};

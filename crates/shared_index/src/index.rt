@@ -1,20 +1,25 @@
 //! The index that threads share.
 
-ghost use Rattle.std.specs.Prelude.{◌≡◌, ◌≢◌, ◌≤◌, ◌<◌, ◌+◌, ◌↔◌, [], IfOk, IfErr, IsErr, IsErrOf, OnOk, OnErr, length, replicate};
+ghost use Rattle.std.specs.Prelude.{◌≡◌, ◌≢◌, ◌≤◌, ◌<◌, ◌+◌, ◌-◌, ◌∷◌, ◌↔◌, [], IfOk, IfErr, IsErr, IsErrOf, OnOk, OnErr, length, replicate};
 ghost use Rattle.std.specs.List.{sum};
+ghost use Rattle.leaf_array.specs.Pairs.{IsAscending};
 ghost use Rattle.leaf_array.specs.Values.{ClonesAreSame, EqualsAreSame};
 ghost use Rattle.sdd_domain.specs.Tokens.{place_of, home_of, own_of, born_of, cell_count, misses_of, nest_in, IsSame};
 ghost use Rattle.shared_index.specs.Books.{LiesOutside, misses_without};
+ghost use Rattle.shared_index.specs.SharedFeeds.{LiesOutsideFeed};
+ghost use Rattle.shared_index.specs.SharedBase.{MayRefuseBase, misses_unbegun};
 ghost use Rattle.shared_index.specs.SharedInvariant.{IsUnengaged};
 ghost use Rattle.shared_sessions.specs.Openings.{IsBelow, root_number};
 
+use crate::book::feed::FeedRefused;
+use crate::book::from_base::{BaseList, SharedBaseRefused};
 use crate::book::{Book, NewRefused};
 use crate::naming::Naming;
 use crate::share::{Share, merged};
 use sdd_domain::atomic_shared::AtomicShared;
 use sdd_domain::domain::Domain;
 use sdd_domain::local::Local;
-use serial_history::{Accepted, Audit, CheckpointRefused, Receipt, Refused};
+use serial_history::{Accepted, Audit, CheckpointRefused, Receipt, Refused, Transaction};
 use shared_sessions::{OpenRefused, Root, SharedSession};
 use shared_versions::Node;
 use std::alloc::{AllocError, Global};
@@ -99,6 +104,48 @@ impl<'d, L: Naming, K: Clone + Ord, V: Clone + Eq, const S: usize> SharedIndex<'
         ensures blank { IfErr result (λ back. back.1 ≡ blank) }
     {
         let (book, root, cut) = Book::new(alloc, domain, local, blank, shares, last)?;
+        let index = SharedIndex {
+            domain,
+            root,
+            book: Mutex::new(book),
+            shares,
+            alloc,
+        };
+        Ok((index, cut))
+    }
+
+    /// An index in a place whose base is this list, under its number, with so many shares, at least one. Its last number is
+    /// `2^64 - 1`. So an index goes on in many threads where [`base`](Self::base), or that of an index of one thread, was read.
+    ///
+    /// The first share begins at the number of the list, and the others at 0: so their counts sum to the number, as ever.
+    ///
+    /// The causes are decided in this order, and all comes back with each: `NotAscending`, before any memory is asked for;
+    /// `Memory`, before anything is placed; `NoSlot`, where too few slots are free for the list, or no cell, which is one miss
+    /// of the participant: what was placed until then waits to be reclaimed.
+    pub fn from_base(
+        alloc: Global,
+        domain: &'d Domain<Node<K, V>>,
+        local: Local<Node<K, V>>,
+        blank: Blank,
+        shares: usize,
+        base: BaseList<K, V>,
+    ) -> Result<(Self, Vec<Share<L>>), (Local<Node<K, V>>, Blank, SharedBaseRefused<K, V>)>
+        requires place { place_of domain.now ≡ L.place }
+        requires rest { IsUnengaged L.place local }
+        requires size { (1 ≤ S) × (S ≤ 225) }
+        requires name { blank.name ≡ L.name }
+        requires parts { (blank.parts ≡ L.parts) × (blank.parts ≡ shares) × (0 < shares) }
+        requires last { L.last ≡ 18446744073709551615 }
+        requires keys { ClonesAreSame K.is_clone }
+        requires values { ClonesAreSame V.is_clone }
+        ensures shares { IfOk result (λ made. made.1.items ≡ base.number ∷ replicate (shares - 1) 0) }
+        ensures cause { IfErr result (λ back. MayRefuseBase K.cmp base.pairs.items back.2.cause) }
+        ensures pairs { IfErr result (λ back. back.2.pairs.items ≡ base.pairs.items) }
+        ensures local { IfErr result (λ back. IsUnengaged L.place back.0) }
+        ensures missed { IfErr result (λ back. misses_of back.0 ≡ misses_unbegun back.2.cause (misses_of local)) }
+        ensures blank { IfErr result (λ back. back.1 ≡ blank) }
+    {
+        let (book, root, cut) = Book::from_base(alloc, domain, local, blank, shares, base)?;
         let index = SharedIndex {
             domain,
             root,
@@ -205,6 +252,33 @@ impl<'d, L: Naming, K: Clone + Ord, V: Clone + Eq, const S: usize> SharedIndex<'
     {
         let mut book = self.book.lock(rt);
         let told = book.checkpoint(upto);
+        MutexGuard::unlock(book);
+        told
+    }
+
+    /// The number of the base, and copies of the pairs of its list, as [`Book::base_list`] has them, under the lock: until they are
+    /// copied, commits and audits wait. Another index begins with them. Fails only if an allocation fails.
+    pub fn base<R: Wait>(&self, rt: &R) -> Result<BaseList<K, V>, AllocError>
+        requires keys { ClonesAreSame K.is_clone }
+        requires values { ClonesAreSame V.is_clone }
+        ensures rising { IfOk result (λ list. IsAscending K.cmp list.pairs.items) }
+        ensures last { IfOk result (λ list. list.number ≤ L.last) }
+    {
+        let book = self.book.lock(rt);
+        let list = book.base_list();
+        MutexGuard::unlock(book);
+        list
+    }
+
+    /// Copies of the transactions behind a number, as [`Book::since`] has them, under the lock: until they are copied, commits and
+    /// audits wait. Whoever keeps a copy of the list asks for what came since, by the number of its copy.
+    pub fn since<R: Wait>(&self, rt: &R, number: u64) -> Result<Vec<Transaction<K, V>>, FeedRefused>
+        requires keys { ClonesAreSame K.is_clone }
+        requires values { ClonesAreSame V.is_clone }
+        ensures refused { IfErr result (LiesOutsideFeed number) }
+    {
+        let book = self.book.lock(rt);
+        let told = book.since(number);
         MutexGuard::unlock(book);
         told
     }

@@ -24,6 +24,8 @@ mod naming;
 mod share;
 mod sharing;
 
+pub use book::feed::FeedRefused;
+pub use book::from_base::{BaseList, SharedBaseCause, SharedBaseRefused};
 pub use book::{Book, NewRefused};
 pub use index::SharedIndex;
 pub use naming::Naming;

@@ -1,13 +1,14 @@
 //! Shares of an index, which count the accepted commits that were made with them.
 
-ghost use Rattle.std.specs.Prelude.{◌≡◌, ◌<◌, ◌≤◌, ◌+◌, ◌-◌, ◌^◌, [], length, replicate, vec_capacity, IfNone, IfSome};
+ghost use Rattle.std.specs.Prelude.{◌≡◌, ◌<◌, ◌≤◌, ◌+◌, ◌-◌, ◌^◌, ◌∷◌, ◌++◌, [], length, replicate, vec_capacity, IfNone, IfSome};
 ghost use Rattle.std.specs.List.{sum};
 
 use crate::naming::Naming;
 use std::marker::Model;
 use std::sync::ledger;
 
-/// A share of an index. Who has it commits, and it counts the accepted commits that were made with it.
+/// A share of an index. Who has it commits, and it counts the accepted commits that were made with it. The first share of an
+/// index that begins with a list counts those before it, too: it begins at the number of the list.
 ///
 /// Contracts see that count. A share must be consumed by [`SharedIndex::close`](crate::SharedIndex::close) or
 /// [`Book::end`](crate::Book::end), with all others.
@@ -28,7 +29,8 @@ impl<L: Naming> Model for Share<L> {
 }
 
 impl<L: Naming> Share<L> {
-    /// How many accepted commits were made with it.
+    /// How many accepted commits were made with it, and where it is the first share of an index that began with a list, how many
+    /// that list's number stands for.
     pub fn count(&self) -> u64
         ensures { result ≡ self.now }
     {
@@ -71,7 +73,7 @@ impl<L: Naming> Share<L> {
     }
 }
 
-/// Cuts a mark into as many shares as it has parts, where room was made for them.
+/// Cuts a mark into as many shares as it has parts, behind others, where room was made for them.
 pub(crate) fn cut<L: Naming>(
     mark: ledger::Share<L>,
     count: usize,
@@ -79,15 +81,40 @@ pub(crate) fn cut<L: Naming>(
 ) -> Vec<Share<L>>
     requires parts { mark.parts ≡ count }
     requires amount { mark.amount ≡ 0 }
-    requires empty { room.items ≡ [] }
-    requires fits { count ≤ vec_capacity room }
-    ensures { result.items ≡ replicate count 0 }
+    requires fits { length room.items + count ≤ vec_capacity room }
+    ensures { result.items ≡ room.items ++ replicate count 0 }
 {
     let mut mark = mark;
     for _i in 0..count {
         room.push_reserved(Share::cut_one(&mut mark));
     }
     room
+}
+
+/// Cuts a mark into as many shares as it has parts, at least one, where room was made for them. The first counts a number, here
+/// and in the book, and the others nothing.
+pub(crate) fn cut_counting<L: Naming>(
+    book: &mut ledger::Book<L>,
+    mut mark: ledger::Share<L>,
+    count: usize,
+    number: u64,
+    mut room: Vec<Share<L>>,
+) -> Vec<Share<L>>
+    requires parts { mark.parts ≡ count }
+    requires some { 0 < count }
+    requires amount { mark.amount ≡ 0 }
+    requires empty { room.items ≡ [] }
+    requires fits { count ≤ vec_capacity room }
+    ensures shares { result.items ≡ number ∷ replicate (count - 1) 0 }
+    ensures total { book.new.total ≡ book.old.total + number }
+{
+    book.add(&mut mark, number);
+    let first = Share {
+        count: number,
+        mark: mark.split_off(1, number),
+    };
+    room.push_reserved(first);
+    cut(mark, count - 1, room)
 }
 
 /// Puts shares to others, in one mark.

@@ -1,7 +1,7 @@
 //! Each call of an index of numbers, of its sessions and of its place, in one function: the proof of a call at these types is
 //! long.
 
-ghost use Rattle.std.specs.Prelude.{◌≡◌, ◌+◌, ◌≤◌, IfNone, IfOk, IfSome, OnErr, OnOk};
+ghost use Rattle.std.specs.Prelude.{◌≡◌, ◌+◌, ◌<◌, ◌≤◌, IfErr, IfNone, IfOk, IfSome, OnErr, OnOk};
 ghost use Rattle.sdd_domain.specs.Layout.{IsSized};
 ghost use Rattle.sdd_domain.specs.Tokens.{place_of, home_of, own_of, nest_in, IsSame};
 ghost use Rattle.shared_index.specs.SharedInvariant.{IsUnengaged};
@@ -12,7 +12,7 @@ use sdd_domain::domain::Domain;
 use sdd_domain::local::Local;
 use sdd_plain::sizes::Sizes;
 use serial_history::{Accepted, Answer, Audit, CheckpointRefused, Query, Receipt, Refused};
-use shared_index::{Naming, Share, SharedIndex};
+use shared_index::{BaseList, Naming, Share, SharedBaseRefused, SharedIndex};
 use shared_sessions::{OpenRefused, SharedSession};
 use std::alloc::{AllocError, Global};
 use std::process::Abort;
@@ -73,6 +73,37 @@ pub(crate) fn bounded<'d, L: Naming, R: Abort, const S: usize>(
         Ok(made) => made,
         Err(_) => panic!(rt; "there is memory, a slot and a cell"),
     }
+}
+
+/// An index with so many shares that begins with a list, or what it was to be made of.
+pub(crate) fn held<'d, L: Naming, const S: usize>(
+    alloc: Global,
+    domain: &'d Domain<Item>,
+    local: Local<Item>,
+    blank: Blank,
+    shares: usize,
+    base: BaseList<u64, u64>,
+) -> Result<(Index<'d, L, S>, Vec<Share<L>>), (Local<Item>, Blank, SharedBaseRefused<u64, u64>)>
+    requires begins { CanBegin L.place L.name L.parts shares domain.now local blank }
+    requires last { L.last ≡ 18446744073709551615 }
+    requires some { 0 < shares }
+    requires size { (1 ≤ S) × (S ≤ 225) }
+    ensures back { IfErr result (λ back. CanBegin L.place L.name L.parts shares domain.now back.0 back.1) }
+{
+    SharedIndex::from_base(alloc, domain, local, blank, shares, base)
+}
+
+/// Makes the list of a number the base, and copies it.
+pub(crate) fn based<L: Naming, R: Wait, const S: usize>(
+    rt: &R,
+    index: &Index<'_, L, S>,
+    upto: u64,
+) -> (
+    Result<(), CheckpointRefused>,
+    Result<BaseList<u64, u64>, AllocError>,
+) {
+    let told = index.checkpoint(rt, upto);
+    (told, index.base(rt))
 }
 
 /// A session for at least this number, or why there is none.

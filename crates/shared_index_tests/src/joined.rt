@@ -186,7 +186,7 @@ fn put_back<L: Naming, R: Abort>(rt: &R, shares: &mut Vec<Share<L>>, share: Opti
 }
 
 /// What six threads are told that do these.
-fn six<L: Naming + Send + Sync, R: Threads + Wait + Abort + Sync, const S: usize>(
+pub(crate) fn six<L: Naming + Send + Sync, R: Threads + Wait + Abort + Sync, const S: usize>(
     rt: &R,
     alloc: Global,
     index: &Index<'_, L, S>,

@@ -8,6 +8,8 @@ mod checkpoints;
 #[cfg(test)]
 mod crowd;
 #[cfg(test)]
+mod from_base;
+#[cfg(test)]
 mod index;
 #[cfg(test)]
 mod joined;

@@ -1,6 +1,6 @@
 //! Versions placed one after the other.
 
-ghost use Rattle.std.specs.Prelude.{◌≡◌, ◌≤◌, ◌<◌, []};
+ghost use Rattle.std.specs.Prelude.{◌≡◌, ◌≤◌, ◌<◌, [], IfSome};
 ghost use Rattle.sdd_domain.specs.Cells.{cell_number};
 ghost use Rattle.sdd_domain.specs.Tokens.{place_of, home_of, hand_of, own_of, cell_count, IsSame, IsSameButMisses};
 
@@ -14,7 +14,7 @@ use sdd_domain::domain::Domain;
 use sdd_domain::local::Local;
 use sdd_plain::refusal::NoSlot;
 use sdd_plain::sizes::Sizes;
-use shared_versions::{Present, Session, build, publish};
+use shared_versions::{Present, Session, build, build_list, publish, rising_until};
 use std::alloc::Global;
 use std::process::Abort;
 use std::test::Fail;
@@ -50,6 +50,34 @@ fn begun<R: Abort, const S: usize>(
     match Present::new(alloc, domain, local) {
         Ok((present, owner)) => (present, cell_of(rt, domain, owner, local)),
         Err(NoSlot) => panic!(rt; "a slot is free"),
+    }
+}
+
+/// The version of a list with number 7, and a cell that names it. None where its slots are too few.
+fn held<R: Abort, const S: usize>(
+    rt: &R,
+    alloc: Global,
+    domain: &Domain<Item>,
+    local: &mut Local<Item>,
+    pairs: &[(u64, u64)],
+) -> Option<(Present<u64, u64, S>, AtomicShared<Item>)>
+    requires home { (home_of local.old ≡ place_of domain.now) × (hand_of local.old ≡ []) }
+    requires closed { (own_of local.old).nesting ≡ 0 }
+    requires size { (1 ≤ S) × (S ≤ 225) }
+    ensures place { IfSome result (λ made. made.0.place ≡ (place_of domain.now).0) }
+    ensures inside { IfSome result (λ made. cell_number made.1 < cell_count domain.now) }
+    ensures same { IsSameButMisses local.old local.new }
+    ensures closed { (own_of local.new).nesting ≡ 0 }
+{
+    if rising_until(pairs) < pairs.len() {
+        panic!(rt; "the keys rise");
+    }
+    let Ok(draft) = build_list::<u64, u64, S>(alloc, 7, pairs) else {
+        panic!(rt; "memory is there");
+    };
+    match Present::holding(alloc, domain, draft, local) {
+        Ok((present, owner)) => Some((present, cell_of(rt, domain, owner, local))),
+        Err(NoSlot) => None,
     }
 }
 
@@ -160,6 +188,37 @@ impl<'d, const S: usize> Scene<'d, S> {
             local,
             present,
             root,
+        }
+    }
+
+    /// The version of a list in a place, with number 7. None where its slots are too few; then none is in use once what waits is
+    /// reclaimed.
+    fn listed<R: Abort>(
+        rt: &R,
+        alloc: Global,
+        domain: &'d Domain<Item>,
+        pairs: &[(u64, u64)],
+    ) -> Option<Self>
+        requires { (1 ≤ S) × (S ≤ 225) }
+        ensures { IfSome result (λ scene. place_of scene.domain.now ≡ place_of domain.now) }
+    {
+        let mut local = member(rt, domain);
+        match held::<R, S>(rt, alloc, domain, &mut local, pairs) {
+            Some((present, root)) => {
+                assert_eq!(rt; present.version().number(), 7);
+                Some(Scene {
+                    domain,
+                    local,
+                    present,
+                    root,
+                })
+            }
+            None => {
+                reclaimed(domain, &mut local);
+                leave(domain, local);
+                assert_eq!(rt; in_use(domain), 0);
+                None
+            }
         }
     }
 
@@ -384,6 +443,66 @@ const TAKING_OVER: &[(Call, Told)] = &[
 #[test]
 fn segments_are_taken_over_after_refusals(rt: HostRuntime) {
     on_a_place::<_, 2>(&rt, rt.alloc(), 7, TAKING_OVER);
+}
+
+/// Plays a table on the version of a list, in a new place with so many slots; none of it where slots are too few for the list.
+/// Nothing is in use behind it.
+fn on_a_list<R: Abort>(
+    rt: &R,
+    alloc: Global,
+    slots: usize,
+    pairs: &[(u64, u64)],
+    rows: &[(Call, Told)],
+) -> Option<usize>
+    requires { (1 ≤ slots) × (slots ≤ 1073741824) }
+{
+    let domain = place(alloc, sized(slots)).expect(rt, "memory is there");
+    let Some(mut scene) = Scene::<2>::listed(rt, alloc, &domain, pairs) else {
+        end(rt, domain);
+        return None;
+    };
+    let right = played(rt, alloc, &mut scene, rows);
+    let left = scene.end();
+    end(rt, domain);
+    assert_eq!(rt; left, 0);
+    Some(right)
+}
+
+/// Three segments and their version; then one new segment and its version beside them.
+const LISTED: &[(Call, Told)] = &[
+    (Slots, Used(4)),
+    (Get(3), Found(Some(30), 5)),
+    (Get(6), Found(None, 5)),
+    (Upsert(1, 2, 11), Placed),
+    (Slots, Used(6)),
+    (Get(1), Found(Some(11), 5)),
+    (Get(5), Found(Some(50), 5)),
+    (Reclaim, Done),
+    (Slots, Used(4)),
+];
+
+#[test]
+fn versions_follow_that_of_a_list(rt: HostRuntime) {
+    let list = [(1, 10), (2, 20), (3, 30), (4, 40), (5, 50)];
+    let told = [
+        on_a_list(&rt, rt.alloc(), 6, &list, LISTED),
+        on_a_list(
+            &rt,
+            rt.alloc(),
+            4,
+            &list,
+            &[(Slots, Used(4)), (Get(1), Found(Some(10), 5))],
+        ),
+        on_a_list(&rt, rt.alloc(), 3, &list, &[]),
+        on_a_list(
+            &rt,
+            rt.alloc(),
+            1,
+            &[],
+            &[(Slots, Used(1)), (Get(1), Found(None, 0))],
+        ),
+    ];
+    assert_eq!(rt; told, [Some(LISTED.len()), Some(2), None, Some(2)]);
 }
 
 /// What a session of another participant reads at the keys 3 and 11, while a version is placed and what nobody reads is

@@ -15,7 +15,7 @@ use Rattle.version_drafts.specs.declared.segments.Part.{Part}
 use Rattle.version_views.specs.declared.directory.Directory.{Directory}
 use Rattle.shared_versions.specs.Drafts.{IsPlaceable, IsWithinVersion, SharedPlan, blocks_planned}
 use Rattle.shared_versions.specs.Nodes.{IsWhole, OwnsSegment, owned_pairs}
-use Rattle.shared_versions.specs.Placing.{IsKeptSegment, IsOwnedIn, IsPresent, pairs_kept, pairs_kept_at, sight_in, version_owned}
+use Rattle.shared_versions.specs.Placing.{IsKeptSegment, IsOwnedIn, IsPlanned, IsPresent, pairs_kept, pairs_kept_at, sight_in, sight_kept, version_owned}
 use Rattle.shared_versions.specs.Readers.{HasWidth, version_in}
 use Rattle.shared_versions.specs.Sight.{Sight}
 use Rattle.shared_versions.specs.declared.node.Node.{Node}
@@ -51,6 +51,22 @@ module _ {K V : Type 0} where
   -- what the kept owners are taken for is what was planned
   pub planned_blocks : (kept : List _) (old : Sight K V) (plan : SharedPlan K V) (parts : List (Part K V ℕ)) → map pairs_kept kept ≡ old.blocks → parts ≡ plan.parts → blocks_of_parts (pairs_kept_at kept) parts ≡ blocks_planned old plan
   planned_blocks kept old plan parts blocks same = ap (λ bs. blocks_of_parts (λ n. get_or bs n []) parts) blocks ∙ ap (blocks_of_parts (λ n. get_or old.blocks n [])) same
+
+  -- of an older version, what is planned upon it speaks of its segments alone
+  pub placeable_kept : (cmp : K → K → Ordering) (s : ℕ) (kept : List _) (old : Sight K V) (plan : SharedPlan K V) → map pairs_kept kept ≡ old.blocks → IsPlaceable cmp s old plan → IsPlaceable cmp s (sight_kept kept) plan
+  placeable_kept cmp s kept old plan blocks is = record {
+    cut = subst (λ bs. IsCut cmp s (blocks_of_parts (λ n. get_or bs n []) plan.parts) plan.separators) (sym blocks) is.cut;
+    counted = subst (λ bs. plan.length ≡ length (pairs_in (blocks_of_parts (λ n. get_or bs n []) plan.parts))) (sym blocks) is.counted;
+    there = subst (λ bs. All (IsWithinVersion (length bs)) plan.parts) (sym blocks) is.there;
+  }
+
+  pub planned_kept : (s : ℕ) (kept : List _) (old : Sight K V) (plan : SharedPlan K V) (new : Sight K V) → map pairs_kept kept ≡ old.blocks → IsPlanned s (sight_kept kept) plan new → IsPlanned s old plan new
+  planned_kept s kept old plan new blocks is = record {
+    number = is.number;
+    width = is.width;
+    blocks = is.blocks ∙ ap (λ bs. blocks_of_parts (λ n. get_or bs n []) plan.parts) blocks;
+    separators = is.separators;
+  }
 
   -- a directory of the planned segments is whole
   pub planned_whole : (cmp : K → K → Ordering) (s : ℕ) (old : Sight K V) (plan : SharedPlan K V) (d : Directory K (Held (Node K V))) → IsPlaceable cmp s old plan → All OwnsSegment (segment_owners d) → blocks_at owned_pairs d ≡ blocks_planned old plan → d.separators.items ≡ plan.separators → d.length ≡ plan.length → IsWhole cmp s d

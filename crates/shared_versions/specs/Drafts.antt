@@ -23,6 +23,10 @@ module _ {K V : Type 0} where
   abbrev pub slots_for : SharedPlan K V → ℕ
   slots_for p = made_in p.parts + 1
 
+  -- a version without segments
+  abbrev pub nothing : Sight K V
+  nothing = record { number = 0; width = 0; blocks = []; separators = []; owners = [] }
+
   -- the list of a version
   abbrev pub list_of : Sight K V → List (K × V)
   list_of v = pairs_in v.blocks

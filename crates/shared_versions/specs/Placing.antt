@@ -8,7 +8,7 @@ use Rattle.sdd_domain.specs.Sharing.{kept_in}
 use Rattle.sdd_domain.specs.Tokens.{home_of, misses_of, nest_in, number_of, own_of}
 use Rattle.sdd_domain.specs.declared.local.Local.{Local}
 use Rattle.sdd_domain.specs.declared.shared.Shared.{Shared}
-use Rattle.shared_versions.specs.Drafts.{SharedPlan, blocks_planned}
+use Rattle.shared_versions.specs.Drafts.{SharedPlan, blocks_planned, nothing}
 use Rattle.shared_versions.specs.Nodes.{IsSegment, segment_pairs}
 use Rattle.shared_versions.specs.Readers.{HasWidth, version_in}
 use Rattle.shared_versions.specs.Sight.{Sight}
@@ -47,7 +47,7 @@ module _ {K V : Type 0} where
 
   -- the version that is there, or the empty one
   abbrev pub sight_in : Option (Sight K V) → Sight K V
-  sight_in None = record { number = 0; width = 0; blocks = []; separators = []; owners = [] }
+  sight_in None = nothing
   sight_in (Some v) = v
 
   -- an owner that is kept owns a segment, with these pairs
@@ -61,6 +61,10 @@ module _ {K V : Type 0} where
 
   abbrev pub pairs_kept_at : List (Option (Shared (Node K V))) → ℕ → List (K × V)
   pairs_kept_at kept place = get_or (map pairs_kept kept) place []
+
+  -- a version of the segments that are kept
+  abbrev pub sight_kept : List (Option (Shared (Node K V))) → Sight K V
+  sight_kept kept = record { number = 0; width = 0; blocks = map pairs_kept kept; separators = []; owners = [] }
 
   -- and what is left of those that are kept does, where some were moved
   abbrev pub IsLeft : TableId → Option (Shared (Node K V)) → Type 0

@@ -1,9 +1,11 @@
 //! Building versions, each of an older one, beside the place.
 
 ghost use Rattle.std.specs.Prelude.{◌≡◌, ◌≤◌, ◌<◌, ◌+◌, ◌*◌, ◌/◌, ◌-◌, ◌^◌, [], IfOk, length};
+ghost use Rattle.leaf_array.specs.Pairs.{IsAscending};
 ghost use Rattle.leaf_array.specs.Values.{ClonesAreSame};
+ghost use Rattle.version_views.specs.Sizes.{room_for};
 ghost use Rattle.version_views.specs.Writes.{after_writes, replies_to};
-ghost use Rattle.shared_versions.specs.Drafts.{IsRoomFor, IsPlaceable, list_of, list_planned, slots_for};
+ghost use Rattle.shared_versions.specs.Drafts.{IsRoomFor, IsPlaceable, list_of, list_planned, nothing, slots_for};
 
 use crate::lending::view_of;
 use crate::node::Version;
@@ -11,7 +13,7 @@ use crate::room::Room;
 use std::alloc::{AllocError, Global};
 use std::marker::Model;
 use tree_index::TreeIndex;
-use version_drafts::draft::{BaseVersion, Segments, drafted, made_of};
+use version_drafts::draft::{BaseVersion, Segments, drafted, listed, made_of};
 use version_views::{Reply, Trees, Write};
 
 /// A version that isn't placed yet: the number of its list, and its segments, of which some are those of an older version,
@@ -118,6 +120,36 @@ pub fn build<K: Clone + Ord + Drop, V: Clone + Drop, const S: usize>(
         },
         replies,
     ))
+}
+
+/// The version of clones of these pairs, whose keys rise, under a number; refused where memory is. Nothing is placed yet, and
+/// no word of a place is read. It takes nothing over, so no older version has to be there when it is placed, and its segments are
+/// as few as can hold the pairs.
+pub fn build_list<K: Clone + Ord + Drop, V: Clone + Drop, const S: usize>(
+    alloc: Global,
+    number: u64,
+    pairs: &[(K, V)],
+) -> Result<Draft<K, V, S>, AllocError>
+    requires size { (1 ≤ S) × (S ≤ 225) }
+    requires keys { ClonesAreSame K.is_clone }
+    requires values { ClonesAreSame V.is_clone }
+    requires rising { IsAscending K.cmp pairs.now }
+    ensures number { IfOk result (λ made. made.number ≡ number) }
+    ensures list { IfOk result (λ made. list_planned nothing made ≡ pairs.now) }
+    ensures length { IfOk result (λ made. made.length ≡ length pairs.now) }
+    ensures few { IfOk result (λ made. slots_for made ≤ room_for S (length pairs.now)) }
+    ensures fewest { IfOk result (λ made. S * slots_for made < length pairs.now + 2 * S) }
+    ensures placeable { IfOk result (IsPlaceable K.cmp S nothing) }
+{
+    let segments = listed::<K, V, usize, S>(alloc, pairs)?;
+    let room = Room::new(alloc, segments.parts.len())?;
+    let made = made_of(&segments.parts);
+    Ok(Draft {
+        number,
+        segments,
+        made,
+        room,
+    })
 }
 
 /// A segment of an older version is named by its place there.

@@ -27,10 +27,11 @@ mod reclaiming;
 mod room;
 mod session;
 
-pub use building::{Draft, build};
+pub use building::{Draft, build, build_list};
 pub use lending::view_of;
 pub use node::{Node, Rest, Version};
 pub use present::{Present, publish};
 pub use reader::{Reader, version_at};
 pub use reclaiming::reclaim;
 pub use session::Session;
+pub use version_drafts::draft::rising_until;

@@ -1,10 +1,11 @@
 //! The present version of a place, for the one who writes.
 
-ghost use Rattle.std.specs.Prelude.{◌≡◌, ◌<◌, ◌+◌, [], IfOk, OnOk, OnErr, Some};
+ghost use Rattle.std.specs.Prelude.{◌≡◌, ◌<◌, ◌+◌, [], IfNone, IfOk, IfSome, OnOk, OnErr, Some, map};
+ghost use Rattle.std.specs.List.{All};
 ghost use Rattle.sdd_domain.specs.Cells.{cell_number};
 ghost use Rattle.sdd_domain.specs.Tokens.{place_of, home_of, hand_of, cell_count, misses_of};
-ghost use Rattle.shared_versions.specs.Placing.{IsPlanned, IsOwnedIn, IsStill, IsStillButMisses, item_owned, version_owned};
-ghost use Rattle.shared_versions.specs.Drafts.{IsPlaceable};
+ghost use Rattle.shared_versions.specs.Placing.{IsKeptSegment, IsPlanned, IsPresent, IsOwnedIn, IsStill, IsStillButMisses, item_owned, pairs_kept, sight_in, sight_kept, version_owned};
+ghost use Rattle.shared_versions.specs.Drafts.{IsPlaceable, nothing};
 ghost use Rattle.shared_versions.specs.Readers.{HasWidth};
 
 use crate::building::Draft;
@@ -96,6 +97,36 @@ impl<K: Ord + Drop, V: Drop, const S: usize> Present<K, V, S> {
         }
     }
 
+    /// Places a version that was built of no other one: the present version, and an owner of it for a cell. It is refused where
+    /// too few slots are free, which is one miss of the participant; then what was placed before that is released again, and
+    /// waits to be reclaimed. It takes no memory.
+    pub fn holding(
+        alloc: Global,
+        domain: &Domain<Node<K, V>>,
+        draft: Draft<K, V, S>,
+        local: &mut Local<Node<K, V>>,
+    ) -> Result<(Self, Shared<Node<K, V>>), NoSlot>
+        requires home { home_of local.old ≡ place_of domain.now }
+        requires hand { hand_of local.old ≡ [] }
+        requires placeable { IsPlaceable K.cmp S nothing draft }
+        ensures place { IfOk result (λ made. made.0.place ≡ (place_of domain.now).0) }
+        ensures made { IfOk result (λ made. IsPlanned S nothing draft made.0.version) }
+        ensures root { IfOk result (λ made. IsOwnedIn (place_of domain.now).0 made.1 × (version_owned made.1 ≡ Some made.0.version)) }
+        ensures hand { hand_of local.new ≡ [] }
+        ensures hit { OnOk result (misses_of local.new ≡ misses_of local.old) }
+        ensures missed { OnErr result (misses_of local.new ≡ misses_of local.old + 1) }
+        ensures same { IsStillButMisses local.old local.new }
+    {
+        let mut segments = Vec::new(alloc);
+        match place_draft(domain, draft, &mut segments, local) {
+            Some((version, root)) => Ok((Present { version, segments }, root)),
+            None => {
+                segments.destroy_empty();
+                Err(NoSlot)
+            }
+        }
+    }
+
     /// Places a version that was built of the present one, which becomes the present one, and gives an owner of it for a cell.
     /// It is refused where too few slots are free, or an item has as many owners as it can have, which is one miss of the
     /// participant. Then the present version is as it was, and what was placed before that is released again: it waits to be
@@ -119,42 +150,13 @@ impl<K: Ord + Drop, V: Drop, const S: usize> Present<K, V, S> {
         ensures missed { OnErr result (misses_of local.new ≡ misses_of local.old + 1) }
         ensures same { IsStillButMisses local.old local.new }
     {
-        let (number, segments, room) = draft.into_parts();
-        let Segments {
-            parts,
-            separators,
-            length,
-        } = segments;
-        let Room {
-            owners,
-            to_keep,
-            mut held,
-            kept,
-        } = room;
-        let all = all_owners(domain, parts, owners, to_keep, &mut self.segments, local);
-        let Some((owners, to_keep)) = all else {
-            held.destroy_empty();
-            kept.destroy_empty();
-            return Err(NoSlot);
-        };
-        hold_all(domain, owners, &mut held, local);
-        let directory = Directory::new(number, length, held, separators);
-        match place_two(domain, Node::Version(Version::new(directory, S)), local) {
-            Ok((version, root)) => {
+        match place_draft(domain, draft, &mut self.segments, local) {
+            Some((version, root)) => {
                 let older = mem::replace(&mut self.version, version);
                 let_go(domain, older, local);
-                // only now are owners moved: nothing is refused any more
-                keep_all(domain, to_keep, &mut self.segments, kept, local);
                 Ok(root)
             }
-            Err(refused) => {
-                release_new(domain, to_keep, local);
-                kept.destroy_empty();
-                if let Some(node) = refused {
-                    take_back(domain, node, local);
-                }
-                Err(NoSlot)
-            }
+            None => Err(NoSlot),
         }
     }
 
@@ -168,6 +170,67 @@ impl<K: Ord + Drop, V: Drop, const S: usize> Present<K, V, S> {
         let Present { version, segments } = self;
         let_go(domain, version, local);
         release_kept(domain, segments, local);
+    }
+}
+
+/// Places the version of a draft, and gives two owners of it. What is kept of an older version's segments becomes an owner of
+/// each of the new one's. None where it is refused, which is a miss: then what is kept has the same pairs, and what was placed
+/// waits to be reclaimed.
+fn place_draft<K: Ord + Drop, V: Drop, const S: usize>(
+    domain: &Domain<Node<K, V>>,
+    draft: Draft<K, V, S>,
+    segments: &mut Vec<Kept<K, V>>,
+    local: &mut Local<Node<K, V>>,
+) -> Option<(Shared<Node<K, V>>, Shared<Node<K, V>>)>
+    requires home { home_of local.old ≡ place_of domain.now }
+    requires hand { hand_of local.old ≡ [] }
+    requires kept { All (IsKeptSegment (place_of domain.now).0) segments.old.items }
+    requires placeable { IsPlaceable K.cmp S (sight_kept segments.old.items) draft }
+    ensures here { IfSome result (λ both. IsOwnedIn (place_of domain.now).0 both.0 × IsOwnedIn (place_of domain.now).0 both.1) }
+    ensures one { IfSome result (λ both. version_owned both.1 ≡ Some (sight_in (version_owned both.0))) }
+    ensures made { IfSome result (λ both. IsPlanned S (sight_kept segments.old.items) draft (sight_in (version_owned both.0))) }
+    ensures present { IfSome result (λ both. IsPresent S both.0 segments.new.items) }
+    ensures kept { IfNone result (All (IsKeptSegment (place_of domain.now).0) segments.new.items) }
+    ensures still { IfNone result (map pairs_kept segments.new.items ≡ map pairs_kept segments.old.items) }
+    ensures hand { hand_of local.new ≡ [] }
+    ensures hit { IfSome result (λ _. misses_of local.new ≡ misses_of local.old) }
+    ensures missed { IfNone result (misses_of local.new ≡ misses_of local.old + 1) }
+    ensures same { IsStillButMisses local.old local.new }
+{
+    let (number, planned, room) = draft.into_parts();
+    let Segments {
+        parts,
+        separators,
+        length,
+    } = planned;
+    let Room {
+        owners,
+        to_keep,
+        mut held,
+        kept,
+    } = room;
+    let all = all_owners(domain, parts, owners, to_keep, segments, local);
+    let Some((owners, to_keep)) = all else {
+        held.destroy_empty();
+        kept.destroy_empty();
+        return None;
+    };
+    hold_all(domain, owners, &mut held, local);
+    let directory = Directory::new(number, length, held, separators);
+    match place_two(domain, Node::Version(Version::new(directory, S)), local) {
+        Ok(both) => {
+            // only now are owners moved: nothing is refused any more
+            keep_all(domain, to_keep, segments, kept, local);
+            Some(both)
+        }
+        Err(refused) => {
+            release_new(domain, to_keep, local);
+            kept.destroy_empty();
+            if let Some(node) = refused {
+                take_back(domain, node, local);
+            }
+            None
+        }
     }
 }
 

@@ -1,169 +1,39 @@
-use Rattle.std.proofs.Common.{[], get_or, length, map, reverse, sym, ap, ◌∙◌, subst, arith}
-use Rattle.std.specs.List.{All, AllPairs}
-use Rattle.std.proofs.lemmas.List.{length-map, length-reverse}
-use Rattle.version_drafts.specs.Parts.{part_pairs}
-use Rattle.version_views.specs.declared.directory.Directory.{Directory}
-use Rattle.shared_versions.specs.Drafts.{IsWithinVersion, SharedPlan, pairs_at, taken_from}
-use Rattle.shared_versions.specs.Nodes.{OwnsSegment, owned_pairs}
-use Rattle.shared_versions.specs.Placing.{AreApart, IsKeptSegment, IsPresent, IsToKeep, Placed, pairs_kept, pairs_kept_at, pairs_owned, pairs_to_keep, sight_in, version_owned}
-use Rattle.shared_versions.specs.Sight.{Sight}
-use Rattle.shared_versions.proofs.ApartLemmas.{all_apart}
-use Rattle.shared_versions.proofs.MovingLemmas.{all_new}
-use Rattle.shared_versions.proofs.PresentLemmas.{kept_present, owned_version, placed_present, planned_blocks, planned_whole, taken_there}
+use Rattle.std.proofs.Common.{sym, ap, ◌∙◌, subst, arith}
+use Rattle.std.specs.List.{All}
+use Rattle.shared_versions.specs.Placing.{IsKeptSegment, IsPlanned, IsPresent, Placed, sight_in, version_owned}
+use Rattle.shared_versions.proofs.PresentLemmas.{kept_present, placeable_kept, planned_kept}
 use Rattle.shared_versions.proofs.StillLemmas.{but_for_misses, still_but_misses}
 use Rattle.shared_versions.proofs.present.Present.place.Goals as goal
 
-pub all_owners-all-requires-clause-there : goal.all_owners-all-requires-clause-there
-all_owners-all-requires-clause-there g c =
-    let parts = c.into_parts-number.result.1.parts.items in
-    let old = c.args.self.now.version in
-    let blocks = c.self.invariant.blocks ∙ ap (λ (p : Placed _ _). p.version.blocks) c.self.view_is in
-    let same = ap (λ (p : SharedPlan _ _). p.parts) c.into_parts-number.ensures.plan in
-    taken_there c.self.inside.segments.items old parts blocks (subst (All (IsWithinVersion (length old.blocks))) (sym same) c.requires.placeable.there)
-
-pub all_owners-all-requires-clause-kept : goal.all_owners-all-requires-clause-kept
-all_owners-all-requires-clause-kept g c =
+-- what is kept is of the place, and the draft was built upon its segments
+pub place_draft-requires : goal.place_draft-requires
+place_draft-requires g c =
     let home = ap (λ (p : Placed _ _). p.place) c.self.view_is ∙ c.requires.mine in
-    subst (λ t. All (IsKeptSegment t) c.self.inside.segments.items) home c.self.invariant.segments
+    let blocks = c.self.invariant.blocks ∙ ap (λ (p : Placed _ _). p.version.blocks) c.self.view_is in
+    let kept = subst (λ t. All (IsKeptSegment t) c.self.inside.segments.items) home c.self.invariant.segments in
+    let placeable = placeable_kept g.K.Ord.cmp g.row.S c.self.inside.segments.items c.args.self.now.version c.args.draft blocks c.requires.placeable in
+    (omega arith, (c.requires.home, (c.requires.hand, (kept, placeable))))
 
+-- the owner of the new version is in the place of the older one's
 pub invariant_of-self : goal.invariant_of-self
-invariant_of-self g c =
+invariant_of-self g c = subst (λ o. IsPresent g.row.S o c.place_draft.new.segments.items) (sym c.replace-older.ensures.after) c.in-Some.ensures.present
+
+pub invariant_of-self-in-None : goal.invariant_of-self-in-None
+invariant_of-self-in-None g c =
     let home = ap (λ (p : Placed _ _). p.place) c.self.view_is ∙ c.requires.mine in
-    kept_present g.row.S c.args.domain.now.table.shared.table_id c.self.inside.version c.self.inside.segments.items c.all_owners-all.new.kept.items home c.self.invariant c.all_owners-all.ensures.still c.all_owners-all.ensures.kept
+    kept_present g.row.S c.args.domain.now.table.shared.table_id c.self.inside.version c.self.inside.segments.items c.place_draft.new.segments.items home c.self.invariant c.in-None.ensures.still c.in-None.ensures.kept
 
-pub hold_all-requires-clause-room : goal.hold_all-requires-clause-room
-hold_all-requires-clause-room g c =
-    let parts = c.into_parts-number.result.1.parts.items in
-    let named = pairs_kept_at c.self.inside.segments.items in
-    let pairs = c.in-Some.ensures.pairs in
-    let each = ap length pairs in
-    let owners = length-map c.in-Some.owners.items pairs_owned in
-    let turned = length-reverse (map pairs_owned c.in-Some.owners.items) in
-    let many = length-map parts (part_pairs named) in
-    let room = c.into_parts-number.ensures.room in
-    omega (arith, each, owners, turned, many, room.held)
-
-pub new-requires : goal.new-requires
-new-requires g c =
-    let directory = c.new-directory.result in
-    let is = c.new-directory.ensures in
-    let plan = c.into_parts-number.ensures.plan in
-    let parts = c.into_parts-number.result.1.parts.items in
-    let kept = c.self.inside.segments.items in
-    let old = c.args.self.now.version in
+pub returns-in-Some-clause-made : goal.returns-in-Some-clause-made
+returns-in-Some-clause-made g c =
     let blocks = c.self.invariant.blocks ∙ ap (λ (p : Placed _ _). p.version.blocks) c.self.view_is in
-    let planned = planned_blocks kept old c.args.draft parts blocks (ap (λ (p : SharedPlan _ _). p.parts) plan) in
-    let pairs = c.in-Some.ensures.pairs in
-    planned_whole g.K.Ord.cmp g.row.S old c.args.draft directory c.requires.placeable
-    (subst (λ (d : Directory _ _). All OwnsSegment d.segments.items) (sym is) c.hold_all.ensures.segments)
-    (ap (λ (d : Directory _ _). map owned_pairs d.segments.items) is ∙ (c.hold_all.ensures.pairs ∙ (pairs ∙ planned)))
-    (ap (λ (d : Directory _ _). d.separators.items) is ∙ ap (λ (p : SharedPlan _ _). p.separators) plan)
-    (ap (λ (d : Directory _ _). d.length) is ∙ ap (λ (p : SharedPlan _ _). p.length) plan)
-
-pub keep_all-requires-clause-to_keep : goal.keep_all-requires-clause-to_keep
-keep_all-requires-clause-to_keep g c =
-    let place = c.args.domain.now.table.shared.table_id in
-    let kept = c.self.inside.segments.items in
-    let now = c.all_owners-all.new.kept.items in
-    let many = sym (length-map kept pairs_kept) ∙ (sym (ap length c.all_owners-all.ensures.still) ∙ length-map now pairs_kept) in
-    let told = c.in-Some.ensures.to_keep in
-    subst (λ n. All (IsToKeep place n) c.in-Some.to_keep.items) many told
-
-pub keep_all-requires-clause-apart : goal.keep_all-requires-clause-apart
-keep_all-requires-clause-apart g c =
-    let old = c.args.self.now.version in
-    let parts = c.into_parts-number.result.1.parts.items in
-    let same = ap (λ (p : SharedPlan _ _). map taken_from p.parts) c.into_parts-number.ensures.plan in
-    let from = c.in-Some.ensures.from in
-    let cut = c.requires.placeable.cut in
-    subst (AllPairs AreApart) (sym (from ∙ same)) (all_apart g.K.Ord.cmp g.met.K.Ord.total g.row.S (pairs_at old) c.args.draft.parts cut.sizes cut.rising)
-
-pub keep_all-requires-clause-room : goal.keep_all-requires-clause-room
-keep_all-requires-clause-room g c =
-    let parts = c.into_parts-number.result.1.parts.items in
-    let named = pairs_kept_at c.self.inside.segments.items in
-    let pairs = c.in-Some.ensures.same_pairs in
-    let each = ap length pairs in
-    let to_keep = length-map c.in-Some.to_keep.items (pairs_to_keep named) in
-    let turned = length-reverse (map (pairs_to_keep named) c.in-Some.to_keep.items) in
-    let many = length-map parts (part_pairs named) in
-    let room = c.into_parts-number.ensures.room in
-    omega (arith, each, to_keep, turned, many, room.kept)
-
-pub invariant_of-self-in-Ok : goal.invariant_of-self-in-Ok
-invariant_of-self-in-Ok g c =
-    let place = c.args.domain.now.table.shared.table_id in
-    let sight = c.new.ensures in
-    let parts = c.into_parts-number.result.1.parts.items in
-    let named = pairs_kept_at c.self.inside.segments.items in
-    let to_keep = c.in-Some.to_keep.items in
-    let all = c.all_owners-all.ensures in
-    let pairs = c.in-Some.ensures.pairs in
-    let same_pairs = c.in-Some.ensures.same_pairs in
-    let stays = ap (λ bs. reverse (map (pairs_to_keep (λ n. get_or bs n [])) to_keep)) all.still in
-    let holds = c.hold_all.ensures.pairs in
-    let has = ap (λ (d : Directory _ _). map owned_pairs d.segments.items) c.new-directory.ensures in
-    let blocks = c.keep_all.ensures.pairs ∙ (stays ∙ (same_pairs ∙ (sym pairs ∙ (sym holds ∙ (sym has ∙ sym (ap (λ (v : Sight _ _). v.blocks) sight)))))) in
-    let present = placed_present g.row.S place c.in-Ok.version c.new.result c.keep_all.new.kept.items c.in-Ok.ensures.home.0 c.in-Ok.ensures.item.0 (ap (λ (v : Sight _ _). v.width) sight) blocks c.keep_all.ensures.kept in
-    subst (λ o. IsPresent g.row.S o c.keep_all.new.kept.items) (sym c.replace-older.ensures.after) present
-
-pub release_new-requires-clause-new : goal.release_new-requires-clause-new
-release_new-requires-clause-new g c =
-    let place = c.args.domain.now.table.shared.table_id in
-    let many = length c.self.inside.segments.items in
-    all_new place many c.in-Some.to_keep.items (c.in-Some.ensures.to_keep)
-
-pub invariant_of-self-in-Err : goal.invariant_of-self-in-Err
-invariant_of-self-in-Err g c =
-    let home = ap (λ (p : Placed _ _). p.place) c.self.view_is ∙ c.requires.mine in
-    kept_present g.row.S c.args.domain.now.table.shared.table_id c.self.inside.version c.self.inside.segments.items c.all_owners-all.new.kept.items home c.self.invariant c.all_owners-all.ensures.still c.all_owners-all.ensures.kept
-
-pub returns-in-Ok-clause-made : goal.returns-in-Ok-clause-made
-returns-in-Ok-clause-made g c =
-    let sight = c.new.ensures in
-    let is = c.new-directory.ensures in
-    let plan = c.into_parts-number.ensures.plan in
-    let parts = c.into_parts-number.result.1.parts.items in
-    let kept = c.self.inside.segments.items in
-    let old = c.args.self.now.version in
-    let blocks = c.self.invariant.blocks ∙ ap (λ (p : Placed _ _). p.version.blocks) c.self.view_is in
-    let planned = planned_blocks kept old c.args.draft parts blocks (ap (λ (p : SharedPlan _ _). p.parts) plan) in
-    let pairs = c.in-Some.ensures.pairs in
-    let made = ap (λ o. sight_in (version_owned o)) c.replace-older.ensures.after ∙ ap sight_in (owned_version c.in-Ok.version c.new.result c.in-Ok.ensures.item.0) in
-    record {
-      number = ap (λ (v : Sight _ _). v.number) (made ∙ sight) ∙ (ap (λ (d : Directory _ _). d.number) is ∙ ap (λ (p : SharedPlan _ _). p.number) plan);
-      width = ap (λ (v : Sight _ _). v.width) (made ∙ sight);
-      blocks = ap (λ (v : Sight _ _). v.blocks) (made ∙ sight) ∙ (ap (λ (d : Directory _ _). map owned_pairs d.segments.items) is ∙ (c.hold_all.ensures.pairs ∙ (pairs ∙ planned)));
-      separators = ap (λ (v : Sight _ _). v.separators) (made ∙ sight) ∙ (ap (λ (d : Directory _ _). d.separators.items) is ∙ ap (λ (p : SharedPlan _ _). p.separators) plan);
-    }
-
-pub hold_all-requires-clause-home : goal.hold_all-requires-clause-home
-hold_all-requires-clause-home g c = c.all_owners-all.ensures.same.0 ∙ c.requires.home
-
-pub place_two-requires-clause-home : goal.place_two-requires-clause-home
-place_two-requires-clause-home g c = c.hold_all.ensures.same.0 ∙ (c.all_owners-all.ensures.same.0 ∙ c.requires.home)
+    let planned = planned_kept g.row.S c.self.inside.segments.items c.args.self.now.version c.args.draft (sight_in (version_owned c.in-Some.version)) blocks c.in-Some.ensures.made in
+    subst (λ o. IsPlanned g.row.S c.args.self.now.version c.args.draft (sight_in (version_owned o))) (sym c.replace-older.ensures.after) planned
 
 pub let_go-requires-clause-home : goal.let_go-requires-clause-home
-let_go-requires-clause-home g c = c.place_two.ensures.same.0 ∙ (c.hold_all.ensures.same.0 ∙ (c.all_owners-all.ensures.same.0 ∙ c.requires.home))
+let_go-requires-clause-home g c = c.place_draft.ensures.same.0 ∙ c.requires.home
 
-pub keep_all-requires-clause-home : goal.keep_all-requires-clause-home
-keep_all-requires-clause-home g c = c.let_go.ensures.same.0 ∙ (c.place_two.ensures.same.0 ∙ (c.hold_all.ensures.same.0 ∙ (c.all_owners-all.ensures.same.0 ∙ c.requires.home)))
-
-pub release_new-requires-clause-home : goal.release_new-requires-clause-home
-release_new-requires-clause-home g c = c.place_two.ensures.same.0 ∙ (c.hold_all.ensures.same.0 ∙ (c.all_owners-all.ensures.same.0 ∙ c.requires.home))
-
-pub take_back-requires-clause-home : goal.take_back-requires-clause-home
-take_back-requires-clause-home g c = c.release_new.ensures.same.0 ∙ (c.place_two.ensures.same.0 ∙ (c.hold_all.ensures.same.0 ∙ (c.all_owners-all.ensures.same.0 ∙ c.requires.home)))
-
-pub returns-in-Ok-clause-same : goal.returns-in-Ok-clause-same
-returns-in-Ok-clause-same g c =
-    let old = c.args.local.now in
-    let first = c.all_owners-all.new.local in
-    let second = c.hold_all.new.local in
-    let third = c.place_two.new.local in
-    let fourth = c.let_go.new.local in
-    let last = c.keep_all.new.local in
-    let held = still_but_misses old first second c.all_owners-all.ensures.same (but_for_misses first second c.hold_all.ensures.same) in
-    let placed = still_but_misses old second third held c.place_two.ensures.same in
-    let released = still_but_misses old third fourth placed (but_for_misses third fourth c.let_go.ensures.same) in
-    still_but_misses old fourth last released (but_for_misses fourth last c.keep_all.ensures.same)
+pub returns-in-Some-clause-same : goal.returns-in-Some-clause-same
+returns-in-Some-clause-same g c =
+    let first = c.place_draft.new.local in
+    let last = c.let_go.new.local in
+    still_but_misses c.args.local.now first last c.place_draft.ensures.same (but_for_misses first last c.let_go.ensures.same)
