@@ -43,7 +43,9 @@ fn tell<R: Print>(rt: &R, counters: &Counters, commits: u64) -> Result<(), Failu
     let (first, pairs) = counters.base();
     let keys = pairs.len();
     let used = counters.slots_in_use();
-    println!(rt; "{commits} commits: the base has number {first} and {keys} pairs, {used} slots are in use")?;
+    println!(rt;
+        "{commits} commits: the base has number {first} and {keys} pairs, {used} slots are in use"
+    )?;
     Ok(())
 }
 

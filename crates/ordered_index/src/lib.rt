@@ -75,11 +75,12 @@
 
 pub use local_index::{
     Accepted, Answer, Audit, BaseCause, BaseRefused, Cause, CheckpointRefused, Desk, DeskCall,
-    DeskRefused, DeskReply, LocalIndex, Near, Nearby, NoPlace, PastRefused, Query, ReadSet, Reading, Receipt,
-    Recorded, Refused, Reply, ScopedIndex, Seq, Session, SinceRefused, Text, Transaction, Walk,
-    Write, a_changed_range_is_a_conflict, a_feed_leads_to_the_present_list, clones_of_lists,
-    equals_of_lists, ordered_view, own_receipts_audit_yes, play_all, play_one,
-    reads_that_hold_are_no_conflict, replay, transaction, version_view,
+    DeskRefused, DeskReply, LocalIndex, Near, Nearby, NoPlace, PastRefused, Query, ReadSet,
+    Reading, Receipt, Recorded, Refused, Reply, ScopedIndex, Seq, Session, SinceRefused, Text,
+    Transaction, Walk, Write, a_changed_range_is_a_conflict, a_feed_leads_to_the_present_list,
+    clones_of_lists, equals_of_lists, ordered_view, own_receipts_audit_yes,
+    pairs_beyond_a_part_are_no_conflict, play_all, play_one, reads_that_hold_are_no_conflict,
+    replay, transaction, version_view,
 };
 pub use sdd_domain::atomic_shared::AtomicShared;
 pub use sdd_domain::domain::Domain;
@@ -88,7 +89,11 @@ pub use sdd_domain::local::Local;
 pub use sdd_domain::pointer::Loaded;
 pub use sdd_domain::refusal::RegisterRefused;
 pub use sdd_plain::{Nested, NoSlot, Sizes};
-pub use shared_index::{Book, Naming, NewRefused, Share, SharedIndex, join_over};
+pub use serial_history::Part;
+pub use shared_index::{
+    BaseList, Book, FeedRefused, Naming, NewRefused, Share, SharedBaseCause, SharedBaseRefused,
+    SharedIndex, join_over,
+};
 pub use shared_sessions::{OpenRefused, SharedNearby, SharedSession, SharedWalk};
 pub use shared_versions::{Node, Present};
 pub use tree_index::{Proximity, Range, Steps, TreeIndex};
