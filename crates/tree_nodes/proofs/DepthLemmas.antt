@@ -174,18 +174,24 @@ module _ {K V : Type 0} (s : Slab (Leaf K V)) (n : ℕ) (l m : Leaf K V) (here :
           omega (arith, old, new, h)
       split (inr e) = let same : leaf_room (get (with_value s n m) k) ≡ leaf_room (get s k) = ap leaf_room (u.others k e.1) in omega (arith, same)
 
+-- what pairs behind all others take
+module _ {K V : Type 0} (cmp : K → K → Ordering) (o : IsTotalOrder cmp) (key : K) (a b : Arenas K V) (more : List (K × V)) (count : ℕ) (above : IsAbove cmp key (pairs_of a)) (nodes : get b.nodes b.root ≡ get a.nodes a.root) (pairs : pairs_of b ≡ pairs_of a ++ more)
+    (n : ℕ) (on : n ≡ way cmp (content_of a) key a.height a.root) (l m : Leaf K V) (old : get a.leaves n ≡ Some l) (new : get b.leaves n ≡ Some m) (used : m.array.used ≤ l.array.used + count) where
+  pub extended_room : a.height ≡ 1 → root_room cmp a ≤ root_room cmp b + count
+  extended_room flat =
+      by_root cmp a (λ r. r ≤ root_room cmp b + count) (omega arith) (λ t there reached.
+      let last : n ≡ t.last = on ∙ last_way cmp o key a t flat there above reached in
+      let still : is_reached cmp (pairs_of b) t.children.pairs ≡ true = reached_more cmp (pairs_of a) (pairs_of b) (λ s h. subst (λ ps. list_any (λ (p : K × V). is_le (cmp s p.0)) ps ≡ true) (sym pairs) (any_fore (λ p. is_le (cmp s p.0)) (pairs_of a) more h)) t.children.pairs reached in
+      let room = room_is cmp b t (nodes ∙ there) still in
+      let before : leaf_room (get a.leaves t.last) ≡ 15 - l.array.used = ap (λ (k : ℕ). leaf_room (get a.leaves k)) (sym last) ∙ ap leaf_room old in
+      let after : leaf_room (get b.leaves t.last) ≡ 15 - m.array.used = ap (λ (k : ℕ). leaf_room (get b.leaves k)) (sym last) ∙ ap leaf_room new in
+      omega (arith, room, before, after, used))
+
 -- what one insertion above all pairs takes
 module _ {K V : Type 0} (cmp : K → K → Ordering) (o : IsTotalOrder cmp) (key : K) (val : V) (a b : Arenas K V) (above : IsAbove cmp key (pairs_of a)) (nodes : get b.nodes b.root ≡ get a.nodes a.root) (pairs : pairs_of b ≡ upserted cmp key val (pairs_of a))
     (n : ℕ) (on : n ≡ way cmp (content_of a) key a.height a.root) (l m : Leaf K V) (old : get a.leaves n ≡ Some l) (new : get b.leaves n ≡ Some m) (used : m.array.used ≤ l.array.used + 1) where
   pub insert_room : a.height ≡ 1 → root_room cmp a ≤ root_room cmp b + 1
-  insert_room flat =
-      by_root cmp a (λ r. r ≤ root_room cmp b + 1) (omega arith) (λ t there reached.
-      let last : n ≡ t.last = on ∙ last_way cmp o key a t flat there above reached in
-      let more : is_reached cmp (pairs_of b) t.children.pairs ≡ true = reached_more cmp (pairs_of a) (pairs_of b) (λ s h. subst (λ ps. list_any (λ (p : K × V). is_le (cmp s p.0)) ps ≡ true) (sym (pairs ∙ upserted_behind o key val (pairs_of a) above)) (any_fore (λ p. is_le (cmp s p.0)) (pairs_of a) ((key, val) ∷ []) h)) t.children.pairs reached in
-      let room = room_is cmp b t (nodes ∙ there) more in
-      let before : leaf_room (get a.leaves t.last) ≡ 15 - l.array.used = ap (λ (k : ℕ). leaf_room (get a.leaves k)) (sym last) ∙ ap leaf_room old in
-      let after : leaf_room (get b.leaves t.last) ≡ 15 - m.array.used = ap (λ (k : ℕ). leaf_room (get b.leaves k)) (sym last) ∙ ap leaf_room new in
-      omega (arith, room, before, after, used))
+  insert_room flat = extended_room cmp o key a b ((key, val) ∷ []) 1 above nodes (pairs ∙ upserted_behind o key val (pairs_of a) above) n on l m old new used flat
 
 -- an array that is full gives the pair back
 pub full_back : {K V : Type 0} (r : InsertResult K V) → IsFull r → IsSome (given_back r)

@@ -29,6 +29,7 @@ pub mod ThinLemmas
 pub mod RemovalLemmas
 pub mod WithoutLemmas
 pub mod PushLemmas
+pub mod ExtendLemmas
 pub mod DepthLemmas
 pub mod LeafArenaLemmas
 pub mod StandingLemmas

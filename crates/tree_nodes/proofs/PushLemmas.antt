@@ -25,7 +25,7 @@ lesser_all cmp key [] a = refl
 lesser_all cmp key (p ∷ ps) a = ap (λ b. cond (is_lt b) (suc (lesser cmp key ps)) 0) a.0 ∙ ap suc (lesser_all cmp key ps a.1)
 
 -- no key lies on both sides of another
-none_between : {K V : Type 0} (cmp : K → K → Ordering) (o : IsTotalOrder cmp) (key : K) (ps : List (K × V)) → AllKeys (λ k. cmp k key ≡ Less) ps → AllKeys (λ k. cmp key k ≡ Less) ps → ps ≡ []
+pub none_between : {K V : Type 0} (cmp : K → K → Ordering) (o : IsTotalOrder cmp) (key : K) (ps : List (K × V)) → AllKeys (λ k. cmp k key ≡ Less) ps → AllKeys (λ k. cmp key k ≡ Less) ps → ps ≡ []
 none_between cmp o key [] a b = refl
 none_between cmp o key (p ∷ ps) a b = absurd (let e : Greater ≡ Less = sym (turned o p.0 key a.0) ∙ b.0 in cc)
 

@@ -20,7 +20,7 @@ module _ {K V : Type 0} (P : K → Type 0) where
   to_keys [] a = tt
   to_keys (p ∷ ps) a = (a.0, to_keys ps a.1)
 
-  from_keys : (ps : List (K × V)) → AllKeys P ps → AllByRecursion P (keys_of ps)
+  pub from_keys : (ps : List (K × V)) → AllKeys P ps → AllByRecursion P (keys_of ps)
   from_keys [] a = tt
   from_keys (p ∷ ps) a = (a.0, from_keys ps a.1)
 
@@ -30,7 +30,7 @@ module _ {K V : Type 0} (P : K → Type 0) where
   key_in (q ∷ ps) (suc n) p a h = key_in ps n p a.1 h
 
 module _ {K V : Type 0} {cmp : K → K → Ordering} (o : IsTotalOrder cmp) where
-  rising_cons : (p : K × V) (ps : List (K × V)) → AllByRecursion (λ y. cmp p.0 y ≡ Less) (keys_of ps) → IsAscending cmp ps → IsAscending cmp (p ∷ ps)
+  pub rising_cons : (p : K × V) (ps : List (K × V)) → AllByRecursion (λ y. cmp p.0 y ≡ Less) (keys_of ps) → IsAscending cmp ps → IsAscending cmp (p ∷ ps)
   unfolding IsStrictlySortedBy
   rising_cons p ps a b = (a, b)
 

@@ -28,7 +28,7 @@ module _ {X : Type 0} where
   drop_middle (x ∷ xs) ms ys zero p e h = absurd (omega (arith, e))
   drop_middle (x ∷ xs) ms ys (suc k) p e h = drop_middle xs ms ys k p (omega (arith, e)) h
 
-  take_fore : (n : ℕ) (ms ys : List X) → n ≤ length ms → take n (ms ++ ys) ≡ take n ms
+  pub take_fore : (n : ℕ) (ms ys : List X) → n ≤ length ms → take n (ms ++ ys) ≡ take n ms
   take_fore zero ms ys h = refl
   take_fore (suc n) [] ys h = absurd (omega (arith, h))
   take_fore (suc n) (m ∷ ms) ys h = ap (λ zs. m ∷ zs) (take_fore n ms ys (omega (arith, h)))

@@ -1,5 +1,5 @@
 -- The leaf that pairs by rising keys go to.
-use Rattle.std.specs.Prelude.{◌≡◌, ◌<◌, ℕ, List, [], ◌∷◌, ◌++◌, length, Some}
+use Rattle.std.specs.Prelude.{◌≡◌, ◌<◌, ◌≤◌, ◌+◌, ◌^◌, ℕ, List, [], ◌∷◌, ◌++◌, length, Some}
 use Rattle.slab.specs.Slab.{get}
 use Rattle.tree_nodes.specs.declared.leaf.Leaf.{Leaf}
 use Rattle.tree_nodes.specs.declared.arenas.Arenas.{Arenas}
@@ -15,3 +15,14 @@ pub record LastLeafHasRoom {K V : Type 0} (a : Arenas K V) (n : ℕ) : Type 0 wh
   pub there : get a.leaves n ≡ Some leaf
   pub some : 0 < length leaf.array.pairs
   pub room : leaf.array.used < 15
+
+-- the last leaf: it has pairs, and takes so many more, which can be counted
+pub record LastLeafTakes {K V : Type 0} (a : Arenas K V) (n room : ℕ) : Type 0 where
+  pub own : IsOwnLeaf a (Some n)
+  pub fore : List ℕ
+  pub last : leaves_of a ≡ fore ++ n ∷ []
+  pub leaf : Leaf K V
+  pub there : get a.leaves n ≡ Some leaf
+  pub some : 0 < length leaf.array.pairs
+  pub most : leaf.array.used + room ≤ 15
+  pub countable : a.len + room < 2 ^ 64

@@ -1,13 +1,15 @@
 //! Clones of trees, and of runs of their pairs.
 
-ghost use Rattle.std.specs.Prelude.{◌≡◌, ◌≤◌, ◌+◌, ◌++◌, [], IfOk, OnErr, length, take, drop};
+ghost use Rattle.std.specs.Prelude.{ℕ, ◌≡◌, ◌≤◌, ◌<◌, ◌+◌, ◌++◌, [], IfOk, OnErr, OnOk, length, take, drop};
 ghost use Rattle.leaf_array.specs.Pairs.{IsAscending};
 ghost use Rattle.leaf_array.specs.Values.{ClonesAreSame};
 ghost use Rattle.tree_nodes.specs.Content.{pairs_of, IsSound};
 ghost use Rattle.tree_nodes.specs.Copy.{place, IsExtended, IsPositionOrEnd};
 ghost use Rattle.tree_nodes.specs.Depth.{ascending_headroom};
+ghost use Rattle.tree_nodes.specs.Push.{LastLeafTakes};
 
 use crate::arenas::Arenas;
+use crate::leaf::Leaf;
 use crate::walk::Position;
 use leaf_array::InsertResult;
 use std::alloc::{AllocError, Global};
@@ -125,14 +127,49 @@ impl<K: Ord, V> Arenas<K, V> {
         };
         let mut next = from;
         let mut left = count;
-        let mut open = self.len < usize::MAX;
-        while open && left > 0 {
+        let mut room = self.room_at(at);
+        while room > 0 && left > 0 {
             let Some(spot) = next else { unreachable!() };
-            let (key, val) = spot.pair();
-            open = self.push_at(at, key.clone()?, val.clone()?);
-            next = source.behind(spot);
-            left -= 1;
+            let run = (spot.leaf.len() - spot.place).min(left).min(room);
+            self.extend_at(at, spot.leaf, spot.place, run)?;
+            next = source.first_at(spot.moved(run));
+            left -= run;
+            room -= run;
         }
         Ok((next, left))
+    }
+
+    /// Puts clones of so many pairs of another tree's leaf, from a place on, behind those of the last leaf, which takes them.
+    #[inline]
+    fn extend_at(
+        &mut self,
+        at: usize,
+        source: &Leaf<K, V>,
+        from: usize,
+        count: usize,
+    ) -> Result<(), AllocError>
+    where
+        K: Clone + Drop,
+        V: Clone + Drop,
+        requires keys { ClonesAreSame K.is_clone }
+        requires values { ClonesAreSame V.is_clone }
+        requires sound { IsSound K.cmp self.old }
+        requires room { LastLeafTakes self.old at count }
+        requires some { 0 < count }
+        requires within { from + count ≤ length source.now.array.pairs }
+        requires rising { IsAscending K.cmp (pairs_of self.old ++ take count (drop from source.now.array.pairs)) }
+        ensures sound { OnOk result (IsSound K.cmp self.new) }
+        ensures room { OnOk result ((more : ℕ) → LastLeafTakes self.old at (count + more) → LastLeafTakes self.new at more) }
+        ensures pairs { OnOk result (pairs_of self.new ≡ pairs_of self.old ++ take count (drop from source.now.array.pairs)) }
+        ensures ascending { OnOk result (ascending_headroom K.cmp self.old ≤ ascending_headroom K.cmp self.new + count) }
+    {
+        match self.leaves.get_mut(at) {
+            Some(leaf) => {
+                leaf.extend(source, from, count)?;
+                self.len += count;
+                Ok(())
+            },
+            None => unreachable!(),
+        }
     }
 }

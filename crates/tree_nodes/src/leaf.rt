@@ -1,6 +1,6 @@
 //! A leaf of a tree, which is public, and what a tree does with one.
 
-ghost use Rattle.std.specs.Prelude.{◌≡◌, ◌≤◌, ◌<◌, ◌+◌, ◌-◌, ◌||◌, ◌&&◌, ◌==◌, IsTrue, IsSome, IfSome, IfOk, Some, None, true, false, not, cond, length, slice_get, take, drop, [], ◌∷◌, ◌++◌};
+ghost use Rattle.std.specs.Prelude.{◌≡◌, ◌≤◌, ◌<◌, ◌+◌, ◌-◌, ◌||◌, ◌&&◌, ◌==◌, IsTrue, IsSome, IfSome, IfOk, OnOk, Some, None, true, false, not, cond, length, slice_get, take, drop, [], ◌∷◌, ◌++◌};
 ghost use Rattle.std.specs.declared.cmp.Ordering.TheVariants.{Less};
 ghost use Rattle.std.specs.BTreeMap.{is_at};
 ghost use Rattle.std.specs.Map.{lookup_entry};
@@ -91,6 +91,51 @@ impl<K: Ord, V> Leaf<K, V> {
     {
         self.array.push_last(key, val);
         let _ = self.array.len();
+    }
+
+    /// Puts clones of so many pairs of another leaf, from a place on, behind all others, whose keys are lesser.
+    #[inline]
+    pub(crate) fn extend(
+        &mut self,
+        source: &Leaf<K, V>,
+        from: usize,
+        count: usize,
+    ) -> Result<(), AllocError>
+    where
+        K: Clone + Drop,
+        V: Clone + Drop,
+        requires keys { ClonesAreSame K.is_clone }
+        requires values { ClonesAreSame V.is_clone }
+        requires room { self.old.array.used + count ≤ 15 }
+        requires within { from + count ≤ length source.now.array.pairs }
+        requires rising { IsAscending K.cmp (self.old.array.pairs ++ take count (drop from source.now.array.pairs)) }
+        ensures pairs { OnOk result (self.new.array.pairs ≡ self.old.array.pairs ++ take count (drop from source.now.array.pairs)) }
+        ensures used { OnOk result (self.new.array.used ≡ self.old.array.used + count) }
+        ensures frozen { self.new.array.frozen ≡ self.old.array.frozen }
+        ensures prev { self.new.prev ≡ self.old.prev }
+        ensures next { self.new.next ≡ self.old.next }
+    {
+        let _ = source.len();
+        let end = from + count;
+        let mut place = from;
+        while place < end {
+            let (key, val) = source.pair(place);
+            self.push(key.clone()?, val.clone()?);
+            place += 1;
+        }
+        Ok(())
+    }
+
+    /// The pair at a place.
+    #[inline(always)]
+    pub(crate) fn pair(&self, at: usize) -> (&K, &V)
+        requires { at < length self.now.array.pairs }
+        ensures { slice_get self.now.array.pairs at ≡ Some (result.0.now, result.1.now) }
+    {
+        match self.array.pair(at) {
+            Some(pair) => pair,
+            None => unreachable!(),
+        }
     }
 
     /// Removes the pair with this key, if the condition answers true of its value.

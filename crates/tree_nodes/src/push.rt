@@ -5,7 +5,7 @@ ghost use Rattle.leaf_array.specs.Results.{IsSuccess, given_back};
 ghost use Rattle.leaf_array.specs.Values.{ClonesAreSame};
 ghost use Rattle.tree_nodes.specs.Content.{pairs_of, IsSound};
 ghost use Rattle.tree_nodes.specs.Depth.{IsAbove, ascending_headroom};
-ghost use Rattle.tree_nodes.specs.Push.{LastLeafHasRoom};
+ghost use Rattle.tree_nodes.specs.Push.{LastLeafHasRoom, LastLeafTakes};
 
 use crate::arenas::Arenas;
 use leaf_array::InsertResult;
@@ -31,7 +31,7 @@ impl<K: Ord, V> Arenas<K, V> {
     {
         if self.len < usize::MAX {
             if let Some(at) = self.open_leaf() {
-                let _ = self.push_at(at, key, val);
+                self.push_at(at, key, val);
                 return InsertResult::Success;
             }
         }
@@ -59,37 +59,40 @@ impl<K: Ord, V> Arenas<K, V> {
         }
     }
 
-    /// Puts a pair behind those of the last leaf, and says whether there is room for one more, which can be counted.
+    /// How many more pairs the last leaf takes, which has room, and can be counted.
     #[inline]
-    pub(crate) fn push_at(&mut self, at: usize, key: K, val: V) -> bool
+    pub(crate) fn room_at(&self, at: usize) -> usize
+        requires { LastLeafHasRoom self.now at }
+        ensures { LastLeafTakes self.now at result }
+    {
+        match self.leaves.get(at) {
+            Some(leaf) => {
+                let _ = leaf.len();
+                let counted = self.len;
+                let room = 15 - usize::from(leaf.array.used());
+                room.min(usize::MAX - counted)
+            },
+            None => unreachable!(),
+        }
+    }
+
+    /// Puts a pair behind those of the last leaf, which has room.
+    #[inline]
+    fn push_at(&mut self, at: usize, key: K, val: V)
         requires sound { IsSound K.cmp self.old }
         requires countable { self.old.len + 1 < 2 ^ 64 }
         requires open { LastLeafHasRoom self.old at }
         requires above { IsAbove K.cmp key (pairs_of self.old) }
         ensures sound { IsSound K.cmp self.new }
-        ensures open { result ≡ true → LastLeafHasRoom self.new at }
-        ensures countable { result ≡ true → self.new.len + 1 < 2 ^ 64 }
         ensures done { pairs_of self.new ≡ pairs_of self.old ++ (key, val) ∷ [] }
         ensures ascending { ascending_headroom K.cmp self.old ≤ ascending_headroom K.cmp self.new + 1 }
     {
         match self.leaves.get_mut(at) {
             Some(leaf) => {
                 leaf.push(key, val);
-                let _ = leaf.len();
-                let full = leaf.array.is_full();
                 self.len += 1;
-                takes_more(full, self.len)
             },
             None => unreachable!(),
         }
     }
-}
-
-/// Whether a leaf that is full or not takes one more pair of a tree with so many.
-#[inline(always)]
-fn takes_more(full: bool, len: usize) -> bool
-    ensures room { result ≡ true → full ≡ false }
-    ensures countable { result ≡ true → len + 1 < 2 ^ 64 }
-{
-    !full && len < usize::MAX
 }

@@ -31,9 +31,22 @@ impl<'t, K: Ord, V> Position<'t, K, V> {
         requires { self.now.place < length self.now.leaf.now.array.pairs }
         ensures { slice_get self.now.leaf.now.array.pairs self.now.place ≡ Some (result.0.now, result.1.now) }
     {
-        match self.leaf.array.pair(self.place) {
-            Some(pair) => pair,
-            None => unreachable!(),
+        self.leaf.pair(self.place)
+    }
+
+    /// The place behind so many pairs of the same leaf. It may be behind the last one.
+    #[inline(always)]
+    pub(crate) fn moved(&self, count: usize) -> Position<'t, K, V>
+        requires { self.now.place + count ≤ length self.now.leaf.now.array.pairs }
+        ensures leaf { result.leaf ≡ self.now.leaf }
+        ensures at { result.at ≡ self.now.at }
+        ensures place { result.place ≡ self.now.place + count }
+    {
+        let _ = self.leaf.len();
+        Position {
+            leaf: self.leaf,
+            at: self.at,
+            place: self.place + count,
         }
     }
 }

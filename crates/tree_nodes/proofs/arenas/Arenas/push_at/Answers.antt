@@ -5,7 +5,6 @@ use Rattle.slab.proofs.SlabLemmas.{Updates-with_value}
 use Rattle.tree_nodes.specs.declared.leaf.Leaf.{Leaf}
 use Rattle.tree_nodes.specs.declared.arenas.Arenas.{Arenas}
 use Rattle.tree_nodes.specs.Shape.{AllKeys}
-use Rattle.tree_nodes.specs.Chain.{times}
 use Rattle.tree_nodes.specs.Content.{pairs_of, IsSound}
 use Rattle.tree_nodes.specs.Depth.{root_room}
 use Rattle.tree_nodes.proofs.WayLemmas.{some_same}
@@ -13,7 +12,7 @@ use Rattle.tree_nodes.proofs.WalkLemmas.{own_there}
 use Rattle.tree_nodes.proofs.CopyLemmas.{upserted_behind}
 use Rattle.tree_nodes.proofs.ArenaLemmas.{with_leaf, thawed_on_way, leaf_counted, put_written, still_sound, upserted_written}
 use Rattle.tree_nodes.proofs.DepthLemmas.{headroom_less, insert_room}
-use Rattle.tree_nodes.proofs.PushLemmas.{open_way, open_above, longer_by_one, roomy_used}
+use Rattle.tree_nodes.proofs.PushLemmas.{open_way, open_above, longer_by_one}
 use Rattle.tree_nodes.proofs.arenas.Arenas.push_at.Goals as goal
 
 pub unreachable-requires : goal.unreachable-requires
@@ -90,30 +89,3 @@ returns-clause-ascending g c =
     let pairs = upserted_written cmp o key a s n on l here m (a.len + 1) w c.args.val put in
     let there = (Updates-with_value a.leaves n m (rw here refl)).changed in
     headroom_less a.height (root_room cmp a) (root_room cmp b) 1 (insert_room cmp o key c.args.val a b c.requires.above refl pairs n on l m here there (omega (arith, c.push.ensures.used)))
-
-pub returns-clause-open : goal.returns-clause-open
-returns-clause-open g c more =
-    let cmp = g.K.Ord.cmp in
-    let o = g.met.K.Ord.total in
-    let key = c.args.key in
-    let a = c.args.self.now in
-    let s = c.requires.sound in
-    let n = c.args.at in
-    let l : Leaf g.row.K.Denot g.row.V.Denot = c.in-Some.leaf.now in
-    let m : Leaf g.row.K.Denot g.row.V.Denot = c.push.new.self in
-    let here : get a.leaves n ≡ Some l = sym c.in-Some.ensures.value in
-    let on = open_way cmp o key a s n c.requires.open c.requires.above in
-    let same = some_same (sym c.requires.open.there ∙ here) in
-    let above = subst (λ (x : Leaf g.row.K.Denot g.row.V.Denot). AllKeys (λ k. cmp k key ≡ Less) x.array.pairs) same (open_above cmp o key a s n c.requires.open c.requires.above) in
-    let put = c.push.ensures.pairs ∙ sym (upserted_behind o key c.args.val l.array.pairs above) in
-    let thawed = c.push.ensures.frozen ∙ thawed_on_way cmp o key a s n on l here in
-    let w = put_written cmp o key a s n on l here c.args.val m (a.len + 1) (inl put) thawed c.push.ensures.rising in
-    record {
-      own = (c.requires.open.own.0, subst (λ (ns : List ℕ). times n ns ≢ 0) (sym w.order) c.requires.open.own.1);
-      fore = c.requires.open.fore;
-      last = w.order ∙ c.requires.open.last;
-      leaf = m;
-      there = (Updates-with_value a.leaves n m (rw here refl)).changed;
-      some = omega (arith, longer_by_one l.array.pairs m.array.pairs (key, c.args.val) c.push.ensures.pairs);
-      room = roomy_used m.array.used m.array.retired (sym c.is_full-full.ensures ∙ c.takes_more.ensures.room more) c.len.ensures.most;
-    }

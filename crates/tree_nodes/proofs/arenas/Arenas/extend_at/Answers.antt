@@ -1,0 +1,55 @@
+use Rattle.std.proofs.Common.{◌≡◌, ℕ, drop, take, Some, sym}
+use Rattle.slab.specs.Slab.{get}
+use Rattle.tree_nodes.specs.declared.leaf.Leaf.{Leaf}
+use Rattle.tree_nodes.proofs.ExtendLemmas.{found_takes, leaf_rising, run_length, extended_sound, extended_takes, extended_pairs, extended_headroom}
+use Rattle.tree_nodes.proofs.arenas.Arenas.extend_at.Goals as goal
+
+pub extend-requires-clause-room : goal.extend-requires-clause-room
+extend-requires-clause-room g c = (found_takes c.args.self.now c.args.at c.args.count c.requires.room c.in-Some.leaf.now (sym c.in-Some.ensures.value)).most
+
+pub extend-requires-clause-rising : goal.extend-requires-clause-rising
+extend-requires-clause-rising g c = leaf_rising c.args.self.now c.args.at c.args.count c.requires.room c.in-Some.leaf.now (sym c.in-Some.ensures.value) g.K.Ord.cmp g.met.K.Ord.total _ c.requires.rising
+
+pub returns-clause-sound : goal.returns-clause-sound
+returns-clause-sound g c =
+    let a = c.args.self.now in
+    let l : Leaf g.row.K.Denot g.row.V.Denot = c.in-Some.leaf.now in
+    let here : get a.leaves c.args.at ≡ Some l = sym c.in-Some.ensures.value in
+    let ps = c.args.source.now.array.pairs in
+    let long = run_length c.args.from c.args.count ps c.requires.within in
+    let e = c.extend.ensures in
+    let done = c.in_ok-extend-in-Some.ensures in
+    extended_sound g.K.Ord.cmp g.met.K.Ord.total a c.requires.sound c.args.at c.args.count (found_takes a c.args.at c.args.count c.requires.room l here) c.requires.some (take c.args.count (drop c.args.from ps)) long c.requires.rising c.extend.new.self done.pairs done.used e.frozen e.prev e.next
+
+pub returns-clause-room : goal.returns-clause-room
+returns-clause-room g c =
+    let a = c.args.self.now in
+    let l : Leaf g.row.K.Denot g.row.V.Denot = c.in-Some.leaf.now in
+    let here : get a.leaves c.args.at ≡ Some l = sym c.in-Some.ensures.value in
+    let ps = c.args.source.now.array.pairs in
+    let long = run_length c.args.from c.args.count ps c.requires.within in
+    let e = c.extend.ensures in
+    let done = c.in_ok-extend-in-Some.ensures in
+    extended_takes g.K.Ord.cmp g.met.K.Ord.total a c.requires.sound c.args.at c.args.count (found_takes a c.args.at c.args.count c.requires.room l here) c.requires.some (take c.args.count (drop c.args.from ps)) long c.requires.rising c.extend.new.self done.pairs done.used e.frozen e.prev e.next
+
+pub returns-clause-pairs : goal.returns-clause-pairs
+returns-clause-pairs g c =
+    let a = c.args.self.now in
+    let l : Leaf g.row.K.Denot g.row.V.Denot = c.in-Some.leaf.now in
+    let here : get a.leaves c.args.at ≡ Some l = sym c.in-Some.ensures.value in
+    let ps = c.args.source.now.array.pairs in
+    let long = run_length c.args.from c.args.count ps c.requires.within in
+    let e = c.extend.ensures in
+    let done = c.in_ok-extend-in-Some.ensures in
+    extended_pairs g.K.Ord.cmp g.met.K.Ord.total a c.requires.sound c.args.at c.args.count (found_takes a c.args.at c.args.count c.requires.room l here) c.requires.some (take c.args.count (drop c.args.from ps)) long c.requires.rising c.extend.new.self done.pairs done.used e.frozen e.prev e.next
+
+pub returns-clause-ascending : goal.returns-clause-ascending
+returns-clause-ascending g c =
+    let a = c.args.self.now in
+    let l : Leaf g.row.K.Denot g.row.V.Denot = c.in-Some.leaf.now in
+    let here : get a.leaves c.args.at ≡ Some l = sym c.in-Some.ensures.value in
+    let ps = c.args.source.now.array.pairs in
+    let long = run_length c.args.from c.args.count ps c.requires.within in
+    let e = c.extend.ensures in
+    let done = c.in_ok-extend-in-Some.ensures in
+    extended_headroom g.K.Ord.cmp g.met.K.Ord.total a c.requires.sound c.args.at c.args.count (found_takes a c.args.at c.args.count c.requires.room l here) c.requires.some (take c.args.count (drop c.args.from ps)) long c.requires.rising c.extend.new.self done.pairs done.used e.frozen e.prev e.next
