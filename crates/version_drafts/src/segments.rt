@@ -440,12 +440,7 @@ fn append<K: Clone + Ord + Drop, V: Clone + Drop>(
     ensures { OnOk result (into.new.pairs ≡ into.old.pairs ++ tree.now.pairs) }
 {
     let mut left = ChangeScan::new(tree);
-    while let Some((key, value)) = left.front() {
-        let Ok(()) = into.push(key.clone()?, value.clone()?) else {
-            return Err(AllocError);
-        };
-        left.step();
-    }
+    left.push_run(into, tree.len())?;
     Ok(())
 }
 
