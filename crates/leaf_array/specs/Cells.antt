@@ -142,3 +142,9 @@ module _ {K V : Type 0} where
     -- without the pair that has the key
     abbrev pub array_removed : Cells K V → Cells K V
     array_removed a = record (removed_at (lesser cmp key a.pairs) a) { pairs = remove_entry (is_at (cmp key)) a.pairs }
+
+  module _ (cmp : K → K → Ordering) where
+    -- with these pairs behind all others, each as an insertion leaves it
+    abbrev pub array_extended : List (K × V) → Cells K V → Cells K V
+    array_extended [] a = a
+    array_extended (p ∷ ps) a = array_extended ps (array_inserted cmp p.0 p.1 a)

@@ -22,11 +22,11 @@ use std::marker::Model;
 /// The live places come first and rise, then the dead ones, then the empty ones.
 #[derive(Drop)]
 pub struct Array<K: Ord, V> {
-    len: u8,
-    used: u8,
+    pub(crate) len: u8,
+    pub(crate) used: u8,
     frozen: bool,
     retired: bool,
-    slots: Slots<K, V>,
+    pub(crate) slots: Slots<K, V>,
     ghost retired_empty: { IsTrue retired → len ≡ 0 },
 }
 

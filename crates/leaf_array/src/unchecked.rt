@@ -1,7 +1,9 @@
 //! Insertions and removals for a caller that knows already where a pair belongs.
 
-ghost use Rattle.std.specs.Prelude.{◌≡◌, ◌≢◌, ◌<◌, ◌++◌, ◌∷◌, ◌&&◌, [], not, true, false, cond, length};
-ghost use Rattle.leaf_array.specs.Cells.{slot_of, rank_in, lesser, array_has_key, is_nil, standing, array_inserted, appended, removed_at};
+ghost use Rattle.std.specs.Prelude.{◌≡◌, ◌≢◌, ◌<◌, ◌≤◌, ◌+◌, ◌++◌, ◌∷◌, ◌&&◌, [], not, true, false, cond, length, take, drop};
+ghost use Rattle.leaf_array.specs.Cells.{slot_of, rank_in, lesser, array_has_key, is_nil, standing, array_extended, array_inserted, appended, removed_at};
+ghost use Rattle.leaf_array.specs.Pairs.{IsAscending};
+ghost use Rattle.leaf_array.specs.Values.{ClonesAreSame};
 ghost use Rattle.leaf_array.specs.Words.{word};
 ghost use Rattle.leaf_array.specs.declared.result.RemoveResult.TheVariants.{Success, Retired};
 
@@ -53,6 +55,33 @@ impl<K: Ord, V> Array<K, V> {
     {
         let at = self.len();
         self.place(at, key, val);
+    }
+
+    /// Puts clones of so many pairs of another array, from one on, behind all others, without a search. It says how many:
+    /// fewer where memory is refused. All used places have reachable pairs.
+    pub fn extend_last(&mut self, source: &Self, from: usize, count: usize) -> usize
+    where
+        K: Clone + Drop,
+        V: Clone + Drop,
+        requires keys { ClonesAreSame K.is_clone }
+        requires values { ClonesAreSame V.is_clone }
+        requires living { self.old.retired ≡ false }
+        requires packed { self.old.used ≡ length self.old.pairs }
+        requires room { self.old.used + count ≤ 15 }
+        requires within { from + count ≤ length source.now.pairs }
+        requires rising { IsAscending K.cmp (self.old.pairs ++ take count (drop from source.now.pairs)) }
+        ensures most { result ≤ count }
+        ensures cells { self.new ≡ array_extended K.cmp (take result (drop from source.now.pairs)) self.old }
+        ensures pairs { self.new.pairs ≡ self.old.pairs ++ take result (drop from source.now.pairs) }
+        ensures used { self.new.used ≡ self.old.used + result }
+        ensures frozen { self.new.frozen ≡ self.old.frozen }
+    {
+        let _ = source.len();
+        let at = usize::from(self.len);
+        let done = self.slots.extend(at, &source.slots, from, count);
+        self.len += done as u8;
+        self.used += done as u8;
+        done
     }
 
     /// Removes the reachable pair in a slot, of a frozen array too.

@@ -6,3 +6,4 @@ pub mod FoundLemmas
 pub mod RankLemmas
 pub mod CutLemmas
 pub mod CountWalkLemmas
+pub mod ExtendLemmas

@@ -112,6 +112,11 @@ module _ {K V : Type 0} where
   repacked n (Dead s k v ∷ ps) = Empty ∷ repacked (n + 1) ps
   repacked n (Live s g k v ∷ ps) = Live (slot_of n) 0 k v ∷ repacked (n + 1) ps
 
+  -- live places with these pairs, no gaps, and the slots of the bitmap places that they stand at, counted from n
+  abbrev pub lined : ℕ → List (K × V) → List (Place K V)
+  lined n [] = []
+  lined n (p ∷ ps) = Live (slot_of n) 0 p.0 p.1 ∷ lined (n + 1) ps
+
   -- how many live places at the front stand before the one with a slot
   abbrev pub stands : ℕ → List (Place K V) → ℕ
   stands slot [] = 0

@@ -4,12 +4,12 @@ ghost use Rattle.std.specs.Prelude.{◌≡◌, ◌+◌, ◌<◌, ◌≤◌, ◌+
 ghost use Rattle.leaf_slots.specs.declared.place.Place.TheVariants.{Empty};
 ghost use Rattle.leaf_slots.specs.Labels.{rank_in, first_above, last_below, newest, lesser, entered};
 ghost use Rattle.leaf_slots.specs.Lookups.{LendsPair};
-ghost use Rattle.leaf_slots.specs.Places.{live_pair, live_pairs, dead_pairs, labels_above, top, has_room, pushed, tombstones, renewed, paired, died, front_vacated, repacked, pair_at_slot, stands, live_below, least, no_places, no_half, IsPacked};
+ghost use Rattle.leaf_slots.specs.Places.{live_pair, live_pairs, dead_pairs, labels_above, top, has_room, pushed, tombstones, renewed, paired, died, front_vacated, repacked, pair_at_slot, stands, live_below, least, lined, no_places, no_half, IsEmptied, IsPacked};
 
 use crate::place::{Place, precedes};
 use crate::row::{
-    Blank, Bury, Enter, Exchange, Labels, Last, Lend, Link, Overwrite, Put, Ranks, Renumber,
-    Search, Top,
+    Blank, Bury, Enter, Exchange, Extend, Labels, Last, Lend, Link, Overwrite, Put, Ranks,
+    Renumber, Search, Top,
 };
 use crate::steps::Steps;
 use std::cmp::Ordering;
@@ -176,6 +176,27 @@ impl<K, V> Slots<K, V> {
         ensures places { self.new ≡ take at self.old ++ pushed place (drop at self.old) }
     {
         self.all.insert(at, place);
+    }
+
+    /// Puts clones of so many pairs of other places, from one on, into the empty places from `at` on, which get the slots of
+    /// their bitmap places and no gaps. It says how many: fewer where memory is refused.
+    // Out of line: it is straight code for fifteen places.
+    #[inline(never)]
+    pub fn extend(&mut self, at: usize, source: &Self, from: usize, count: usize) -> usize
+    where
+        K: Clone + Drop,
+        V: Clone + Drop,
+        requires keys { (x y : K) → K.is_clone x y → y ≡ x }
+        requires values { (x y : V) → V.is_clone x y → y ≡ x }
+        requires room { at + count ≤ 15 }
+        requires empty { IsEmptied (drop at self.old) }
+        requires within { from + count ≤ length (live_pairs source.now) }
+        requires small { from + count ≤ 15 }
+        ensures count { length self.new ≡ 15 }
+        ensures most { result ≤ count }
+        ensures places { self.new ≡ take at self.old ++ (lined at (take result (drop from (live_pairs source.now))) ++ drop (at + result) self.old) }
+    {
+        self.all.extend(at, 0, source, from, count)
     }
 
     /// Buries the live place `at`: its pair is dead, and stands behind the live ones.

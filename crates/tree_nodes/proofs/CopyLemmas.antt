@@ -56,13 +56,13 @@ module _ {X : Type 0} where
   take_behind (x ∷ xs) ys zero j e = absurd (omega (arith, e))
   take_behind (x ∷ xs) ys (suc k) j e = ap (λ zs. x ∷ zs) (take_behind xs ys k j (omega (arith, e)))
 
-  pub take_taken : (j n : ℕ) (ys : List X) → j ≤ n → take j (take n ys) ≡ take j ys
+  take_taken : (j n : ℕ) (ys : List X) → j ≤ n → take j (take n ys) ≡ take j ys
   take_taken zero n ys h = refl
   take_taken (suc j) zero ys h = absurd (omega (arith, h))
   take_taken (suc j) (suc n) [] h = refl
   take_taken (suc j) (suc n) (y ∷ ys) h = ap (λ zs. y ∷ zs) (take_taken j n ys (omega (arith, h)))
 
-  pub slice_taken : (j n : ℕ) (ys : List X) → j < n → slice_get (take n ys) j ≡ slice_get ys j
+  slice_taken : (j n : ℕ) (ys : List X) → j < n → slice_get (take n ys) j ≡ slice_get ys j
   slice_taken j zero ys h = absurd (omega (arith, h))
   slice_taken j (suc n) [] h = refl
   slice_taken zero (suc n) (y ∷ ys) h = refl
@@ -80,7 +80,7 @@ module _ {X : Type 0} where
   slice_dropped (suc s) (suc k) j (x ∷ xs) e = slice_dropped s k j xs (omega (arith, e))
 
   -- two stretches in a row are one
-  pub stretches : (xs : List X) (s p q : ℕ) → s ≤ p → p ≤ q → take (p - s) (drop s xs) ++ take (q - p) (drop p xs) ≡ take (q - s) (drop s xs)
+  stretches : (xs : List X) (s p q : ℕ) → s ≤ p → p ≤ q → take (p - s) (drop s xs) ++ take (q - p) (drop p xs) ≡ take (q - s) (drop s xs)
   stretches xs s p q l m =
       let end : s + (p - s) ≡ p = omega (arith, l) in
       let both : p - s + (q - p) ≡ q - s = omega (arith, l, m) in

@@ -1,6 +1,5 @@
 -- Pairs behind all others go to the last leaf.
-use Rattle.std.proofs.Common.{◌≡◌, ◌≢◌, ◌≤◌, ◌<◌, inl, ℕ, ◌+◌, ◌-◌, ◌^◌, List, [], ◌∷◌, ◌++◌, append_assoc, append-nil, drop, length, take, Option, Some, refl, sym, ap, ◌∙◌, subst, arith}
-use Rattle.std.specs.Prelude.{slice_get}
+use Rattle.std.proofs.Common.{◌≡◌, ◌≢◌, ◌≤◌, ◌<◌, ℕ, ◌+◌, ◌-◌, ◌^◌, Bool, true, false, List, [], ◌∷◌, ◌++◌, append_assoc, append-nil, drop, length, take, Option, Some, refl, sym, ap, ◌∙◌, subst, arith}
 use Rattle.std.proofs.Math.Seq.{take-add}
 use Rattle.std.proofs.lemmas.List.{length-append, length-drop, length-take}
 use Rattle.std.specs.declared.cmp.Ordering.{Ordering}
@@ -8,14 +7,14 @@ use Rattle.std.specs.declared.cmp.Ordering.TheVariants.{Less}
 use Rattle.std.specs.Cmp.{IsTotalOrder}
 use Rattle.std.specs.Map.{keys_of}
 use Rattle.std.proofs.lemmas.Map.Keys.{sorted_head, sorted_tail}
-use Rattle.slab.specs.Slab.{get, with_value}
+use Rattle.slab.specs.Slab.{get}
 use Rattle.slab.proofs.SlabLemmas.{Updates-with_value}
 use Rattle.leaf_array.specs.Pairs.{IsAscending}
 use Rattle.tree_nodes.specs.declared.leaf.Leaf.{Leaf}
 use Rattle.tree_nodes.specs.declared.arenas.Arenas.{Arenas}
 use Rattle.tree_nodes.specs.Shape.{AllKeys, IsOver, IsUpTo, IsWithin, joined_over}
 use Rattle.tree_nodes.specs.Chain.{times}
-use Rattle.tree_nodes.specs.Content.{pairs_of, leaves_of, leaf_on_way, IsSound}
+use Rattle.tree_nodes.specs.Content.{pairs_of, leaf_on_way, IsSound}
 use Rattle.tree_nodes.specs.Depth.{IsAbove, ascending_headroom, root_room}
 use Rattle.tree_nodes.specs.Push.{LastLeafHasRoom, LastLeafTakes}
 use Rattle.tree_nodes.specs.Walk.{pairs_in_leaf, position, IsPosition}
@@ -29,30 +28,9 @@ use Rattle.tree_nodes.proofs.WalkLemmas.{all_held, held_is}
 use Rattle.tree_nodes.proofs.WayLemmas.{some_same}
 use Rattle.tree_nodes.proofs.WithoutLemmas.{part_of}
 use Rattle.tree_nodes.proofs.ArenaLemmas.{with_leaf, thawed_on_way, leaf_counted, rewritten, still_sound, Rewritten}
-use Rattle.tree_nodes.proofs.CopyLemmas.{extended_then, front_less, rest_rising, slice_behind, slice_dropped, slice_taken, take_behind, take_next, take_taken}
+use Rattle.tree_nodes.proofs.CopyLemmas.{extended_then, front_less, rest_rising, slice_behind, take_behind}
 use Rattle.tree_nodes.proofs.DepthLemmas.{headroom_less, extended_room}
 use Rattle.tree_nodes.proofs.PushLemmas.{open_way, none_between}
-
--- ---- a run of a leaf, as far as it is copied
-
-module _ {K V : Type 0} {cmp : K → K → Ordering} (o : IsTotalOrder cmp) (base ps : List (K × V)) where
-  -- the next pair of a run is above those that were copied
-  pub run_above : (from count at : ℕ) → IsAscending cmp (base ++ take count (drop from ps)) → from ≤ at → at < from + count → (p : K × V) → slice_get ps at ≡ Some p → AllKeys (λ k. cmp k p.0 ≡ Less) (base ++ take (at - from) (drop from ps))
-  run_above from count at up low high p there =
-      let done = at - from in
-      let less : done < count = omega (arith, low, high) in
-      let run = take count (drop from ps) in
-      let here : slice_get (drop from ps) done ≡ Some p = slice_dropped from at done ps (omega (arith, low)) ∙ there in
-      let front : take (length base + done) (base ++ run) ≡ base ++ take done (drop from ps) = take_behind base run (length base + done) done refl ∙ ap (λ qs. base ++ qs) (take_taken done count (drop from ps) (omega (arith, less))) in
-      subst (AllKeys (λ k. cmp k p.0 ≡ Less)) front (front_less o (length base + done) (base ++ run) p up (slice_behind base run (length base + done) done refl ∙ (slice_taken done count (drop from ps) less ∙ here)))
-
-  -- once it is behind them, one more is copied
-  pub run_longer : (from at : ℕ) → from ≤ at → (p : K × V) → slice_get ps at ≡ Some p → (qs rs : List (K × V)) → qs ≡ base ++ take (at - from) (drop from ps) → rs ≡ qs ++ p ∷ [] → rs ≡ base ++ take (at + 1 - from) (drop from ps)
-  run_longer from at low p there qs rs before after =
-      let done = at - from in
-      let here : slice_get (drop from ps) done ≡ Some p = slice_dropped from at done ps (omega (arith, low)) ∙ there in
-      let more : at + 1 - from ≡ done + 1 = omega (arith, low) in
-      after ∙ ap (λ xs. xs ++ p ∷ []) before ∙ append_assoc base (take done (drop from ps)) (p ∷ []) ∙ ap (λ xs. base ++ xs) (sym (take_next o done (drop from ps) p here)) ∙ sym (ap (λ (k : ℕ). base ++ take k (drop from ps)) more)
 
 -- a list with items, up to its last one
 pub record Ended {X : Type 0} (xs : List X) : Type 0 where
@@ -100,14 +78,19 @@ module _ {K V : Type 0} (cmp : K → K → Ordering) (o : IsTotalOrder cmp) wher
       (from_keys (λ y. cmp x.0 y ≡ Less) xs (part_of (λ y. cmp x.0 y ≡ Less) xs ys (to_keys (λ y. cmp x.0 y ≡ Less) (xs ++ ys) (sorted_head cmp x.0 (keys_of (xs ++ ys)) up))).0)
       (front_rising xs ys (sorted_tail cmp x.0 (keys_of (xs ++ ys)) up))
 
+-- what has pairs isn't retired
+pub living_of : {X : Type 0} (b : Bool) (xs : List X) → (b ≡ true → length xs ≡ 0) → 0 < length xs → b ≡ false
+living_of true xs h some = absurd (omega (arith, h refl, some))
+living_of false xs h some = refl
+
 pub run_length : {X : Type 0} (from count : ℕ) (xs : List X) → from + count ≤ length xs → length (take count (drop from xs)) ≡ count
 run_length from count xs h = simp (length-take, length-drop) (omega (arith, h))
 
 -- the last leaf, which has room, takes so many as it has places for
-pub takes_few : {K V : Type 0} (a : Arenas K V) (n : ℕ) (h : LastLeafHasRoom a n) (l : Leaf K V) (here : get a.leaves n ≡ Some l) (room : ℕ) → l.array.used + room ≤ 15 → a.len + room < 2 ^ 64 → LastLeafTakes a n room
-takes_few a n h l here room most countable =
+pub takes_few : {K V : Type 0} (a : Arenas K V) (n : ℕ) (h : LastLeafHasRoom a n) (l : Leaf K V) (here : get a.leaves n ≡ Some l) (room : ℕ) → (0 < room → l.array.used ≡ length l.array.pairs) → l.array.used + room ≤ 15 → a.len + room < 2 ^ 64 → LastLeafTakes a n room
+takes_few a n h l here room packed most countable =
     let same = some_same (sym h.there ∙ here) in
-    record { own = h.own; fore = h.fore; last = h.last; leaf = l; there = here; some = subst (λ (x : Leaf _ _). 0 < length x.array.pairs) same h.some; most = most; countable = countable }
+    record { own = h.own; fore = h.fore; last = h.last; leaf = l; there = here; some = subst (λ (x : Leaf _ _). 0 < length x.array.pairs) same h.some; packed = packed; most = most; countable = countable }
 
 module _ {K V : Type 0} (a : Arenas K V) (n room : ℕ) (t : LastLeafTakes a n room) (l : Leaf K V) (here : get a.leaves n ≡ Some l) where
   pub same_leaf : t.leaf ≡ l
@@ -122,6 +105,7 @@ module _ {K V : Type 0} (a : Arenas K V) (n room : ℕ) (t : LastLeafTakes a n r
     leaf = l;
     there = here;
     some = subst (λ (x : Leaf K V). 0 < length x.array.pairs) same_leaf t.some;
+    packed = subst (λ (x : Leaf K V). 0 < room → x.array.used ≡ length x.array.pairs) same_leaf t.packed;
     most = subst (λ (x : Leaf K V). x.array.used + room ≤ 15) same_leaf t.most;
     countable = t.countable;
   }
@@ -207,6 +191,7 @@ module _ {K V : Type 0} (cmp : K → K → Ordering) (o : IsTotalOrder cmp) (a :
         leaf = m;
         there = there;
         some = (let x = t.some in omega (arith, longer, x));
+        packed = λ h. (let x = t.packed some in omega (arith, used, longer, x));
         most = omega (arith, used, most);
         countable = omega (arith, fit);
       }

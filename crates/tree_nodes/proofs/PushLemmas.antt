@@ -1,5 +1,5 @@
 -- A pair behind all others goes to the last leaf.
-use Rattle.std.proofs.Common.{◌≡◌, ◌≢◌, ◌<◌, ◌⊎◌, inl, inr, ℕ, suc, ◌+◌, ◌≤◌, ◌==◌, ◌||◌, Bool, true, false, cond, List, [], ◌∷◌, ◌++◌, length, refl, sym, ap, ◌∙◌, subst, arith}
+use Rattle.std.proofs.Common.{◌≡◌, ◌≢◌, ◌<◌, ◌⊎◌, inl, inr, ℕ, suc, ◌+◌, ◌==◌, true, false, cond, List, [], ◌∷◌, ◌++◌, length, refl, sym, ap, ◌∙◌, subst, arith}
 use Rattle.std.specs.declared.cmp.Ordering.{Ordering}
 use Rattle.std.specs.declared.cmp.Ordering.TheVariants.{Less, Greater}
 use Rattle.std.specs.Ordering.{is_lt}
@@ -68,11 +68,3 @@ module _ {K V : Type 0} (cmp : K → K → Ordering) (o : IsTotalOrder cmp) (key
 
 pub longer_by_one : {X : Type 0} (old new : List X) (x : X) → new ≡ old ++ x ∷ [] → length new ≡ length old + 1
 longer_by_one old new x e = ap length e ∙ simp length-append refl
-
--- a leaf that isn't full has room
-pub roomy_used : (used : ℕ) (retired : Bool) → (used == 15 || retired) ≡ false → used ≤ 15 → used < 15
-roomy_used used retired h most = split (eqb_tells used 15)
-  where
-    split : ((used == 15) ≡ true × (used ≡ 15)) ⊎ ((used == 15) ≡ false × (used ≢ 15)) → used < 15
-    split (inl e) = absurd (let f : true ≡ false = ap (λ b. b || retired) (sym e.0) ∙ h in cc)
-    split (inr e) = omega (arith, e.1, most)

@@ -93,7 +93,8 @@ impl<K: Ord, V> Leaf<K, V> {
         let _ = self.array.len();
     }
 
-    /// Puts clones of so many pairs of another leaf, from a place on, behind all others, whose keys are lesser.
+    /// Puts clones of so many pairs of another leaf, from a place on, behind all others, whose keys are lesser. There are some,
+    /// and nothing that was removed or replaced is kept.
     #[inline]
     pub(crate) fn extend(
         &mut self,
@@ -106,6 +107,8 @@ impl<K: Ord, V> Leaf<K, V> {
         V: Clone + Drop,
         requires keys { ClonesAreSame K.is_clone }
         requires values { ClonesAreSame V.is_clone }
+        requires some { 0 < length self.old.array.pairs }
+        requires packed { self.old.array.used ≡ length self.old.array.pairs }
         requires room { self.old.array.used + count ≤ 15 }
         requires within { from + count ≤ length source.now.array.pairs }
         requires rising { IsAscending K.cmp (self.old.array.pairs ++ take count (drop from source.now.array.pairs)) }
@@ -115,13 +118,10 @@ impl<K: Ord, V> Leaf<K, V> {
         ensures prev { self.new.prev ≡ self.old.prev }
         ensures next { self.new.next ≡ self.old.next }
     {
-        let _ = source.len();
-        let end = from + count;
-        let mut place = from;
-        while place < end {
-            let (key, val) = source.pair(place);
-            self.push(key.clone()?, val.clone()?);
-            place += 1;
+        let _ = self.len();
+        let done = self.array.extend_last(&source.array, from, count);
+        if done < count {
+            return Err(AllocError);
         }
         Ok(())
     }

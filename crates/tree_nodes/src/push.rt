@@ -59,7 +59,8 @@ impl<K: Ord, V> Arenas<K, V> {
         }
     }
 
-    /// How many more pairs the last leaf takes, which has room, and can be counted.
+    /// How many more pairs the last leaf takes at once, which has room, and can be counted: none where it keeps what was
+    /// removed or replaced.
     #[inline]
     pub(crate) fn room_at(&self, at: usize) -> usize
         requires { LastLeafHasRoom self.now at }
@@ -67,10 +68,12 @@ impl<K: Ord, V> Arenas<K, V> {
     {
         match self.leaves.get(at) {
             Some(leaf) => {
-                let _ = leaf.len();
+                let len = leaf.len();
                 let counted = self.len;
-                let room = 15 - usize::from(leaf.array.used());
-                room.min(usize::MAX - counted)
+                if usize::from(leaf.array.used()) > len {
+                    return 0;
+                }
+                (15 - len).min(usize::MAX - counted)
             },
             None => unreachable!(),
         }

@@ -1,4 +1,3 @@
-use Rattle.std.proofs.Common.{◌≡◌}
 use Rattle.tree_nodes.specs.Content.{pairs_of}
 use Rattle.tree_nodes.specs.Copy.{place, IsExtended}
 use Rattle.tree_nodes.specs.Depth.{ascending_headroom}

@@ -1,0 +1,120 @@
+//! Clones of another row's pairs.
+
+ghost use Rattle.std.specs.Prelude.{◌≡◌, ◌+◌, ◌<◌, ◌≤◌, ◌++◌, ◌∷◌, [], length, take, drop, IfSome, List};
+ghost use Rattle.leaf_slots.specs.declared.place.Place.{Place};
+ghost use Rattle.leaf_slots.specs.Places.{lined, live_pairs, IsEmptied};
+
+use crate::place::{Place, fill, slot_of};
+use crate::row::{Last, Link};
+use crate::slots::Slots;
+
+/// A row that takes clones of pairs in.
+pub(crate) trait Extend<K: Clone + Drop, V: Clone + Drop> {
+    ghost places: { Self → List (Place K V) };
+
+    /// Puts clones of so many pairs of other places, from one on, into the empty places from `skip` on, which get the slots
+    /// of their bitmap places, counted from `bitmap`, and no gaps. It says how many: fewer where memory is refused.
+    fn extend(
+        &mut self,
+        skip: usize,
+        bitmap: u8,
+        source: &Slots<K, V>,
+        from: usize,
+        count: usize,
+    ) -> usize
+        requires keys { (x y : K) → K.is_clone x y → y ≡ x }
+        requires values { (x y : V) → V.is_clone x y → y ≡ x }
+        requires room { skip + count ≤ length (places self.old) }
+        requires bitmap { bitmap + length (places self.old) ≤ 15 }
+        requires empty { IsEmptied (drop skip (places self.old)) }
+        requires within { from + count ≤ length (live_pairs source.now) }
+        requires small { from + count ≤ 15 }
+        ensures most { result ≤ count }
+        ensures places { places self.new ≡ take skip (places self.old) ++ (lined (bitmap + skip) (take result (drop from (live_pairs source.now))) ++ drop (skip + result) (places self.old)) };
+}
+
+impl<K: Clone + Drop, V: Clone + Drop> Extend<K, V> for Last<K, V> {
+    ghost places = { λ l. l.head ∷ [] };
+
+    #[inline(always)]
+    fn extend(
+        &mut self,
+        skip: usize,
+        bitmap: u8,
+        source: &Slots<K, V>,
+        from: usize,
+        count: usize,
+    ) -> usize {
+        if skip > 0 {
+            return 0;
+        }
+        if count == 0 {
+            return 0;
+        }
+        match cloned(source, from, bitmap) {
+            Some(place) => {
+                fill(&mut self.head, place);
+                1
+            },
+            None => 0,
+        }
+    }
+}
+
+impl<K: Clone + Drop, V: Clone + Drop, R: Extend<K, V>> Extend<K, V> for Link<K, V, R> {
+    ghost places = { λ l. l.head ∷ R.places l.rest };
+
+    #[inline(always)]
+    fn extend(
+        &mut self,
+        skip: usize,
+        bitmap: u8,
+        source: &Slots<K, V>,
+        from: usize,
+        count: usize,
+    ) -> usize {
+        if skip > 0 {
+            return self.rest.extend(skip - 1, bitmap + 1, source, from, count);
+        }
+        if count == 0 {
+            return 0;
+        }
+        match cloned(source, from, bitmap) {
+            Some(place) => {
+                fill(&mut self.head, place);
+                1 + self.rest.extend(0, bitmap + 1, source, from + 1, count - 1)
+            },
+            None => 0,
+        }
+    }
+}
+
+/// A clone of a live place, with the slot of a bitmap place and no gap. Where memory is refused there is none.
+#[inline(always)]
+fn cloned<K: Clone + Drop, V: Clone + Drop>(
+    source: &Slots<K, V>,
+    at: usize,
+    bitmap: u8,
+) -> Option<Place<K, V>>
+    requires keys { (x y : K) → K.is_clone x y → y ≡ x }
+    requires values { (x y : V) → V.is_clone x y → y ≡ x }
+    requires bitmap { bitmap < 15 }
+    requires live { at < length (live_pairs source.now) }
+    ensures { IfSome result (λ p. p ∷ [] ≡ lined bitmap (take 1 (drop at (live_pairs source.now)))) }
+{
+    let Some((stored, held)) = source.pair(at) else {
+        unreachable!()
+    };
+    let Ok(key) = stored.clone() else {
+        return None;
+    };
+    let Ok(value) = held.clone() else {
+        return None;
+    };
+    Some(Place::Live {
+        slot: slot_of(bitmap),
+        gap: 0,
+        key,
+        value,
+    })
+}
