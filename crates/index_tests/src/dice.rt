@@ -92,7 +92,7 @@ impl Dice {
         &mut self,
         alloc: Global,
         pairs: &[(u64, u64)],
-        number: usize,
+        number: u64,
     ) -> Result<Receipt<u64, u64>, AllocError> {
         let mut reads: Vec<Recorded<u64, u64>> = Vec::new(alloc);
         for _ in 0..self.throw(3) {
@@ -104,7 +104,7 @@ impl Dice {
             reads.push((query, told))?;
         }
         Ok(Receipt {
-            number: (number as u64).saturating_add(self.throw(8).saturating_sub(6)),
+            number: number.saturating_add(self.throw(8).saturating_sub(6)),
             reads: Seq::from_vec(reads),
         })
     }

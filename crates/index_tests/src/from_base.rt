@@ -10,7 +10,7 @@ use crate::table::Row;
 use crate::table::Told::{self, Accepted, Audited, Closed, Done, Opened, Refused, Seen};
 use local_index::Audit::{TooOld, Unknown, Yes};
 use local_index::Cause::{Exhausted, NoSlot};
-use local_index::{BaseCause, BaseRefused, Desk, LocalIndex, Receipt, Reply, Write};
+use local_index::{BaseCause, BaseRefused, LocalIndex, Receipt, Reply, Write};
 use std::alloc::{AllocError, Global};
 use std::ops::Bound::Unbounded;
 use std::process::Abort;
@@ -154,22 +154,6 @@ const CASES: &[Case] = &[
     LAST_NUMBER,
 ];
 
-// An index with one place, and a desk for it.
-fn scene_of<R: Abort>(rt: &R, alloc: Global, index: Numbers) -> Scene<2>
-    requires { index.places ≡ replicate 1 None }
-{
-    let desk = match Desk::new(alloc, 1) {
-        Ok(desk) => desk,
-        Err(AllocError) => panic!(rt; "memory is there"),
-    };
-    Scene {
-        alloc,
-        met: false,
-        index,
-        desk,
-    }
-}
-
 // Whether an index answers calls as is wanted. It is ended.
 fn plays<R: Abort>(rt: &R, scene: Scene<2>, rows: &[Row]) -> bool {
     let mut scene = scene;
@@ -193,13 +177,13 @@ fn begins<R: Abort>(rt: &R, alloc: Global, case: &Case) -> bool {
     ) {
         (Ok(index), Begun::With(used, rows)) => {
             let found = index.slots_in_use();
-            plays(rt, scene_of(rt, alloc, index), rows) && found == used
+            plays(rt, Scene::of(rt, alloc, index, (1, false)), rows) && found == used
         }
         (Err(refused), Begun::Not(cause)) => {
             refused.cause == cause && refused.pairs.as_slice() == case.pairs
         }
         (Ok(index), Begun::Not(_)) => {
-            scene_of(rt, alloc, index).end(rt);
+            Scene::of(rt, alloc, index, (1, false)).end(rt);
             false
         }
         (Err(_), Begun::With(_, _)) => false,
@@ -262,7 +246,7 @@ const FOLLOWS: &[Row] = &[
 #[test]
 fn an_index_goes_on_from_the_base_of_another_one(rt: HostRuntime) {
     let index = followed(&rt, rt.alloc());
-    assert!(rt; plays(&rt, scene_of(&rt, rt.alloc(), index), FOLLOWS));
+    assert!(rt; plays(&rt, Scene::of(&rt, rt.alloc(), index, (1, false)), FOLLOWS));
 }
 
 // Copies of the five pairs, made again where memory was refused.

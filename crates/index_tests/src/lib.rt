@@ -19,6 +19,10 @@ mod hostile;
 #[cfg(test)]
 mod large;
 #[cfg(test)]
+mod lists;
+#[cfg(test)]
+mod met;
+#[cfg(test)]
 mod past;
 #[cfg(test)]
 mod plain;
@@ -32,6 +36,8 @@ mod reading;
 mod reads;
 #[cfg(test)]
 mod refusals;
+#[cfg(test)]
+mod room;
 #[cfg(test)]
 mod scene;
 #[cfg(test)]

@@ -75,6 +75,39 @@ impl<const S: usize> Scene<S> {
         }
         let mut met = false;
         let index = index_of(rt, alloc, (places, slots, last), &mut met);
+        Scene::of(rt, alloc, index, (places, met))
+    }
+
+    /// An index that begins with the list of a number, with so many places and slots.
+    pub(crate) fn holding<R: Abort>(
+        rt: &R,
+        alloc: Global,
+        sizes: (usize, usize),
+        number: u64,
+        pairs: &[(u64, u64)],
+    ) -> Self {
+        let (places, slots) = sizes;
+        if places > 8 || slots == 0 || slots > 10_000 || S == 0 || S > 225 {
+            panic!(rt; "a small index");
+        }
+        let pairs = Vec::from_clones(alloc, pairs).expect(rt, "memory");
+        match LocalIndex::from_base(alloc, number, pairs, places, slots) {
+            Ok(index) => Scene::of(rt, alloc, index, (places, false)),
+            Err(_) => panic!(rt; "memory is there, and room for the list"),
+        }
+    }
+
+    /// An index with so many places, of which none has a session, and a desk for it. Memory may have been refused before.
+    pub(crate) fn of<R: Abort>(
+        rt: &R,
+        alloc: Global,
+        index: LocalIndex<u64, u64, S>,
+        made: (usize, bool),
+    ) -> Self
+        requires { index.places ≡ replicate made.0 None }
+    {
+        let (places, refused) = made;
+        let mut met = refused;
         let desk = desk_of(rt, alloc, places, &mut met);
         Scene {
             alloc,
