@@ -16,6 +16,7 @@ use Rattle.sdd_world.specs.declared.status.LocalState.{LocalState}
 use Rattle.sdd_world.specs.declared.status.Status.{Status}
 use Rattle.sdd_world.specs.declared.status.Status.TheVariants as status
 use Rattle.sdd_world.specs.declared.tag.Tag.TheVariants as tag
+use Rattle.sdd_world.proofs.PassLemmas.{passes_reclaim}
 use Rattle.sdd_world.proofs.FrameLemmas.{keeps_closed, keeps_local, nests_local, only_local}
 use Rattle.sdd_world.proofs.PlaceLemmas.{place_closed, place_local}
 use Rattle.sdd_world.proofs.IdleParticipantLemmas.{gives_only}
@@ -163,6 +164,12 @@ module _ {K V : Type 0} {s : ℕ} (cmp : K → K → Ordering) where
   -- without readers no guard is open
   pub none_reads : (w : State (Item K V s)) (root : ℕ) (places : List (Option (Opened K V s))) → IsStore cmp w root places → All (λ o. o ≡ None) places → (q : ℕ) → (local_at w q).nesting ≡ 0
   none_reads w root places store all q = subst (λ (x : Option (Opened K V s)). IsReader cmp w q x) (none_at places all q) (store.readers q)
+
+  -- so one guard raises the epoch once
+  pub raises_once : (w : State (Item K V s)) (root : ℕ) (places : List (Option (Opened K V s))) → IsStore cmp w root places → All (λ o. o ≡ None) places → w.count < 18446744073709551615 → (passed_times held_by (length places) 1 w).count ≡ w.count + 1
+  raises_once w root places store all count =
+      let can : CanPass (1 + 0) (length places) w = record { place = store.place; known = writer_known cmp w root places store; none_open = none_reads w root places store all; room = omega (arith, count) } in
+      ((passes_reclaim held_by).raised 1 0 (length places) w can).0
 
   -- and eight guards leave no more than the present version takes
   pub left_fits : (w : State (Item K V s)) (root : ℕ) (places : List (Option (Opened K V s))) → (store : IsStore cmp w root places) → All (λ o. o ≡ None) places → w.count ≤ 18446744073709551607 → in_use (passed_times held_by (length places) 8 w) ≤ room_for s (length store.pairs)

@@ -20,7 +20,7 @@ use crate::built::{Built, build};
 use crate::placing::{place, publish};
 use crate::reads::view_of;
 use crate::store::readers::{Opened, are_free, end_all, free_all, nearest, read_at};
-use crate::store::reclaiming::run_passes;
+use crate::store::reclaiming::{PASSES, run_passes};
 use sdd_world::cell::AtomicShared;
 use sdd_world::job::NoJob;
 use sdd_world::owner::Kept;
@@ -264,7 +264,17 @@ impl<K: Clone + Ord, V: Clone, const S: usize> LocalStore<K, V, S> {
         ensures fewer { self.new.used ≤ self.old.used }
         ensures left { All (λ r. r ≡ None) self.old.readers → self.old.raises ≤ 2 ^ 64 - 9 → self.new.used ≤ room_for S (length self.old.present.pairs) }
     {
-        run_passes(&mut self.world, self.readers.len());
+        run_passes(&mut self.world, self.readers.len(), PASSES);
+    }
+
+    /// One of the eight rounds of [`reclaim`](LocalStore::reclaim): an accelerated guard of the writer, which reclaims what has
+    /// waited long enough by now. Without readers it raises the epoch once, up to `2^64 - 1`. It takes no memory.
+    pub fn reclaim_once(&mut self)
+        ensures same { self.new ≡ record self.old { used = self.new.used; raises = self.new.raises } }
+        ensures fewer { self.new.used ≤ self.old.used }
+        ensures raised { All (λ r. r ≡ None) self.old.readers → self.old.raises < 2 ^ 64 - 1 → self.new.raises ≡ self.old.raises + 1 }
+    {
+        run_passes(&mut self.world, self.readers.len(), 1);
     }
 
     /// How many slots are in use.

@@ -12,17 +12,18 @@ use version_views::Item;
 
 /// How many accelerated guards of the writer reclaim a version that nobody has, and its segments: four for each level.
 /// That so many suffice is the law [`passes_leave_one`](crate::passes_leave_one).
-const PASSES: usize = 8;
+pub(crate) const PASSES: usize = 8;
 
 /// Opens and closes so many accelerated guards of the writer of a store.
 pub(crate) fn run_passes<K: Ord + Drop, V: Drop, const S: usize>(
     w: &mut World<Item<K, V, S>, NoJob>,
     writer: usize,
+    passes: usize,
 )
     requires { (root : ℕ) × (readers : List (Option (Opened K V S))) × IsStore K.cmp w.old root readers × (writer ≡ length readers) }
-    ensures { w.new ≡ passed_times held_by writer 8 w.old }
+    ensures { w.new ≡ passed_times held_by writer passes w.old }
 {
-    for _ in 0..PASSES {
+    for _ in 0..passes {
         match guard::new(w, writer) {
             Ok(guard) => {
                 guard::accelerate(w, &guard);

@@ -42,5 +42,5 @@ loop-preserved g c =
 
 pub returns : goal.returns
 returns g c =
-    let all : c.loop.counter ≡ 8 = omega (arith, c.loop-test.false, c.loop.far-counter) in
+    let all : c.loop.counter ≡ c.args.passes = omega (arith, c.loop-test.false, c.loop.far-counter) in
     c.loop.invariant ∙ ap (λ (n : ℕ). passed_times held_by c.args.writer n c.args.w.now) all
