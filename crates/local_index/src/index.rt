@@ -362,6 +362,20 @@ impl<K: Clone + Ord, V: Clone + Eq, const S: usize> LocalIndex<K, V, S> {
         self.store.reclaim();
     }
 
+    /// One of the eight rounds of [`reclaim`](Self::reclaim), for who mustn't wait for all of them: an accelerated guard of the
+    /// writer, which reclaims what has waited for three rounds by now. Where no session is open, it raises the epoch once, up to
+    /// `2^64 - 1`. It takes no memory.
+    ///
+    /// Made behind each commit, it frees what about one commit left behind, so no call takes as long as a `reclaim` after many.
+    /// No clause adds up eight rounds: what waits, and for how long, is no part of the state.
+    pub fn reclaim_once(&mut self)
+        ensures changed { self.new ≡ record self.old { used = self.new.used; raises = self.new.raises } }
+        ensures fewer { self.new.used ≤ self.old.used }
+        ensures raised { HasNoSession self.old → self.old.raises < 2 ^ 64 - 1 → self.new.raises ≡ self.old.raises + 1 }
+    {
+        self.store.reclaim_once();
+    }
+
     /// Closes a session, and gives its receipt.
     pub fn close_session(&mut self, session: Session<K, V>) -> Receipt<K, V>
         requires { IsSessionOf self.old session }
