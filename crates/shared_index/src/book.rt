@@ -16,6 +16,7 @@ pub mod from_base;
 
 use crate::commit::{begin, install};
 use crate::naming::Naming;
+use crate::reclaiming::reclaim_once;
 use crate::share::{Share, cut, end_all};
 use sdd_domain::atomic_shared::AtomicShared;
 use sdd_domain::domain::Domain;
@@ -134,6 +135,16 @@ impl<L: Naming, K: Clone + Ord, V: Clone + Eq, const S: usize> Book<L, K, V, S> 
         // what is read here tells the proof that the number is at most the last one
         let _last = self.last;
         self.base.number() + self.history.len() as u64
+    }
+
+    /// The number of the base, and that of the present list.
+    pub fn numbers(&self) -> (u64, u64)
+        ensures base { result.0 ≡ self.now.base.number }
+        ensures present { result.1 ≡ number_of self.now }
+        ensures rising { result.0 ≤ result.1 }
+        ensures last { result.1 ≤ L.last }
+    {
+        (self.base.number(), self.number())
     }
 
     /// How many pairs the present list has.
@@ -277,6 +288,16 @@ impl<L: Naming, K: Clone + Ord, V: Clone + Eq, const S: usize> Book<L, K, V, S> 
         ensures same { self.new ≡ self.old }
     {
         reclaim(domain, &mut self.local);
+    }
+
+    /// One of the eight rounds of [`reclaim`](Book::reclaim), for who mustn't wait for all of them: it opens and closes one
+    /// accelerated guard of its participant, which reclaims what that retired, as far as it has waited long enough by now. It
+    /// takes no memory.
+    pub fn reclaim_once(&mut self, domain: &Domain<Node<K, V>>)
+        requires place { place_of domain.now ≡ L.place }
+        ensures same { self.new ≡ self.old }
+    {
+        reclaim_once(domain, &mut self.local);
     }
 
     /// Ends the book and shares of it, and gives its participant back: what no cell owns is retired. The ledger goes, so no

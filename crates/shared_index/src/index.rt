@@ -290,6 +290,42 @@ impl<'d, L: Naming, K: Clone + Ord, V: Clone + Eq, const S: usize> SharedIndex<'
         MutexGuard::unlock(book);
     }
 
+    /// One of the eight rounds of [`reclaim`](Self::reclaim), as [`Book::reclaim_once`] makes it. Between two rounds other threads
+    /// commit and audit, so eight of these calls keep the lock for a shorter time each than one `reclaim`, and do what it does.
+    pub fn reclaim_once<R: Wait>(&self, rt: &R) {
+        let mut book = self.book.lock(rt);
+        book.reclaim_once(self.domain);
+        MutexGuard::unlock(book);
+    }
+
+    /// How many slots its place has.
+    pub fn slots(&self) -> usize
+        ensures { result ≡ L.place.1.slots }
+    {
+        self.domain.slots()
+    }
+
+    /// How many slots of its place have an item or are being filled or emptied, whoever placed the item. It is counted without
+    /// the lock, each slot at a moment of its own: exact while no thread places or reclaims, and an estimate else. The contract
+    /// says only that it is never more than [`slots`](Self::slots).
+    pub fn slots_in_use(&self) -> usize
+        ensures { result ≤ L.place.1.slots }
+    {
+        self.domain.slots_in_use()
+    }
+
+    /// The number of the base and that of the present list, by one look under the lock. As many transactions as lie between them
+    /// are kept in memory.
+    pub fn numbers<R: Wait>(&self, rt: &R) -> (u64, u64)
+        ensures rising { result.0 ≤ result.1 }
+        ensures last { result.1 ≤ L.last }
+    {
+        let book = self.book.lock(rt);
+        let numbers = book.numbers();
+        MutexGuard::unlock(book);
+        numbers
+    }
+
     /// Ends the index: its participant, at rest, and its number, to which the counts of the shares sum. It is handed back with
     /// the shares where they aren't all there.
     pub fn close(

@@ -21,6 +21,7 @@ mod book;
 mod commit;
 mod index;
 mod naming;
+mod reclaiming;
 mod share;
 mod sharing;
 

@@ -1,0 +1,23 @@
+//! One round of what reclaims versions.
+
+ghost use Rattle.std.specs.Prelude.{◌≡◌};
+ghost use Rattle.sdd_domain.specs.Tokens.{place_of, home_of, own_of, IsSame};
+
+use sdd_domain::domain::Domain;
+use sdd_domain::guard::Guard;
+use sdd_domain::holds::Holds;
+use sdd_domain::local::Local;
+
+/// Opens and closes an accelerated guard of a participant, which has none open: one of the eight of `shared_versions::reclaim`.
+pub(crate) fn reclaim_once<T: Holds>(domain: &Domain<T>, local: &mut Local<T>)
+    requires home { home_of local.old ≡ place_of domain.now }
+    requires closed { (own_of local.old).nesting ≡ 0 }
+    ensures closed { (own_of local.new).nesting ≡ 0 }
+    ensures same { IsSame local.old local.new }
+{
+    let Ok(guard) = Guard::new(domain, local) else {
+        unreachable!();
+    };
+    guard.accelerate(local);
+    guard.close(domain, local);
+}
