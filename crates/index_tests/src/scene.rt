@@ -180,6 +180,12 @@ impl<const S: usize> Scene<S> {
         alike
     }
 
+    // Makes one round of a reclaim.
+    fn reclaim_once(&mut self) -> bool {
+        self.index.reclaim_once();
+        true
+    }
+
     fn is_played(&mut self, call: Call, told: Told) -> Result<bool, AllocError> {
         let made = desk_call(self.alloc, call)?;
         let reply = self.reply(made)?;
@@ -192,6 +198,7 @@ impl<const S: usize> Scene<S> {
             (Call::Look(label, key), Told::Seen(number, len, value)) => {
                 self.looked_up(label, key) == Some((number, len, value, value.is_some()))
             }
+            (Call::ReclaimOnce, Told::Done) => self.reclaim_once(),
             (Call::Base, Told::Based(number, pairs)) => self.is_based(number, pairs),
             (Call::Since(number), Told::Fed(writes)) => self.is_fed(number, writes),
             (Call::Since(number), Told::Unfed(why)) => self.index.since(number) == Err(why),

@@ -1,7 +1,8 @@
 //! Slots and reclaiming, all writes with their replies, and sessions that outlast commits.
 
 use crate::table::Call::{
-    Close, Commit, CommitOn, InsertEven, InsertTo, Look, Open, Reclaim, Slots, UpsertOdd,
+    Close, Commit, CommitOn, InsertEven, InsertTo, Look, Open, Reclaim, ReclaimOnce, Slots,
+    UpsertOdd,
 };
 use crate::table::Claim::Got;
 use crate::table::Told::{Accepted, All, AtMost, Closed, Done, NoPlace, Opened, Refused, Seen};
@@ -80,6 +81,53 @@ const BY_PAIRS: Table = Table {
         (Reclaim, Done),
         (Slots, Told::Slots(4)),
     ]],
+};
+
+// What was retired is reclaimed as the third guard behind it opens that finds a raised epoch. Each guard raises it as it closes,
+// so that the first one of all finds none. The segment that a version held is retired as that is reclaimed.
+const ROUND_BY_ROUND: Table = Table {
+    about: "a reclaim goes on round by round",
+    places: 1,
+    slots: 16,
+    last: u64::MAX,
+    parts: &[
+        &[
+            (
+                Commit(&[Write::Insert(1, 1)]),
+                Accepted(1, &[Reply::Inserted]),
+            ),
+            (ReclaimOnce, Done),
+            (ReclaimOnce, Done),
+            (ReclaimOnce, Done),
+            (Slots, Told::Slots(3)),
+            (ReclaimOnce, Done),
+            (Slots, Told::Slots(2)),
+        ],
+        &[
+            (Commit(&[Write::Upsert(1, 7)]), Accepted(2, &UPSERTED)),
+            (ReclaimOnce, Done),
+            (ReclaimOnce, Done),
+            (Slots, Told::Slots(4)),
+            (ReclaimOnce, Done),
+            (Slots, Told::Slots(3)),
+            (ReclaimOnce, Done),
+            (ReclaimOnce, Done),
+            (Slots, Told::Slots(3)),
+            (ReclaimOnce, Done),
+            (Slots, Told::Slots(2)),
+        ],
+        // a session keeps what it reads, whatever the rounds
+        &[
+            (Open(1), Opened(2)),
+            (Commit(&[Write::Clear]), Accepted(3, &[Reply::Cleared])),
+            (ReclaimOnce, Done),
+            (ReclaimOnce, Done),
+            (ReclaimOnce, Done),
+            (ReclaimOnce, Done),
+            (Slots, Told::Slots(3)),
+            (Look(1, 1), Seen(2, 1, Some(7))),
+        ],
+    ],
 };
 
 const WHILE_OPEN: Table = Table {
@@ -401,6 +449,7 @@ const OF_TWO: &[Table] = &[
 
 const OF_ONE: &[Table] = &[
     BY_PAIRS,
+    ROUND_BY_ROUND,
     TAKEN_OVER,
     NO_WRITE,
     ONE_FITS,

@@ -55,6 +55,8 @@ pub(crate) enum Call {
     Audit(u64, &'static [Claim]),
     AuditOf(u64),
     Reclaim,
+    /// One round of it.
+    ReclaimOnce,
     Slots,
     Checkpoint(u64),
     /// A look at the base, and at the transactions behind a number.
