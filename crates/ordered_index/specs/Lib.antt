@@ -13,6 +13,10 @@ pub use Rattle.shared_index.specs.Books
 pub use Rattle.shared_index.specs.SharedBase
 pub use Rattle.shared_index.specs.SharedFeeds
 pub use Rattle.shared_index.specs.SharedInvariant
+pub use Rattle.shared_index.specs.Participants
+pub use Rattle.shared_index.specs.SharedReadings
+pub use Rattle.shared_index.specs.Tasks
+pub use Rattle.shared_index.specs.Transacting
 pub use Rattle.shared_sessions.specs.Sessions
 pub use Rattle.shared_sessions.specs.Openings
 pub use Rattle.shared_versions.specs.Readers

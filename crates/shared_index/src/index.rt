@@ -9,6 +9,7 @@ ghost use Rattle.shared_index.specs.Books.{LiesOutside, misses_without};
 ghost use Rattle.shared_index.specs.SharedFeeds.{LiesOutsideFeed};
 ghost use Rattle.shared_index.specs.SharedBase.{MayRefuseBase, misses_unbegun};
 ghost use Rattle.shared_index.specs.SharedInvariant.{IsUnengaged};
+ghost use Rattle.shared_index.specs.Transacting.{AreTold};
 ghost use Rattle.shared_sessions.specs.Openings.{IsBelow, root_number};
 
 use crate::book::feed::FeedRefused;
@@ -222,6 +223,7 @@ impl<'d, L: Naming, K: Clone + Ord, V: Clone + Eq, const S: usize> SharedIndex<'
         ensures counted { OnOk result (share.new ≡ share.old + 1) }
         ensures uncounted { OnErr result (share.new ≡ share.old) }
         ensures last { IfOk result (λ told. told.number ≤ L.last) }
+        ensures told { IfOk result (λ told. AreTold K.cmp receipt.now.reads writes.items told.replies.items) }
         ensures back { IfErr result (λ back. back.writes.items ≡ writes.items) }
     {
         let mut book = self.book.lock(rt);

@@ -1,8 +1,10 @@
-//! Two tasks over one value that threads share.
+//! Tasks of threads over one value.
 
+ghost use Rattle.std.specs.Prelude.{◌≡◌, length};
 ghost use Rattle.std.specs.Fn.{FnOnceReturnsAt};
 
-use std::thread::{Threads, join};
+use std::sync::Wait;
+use std::thread::{Threads, for_each_mut, join};
 
 /// Runs two tasks over one value, the first in a thread of its own where one can be had: what both answer, once both have.
 ///
@@ -33,4 +35,24 @@ pub fn join_over<
             ensures { FnOnceReturnsAt G.FnOnce second shared.entry.now result }
         { second(shared) },
     )
+}
+
+/// What is done beside others with a value that threads share.
+pub(crate) trait Sits<T> {
+    fn sit<R: Wait>(&mut self, rt: &R, shared: &T);
+}
+
+/// Has each item do that with one value, each in a thread of its own where one can be had.
+pub(crate) fn for_each_over<T: Sync, X: Sits<T> + Send, R: Threads + Wait + Sync>(
+    rt: &R,
+    shared: &T,
+    items: &mut [X],
+)
+    ensures { length items.new ≡ length items.old }
+{
+    let threads = items.len();
+    if threads == 0 {
+        return;
+    }
+    for_each_mut(rt, items, threads, &|_place, item| item.sit(rt, shared));
 }

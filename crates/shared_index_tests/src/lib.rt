@@ -18,6 +18,8 @@ mod large;
 #[cfg(test)]
 mod own_commits;
 #[cfg(test)]
+mod participants;
+#[cfg(test)]
 mod place;
 #[cfg(test)]
 mod receipts;
