@@ -1,7 +1,0 @@
-use Rattle.std.proofs.Crossing.{crosses}
-use denote.Param.Send.{sendable}
-use Rattle.ordered_index.proofs.SendLemmas.{index_sync}
-use Rattle.shared_configuration.proofs.service.four_read.Goals as goal
-
-pub join_over-some-requires-sync-T : goal.join_over-some-requires-sync-T
-join_over-some-requires-sync-T g c κs within = search (index_sync, crosses, sendable) depth 12
