@@ -83,21 +83,28 @@ pub(crate) fn closed<L: Naming, R: Abort, const S: usize>(
     }
 }
 
-/// Commits an upsert that rests on a read of one key: whether it was accepted.
-pub(crate) fn swap<L: Naming, R: Wait, const S: usize>(
+/// An upsert of a key that rests on what it had before.
+#[derive(Clone, Copy)]
+struct Swap {
+    key: u64,
+    old: Option<u64>,
+    new: u64,
+}
+
+/// Tries once to commit such an upsert: whether it was accepted, or nothing where it was refused for another cause than a
+/// conflict, or memory was refused before.
+fn try_swap<L: Naming, R: Wait, const S: usize>(
     rt: &R,
     alloc: Global,
     index: &Index<'_, L, S>,
     share: &mut Share<L>,
-    key: u64,
-    old: Option<u64>,
-    new: u64,
+    swap: Swap,
 ) -> Option<bool> {
     let mut receipt = Receipt::blank(alloc);
-    let Ok(()) = receipt.note(Query::Get(key), &Answer::Get(old)) else {
+    let Ok(()) = receipt.note(Query::Get(swap.key), &Answer::Get(swap.old)) else {
         return None;
     };
-    let Ok(writes) = vec![in alloc; Write::Upsert(key, new)] else {
+    let Ok(writes) = vec![in alloc; Write::Upsert(swap.key, swap.new)] else {
         return None;
     };
     match commit(rt, index, share, &receipt, writes) {
@@ -110,6 +117,25 @@ pub(crate) fn swap<L: Naming, R: Wait, const S: usize>(
         ) => Some(false),
         Err(_) => None,
     }
+}
+
+/// Commits an upsert that rests on a read of one key: whether it was accepted. Where it is refused for another cause than a
+/// conflict, such as memory, it is tried again, a hundred times at most.
+pub(crate) fn swap<L: Naming, R: Wait, const S: usize>(
+    rt: &R,
+    alloc: Global,
+    index: &Index<'_, L, S>,
+    share: &mut Share<L>,
+    key: u64,
+    old: Option<u64>,
+    new: u64,
+) -> Option<bool> {
+    for _ in 0..100u32 {
+        if let Some(is_accepted) = try_swap(rt, alloc, index, share, Swap { key, old, new }) {
+            return Some(is_accepted);
+        }
+    }
+    None
 }
 
 /// So many upserts of one key, which nobody else writes, each resting on the one before: whether all were accepted.
