@@ -19,7 +19,7 @@ pub struct Commits {
 }
 
 /// Upserts of so many pairs, from a number on. None where memory is refused.
-fn ascending(alloc: Global, from: u32, count: u32) -> Option<Vec<Write<u64, u64>>> {
+pub fn ascending(alloc: Global, from: u32, count: u32) -> Option<Vec<Write<u64, u64>>> {
     let mut writes = Vec::with_capacity(alloc, count as usize).ok()?;
     for i in 0..count {
         let number = u64::from(from.wrapping_add(i));
@@ -43,7 +43,7 @@ fn drawing(alloc: Global, task: Task, state: u64) -> Option<(Vec<Write<u64, u64>
 }
 
 /// A commit, and the reclaim behind it: whether it was accepted.
-fn commit<L: Naming, R: Wait>(
+pub fn commit<L: Naming, R: Wait>(
     rt: &R,
     alloc: Global,
     index: &Index<'_, L>,

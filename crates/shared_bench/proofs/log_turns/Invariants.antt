@@ -1,5 +1,5 @@
 use Rattle.sdd_domain.specs.Tokens.{place_of}
-use Rattle.shared_bench.proofs.main.Given as goal
+use Rattle.shared_bench.proofs.log_turns.Given as goal
 
 abbrev pub ghosts-run-L-Ledger : goal.ghosts-run-L-Ledger
 ghosts-run-L-Ledger g a = record { name = a.blank.name; parts = a.blank.parts }
