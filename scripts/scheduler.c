@@ -13,12 +13,14 @@
  * changed hands, and how many other threads had ended when the stalled one went on.
  */
 #define _GNU_SOURCE
+#include <linux/futex.h>
 #include <pthread.h>
 #include <semaphore.h>
 #include <stdint.h>
 #include <stdio.h>
 #include <stdlib.h>
 #include <string.h>
+#include <sys/syscall.h>
 #include <time.h>
 #include <unistd.h>
 
@@ -149,6 +151,7 @@ static void *started(void *given) {
 
 int __real_pthread_create(pthread_t *, const pthread_attr_t *, void *(*)(void *), void *);
 int __real_pthread_join(pthread_t, void **);
+long __real_syscall(long, ...);
 void __real__exit(int) __attribute__((noreturn));
 
 int __wrap_pthread_create(pthread_t *name, const pthread_attr_t *how, void *(*run)(void *), void *given) {
@@ -191,6 +194,13 @@ int __wrap_nanosleep(const struct timespec *time, struct timespec *left) {
 int __wrap_clock_nanosleep(clockid_t clock, int flags, const struct timespec *time, struct timespec *left) {
     (void)clock, (void)flags;
     return __wrap_nanosleep(time, left);
+}
+
+/* A thread that would sleep on a word steps aside, and looks again when it has its turn: nobody has to be woken. */
+long __wrap_syscall(long number, long a, long b, long c, long d, long e, long f) {
+    if (number != SYS_futex) return __real_syscall(number, a, b, c, d, e, f);
+    if ((b & FUTEX_CMD_MASK) == FUTEX_WAIT || (b & FUTEX_CMD_MASK) == FUTEX_WAIT_BITSET) __wrap_sched_yield();
+    return 0;
 }
 
 void __wrap__exit(int status) {
