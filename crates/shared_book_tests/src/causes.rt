@@ -1,8 +1,8 @@
 //! Commits that are refused: nothing changes, the share does not count them, and the writes come back.
 
-use crate::table::Call::{Audit, Commit, Counts, Reclaim};
+use crate::table::Call::{Audit, Commit, Counts, Reclaim, Rounds};
 use crate::table::Claim::{Between, Got, Has, Listed, Mixed};
-use crate::table::Told::{Accepted, Audited, Counted, Done, Refused};
+use crate::table::Told::{Accepted, Audited, Counted, Done, Refused, Slots};
 use crate::table::{Call, Told, on_a_book, on_a_small_book, on_books};
 use serial_history::Audit::Yes;
 use serial_history::Cause::{Conflict, Exhausted, NoSlot};
@@ -115,8 +115,22 @@ const FEW_SLOTS: &[(Call, Told)] = &[
     (Audit(3, &[Got(1, Some(12))]), Audited(Yes)),
 ];
 
+/// A round too few leaves a version that waits, and its segment is reclaimed by rounds of its own: eight suffice.
+const ROUND_BY_ROUND: &[(Call, Told)] = &[
+    (Commit(0, &[], &[Insert(1, 10)]), Accepted(1, &[Inserted])),
+    (Rounds(8), Slots(2)),
+    (Commit(0, &[], &[Upsert(1, 11)]), Accepted(2, &[Upserted])),
+    (Commit(0, &[], &[Upsert(1, 12)]), Refused(NoSlot)),
+    // the fifth has the segment that the refused commit placed
+    (Rounds(1), Slots(5)),
+    (Rounds(7), Slots(2)),
+    (Commit(0, &[], &[Upsert(1, 12)]), Accepted(3, &[Upserted])),
+    (Audit(3, &[Got(1, Some(12))]), Audited(Yes)),
+];
+
 #[test]
 fn without_numbers_or_slots_commits_are_refused(rt: HostRuntime) {
     on_a_book(&rt, rt.alloc(), 1, LAST_NUMBER);
     on_a_small_book(&rt, rt.alloc(), 5, FEW_SLOTS);
+    on_a_small_book(&rt, rt.alloc(), 5, ROUND_BY_ROUND);
 }

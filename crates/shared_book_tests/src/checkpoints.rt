@@ -1,8 +1,10 @@
 //! Checkpoints: a number's list becomes the base, in whose place the transactions up to it go.
 
-use crate::table::Call::{Audit, Base, Checkpoint, Commit, Counts, Since};
+use crate::table::Call::{Audit, Base, Checkpoint, Commit, Counts, Numbers, Since};
 use crate::table::Claim::{Got, Listed};
-use crate::table::Told::{Accepted, Audited, Based, Counted, Done, Fed, Kept, Refused, Unfed};
+use crate::table::Told::{
+    Accepted, Audited, Based, Between, Counted, Done, Fed, Kept, Refused, Unfed,
+};
 use crate::table::{Call, Told, on_a_book, on_books};
 use serial_history::Audit::{No, TooOld, Unknown, Yes};
 use serial_history::Cause::{Conflict, Exhausted};
@@ -19,8 +21,10 @@ const BY_NUMBER: &[(Call, Told)] = &[
     (Commit(0, &[], &[Upsert(1, 12)]), Accepted(3, &[Upserted])),
     (Checkpoint(4), Kept(Ahead(3))),
     (Base, Based(0, &[])),
+    (Numbers, Between(0, 3)),
     (Checkpoint(2), Done),
     (Base, Based(2, &[(1, 11)])),
+    (Numbers, Between(2, 3)),
     (Checkpoint(1), Kept(Behind(2))),
     (Base, Based(2, &[(1, 11)])),
     (Audit(1, &[Got(1, Some(10))]), Audited(TooOld(2))),

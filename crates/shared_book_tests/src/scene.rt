@@ -208,9 +208,19 @@ impl<'d, L: Naming, const S: usize> Scene<'d, L, S> {
         (self.book.number(), self.book.len(), count)
     }
 
+    /// The number of the base, and that of the present list.
+    pub(crate) fn numbers(&self) -> (u64, u64) {
+        self.book.numbers()
+    }
+
     /// Reclaims what nobody reads.
     pub(crate) fn reclaim(&mut self) {
         self.book.reclaim(self.domain);
+    }
+
+    /// One round of it.
+    pub(crate) fn reclaim_once(&mut self) {
+        self.book.reclaim_once(self.domain);
     }
 
     /// Ends the book, and its participant.

@@ -3,7 +3,7 @@
 ghost use Rattle.std.specs.Prelude.{◌≡◌, ◌≤◌};
 ghost use Rattle.shared_book_tests.specs.Scenes.{CanBegin};
 
-use crate::scene::{Item, ROOM, Scene, end, member, place};
+use crate::scene::{Item, ROOM, Scene, end, in_use, member, place};
 use sdd_domain::domain::Domain;
 use sdd_domain::local::Local;
 use serial_history::{
@@ -44,7 +44,10 @@ pub(crate) enum Call {
     Base,
     Since(u64),
     Counts,
+    Numbers,
     Reclaim,
+    /// So many rounds of it, and a look at how many slots are in use then.
+    Rounds(u64),
 }
 
 /// What a transaction read, wrote and was told.
@@ -70,6 +73,9 @@ pub(crate) enum Told {
     Unfed(FeedRefused),
     /// The number, how many pairs there are, and the count of the share.
     Counted(u64, usize, u64),
+    /// The number of the base, and that of the present list.
+    Between(u64, u64),
+    Slots(usize),
     Done,
 }
 
@@ -180,9 +186,16 @@ fn answers<L: Naming, R: Abort, const S: usize>(
         (Call::Counts, Told::Counted(number, pairs, count)) => {
             scene.counts() == (number, pairs, count)
         }
+        (Call::Numbers, Told::Between(first, last)) => scene.numbers() == (first, last),
         (Call::Reclaim, Told::Done) => {
             scene.reclaim();
             true
+        }
+        (Call::Rounds(count), Told::Slots(used)) => {
+            for _ in 0..count {
+                scene.reclaim_once();
+            }
+            in_use(scene.domain) == used
         }
         _ => false,
     }

@@ -12,7 +12,7 @@ use sdd_domain::domain::Domain;
 use sdd_domain::local::Local;
 use sdd_plain::sizes::Sizes;
 use serial_history::{Accepted, Answer, Audit, CheckpointRefused, Query, Receipt, Refused};
-use shared_index::{BaseList, Naming, Share, SharedBaseRefused, SharedIndex};
+use shared_index::{BaseList, Naming, NewRefused, Share, SharedBaseRefused, SharedIndex};
 use shared_sessions::{OpenRefused, SharedSession};
 use std::alloc::{AllocError, Global};
 use std::process::Abort;
@@ -73,6 +73,23 @@ pub(crate) fn bounded<'d, L: Naming, R: Abort, const S: usize>(
         Ok(made) => made,
         Err(_) => panic!(rt; "there is memory, a slot and a cell"),
     }
+}
+
+/// An empty index with so many shares, or what it was to be made of.
+pub(crate) fn made<'d, L: Naming, const S: usize>(
+    alloc: Global,
+    domain: &'d Domain<Item>,
+    local: Local<Item>,
+    blank: Blank,
+    shares: usize,
+) -> Result<(Index<'d, L, S>, Vec<Share<L>>), (Local<Item>, Blank, NewRefused)>
+    requires begins { CanBegin L.place L.name L.parts shares domain.now local blank }
+    requires last { L.last ≡ 18446744073709551615 }
+    requires some { 0 < shares }
+    requires size { (1 ≤ S) × (S ≤ 225) }
+    ensures back { IfErr result (λ back. CanBegin L.place L.name L.parts shares domain.now back.0 back.1) }
+{
+    SharedIndex::new(alloc, domain, local, blank, shares)
 }
 
 /// An index with so many shares that begins with a list, or what it was to be made of.
@@ -196,6 +213,25 @@ pub(crate) fn checkpoint<L: Naming, R: Wait, const S: usize>(
     upto: u64,
 ) -> Result<(), CheckpointRefused> {
     index.checkpoint(rt, upto)
+}
+
+/// The numbers of the base and the present list, and of the slots how many are in use, and all.
+pub(crate) fn counted<L: Naming, R: Wait, const S: usize>(
+    rt: &R,
+    index: &Index<'_, L, S>,
+) -> ((u64, u64), (usize, usize)) {
+    (index.numbers(rt), (index.slots_in_use(), index.slots()))
+}
+
+/// So many rounds of a reclaim.
+pub(crate) fn rounds<L: Naming, R: Wait, const S: usize>(
+    rt: &R,
+    index: &Index<'_, L, S>,
+    count: u32,
+) {
+    for _ in 0..count {
+        index.reclaim_once(rt);
+    }
 }
 
 /// Reclaims what nobody reads.

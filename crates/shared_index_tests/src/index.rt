@@ -3,13 +3,14 @@
 ghost use Rattle.std.specs.Prelude.{◌≡◌};
 ghost use Rattle.shared_index_tests.specs.Scenes.{CanBegin};
 
-use crate::calls::{audit, close, commit, in_use, leave, place, reclaim};
+use crate::calls::{audit, close, commit, counted, leave, made, place, reclaim, rounds};
 use crate::place::{Item, ROOM, end, got, member, one, two};
 use crate::tasks::{begun, closed, listed, place_for, put, swap, taken};
 use sdd_domain::domain::Domain;
 use sdd_domain::local::Local;
+use sdd_plain::sizes::Sizes;
 use serial_history::{Accepted, Answer, Audit, Cause, Receipt, Refused, Reply, Seq};
-use shared_index::Naming;
+use shared_index::{Naming, NewRefused};
 use std::alloc::{AllocError, Global};
 use std::marker::Brand;
 use std::process::Abort;
@@ -64,16 +65,19 @@ fn an_index_is_closed_with_all_its_shares(rt: HostRuntime) {
     assert_eq!(rt; (counts, lens, number), ([1, 2], [2, 1], 3));
 }
 
-/// What is found under the lock: what a commit tells, how many slots are in use before a reclaim and after it, what three
-/// audits say, and the number.
+/// The numbers of a base and a present list; how many slots are in use, and how many there are.
+type Counts = ((u64, u64), (usize, usize));
+
+/// What is found under the lock: what a commit tells; what is counted before, after one round of a reclaim and after eight;
+/// what three audits say, and the number.
 type Locked = (
     Result<Accepted, Refused<u64, u64>>,
-    [usize; 2],
+    [Counts; 3],
     [Result<Audit, AllocError>; 3],
     u64,
 );
 
-/// What a commit is told under the lock is what the book tells, and `reclaim` frees slots.
+/// What a commit is told under the lock is what the book tells, and eight rounds of a reclaim free slots, as `reclaim` does.
 fn told_under_the_lock<L: Naming, R: Wait + Abort>(
     rt: &R,
     alloc: Global,
@@ -88,9 +92,12 @@ fn told_under_the_lock<L: Naming, R: Wait + Abort>(
     let mut share = taken(rt, &mut shares);
     let writes = two(rt, alloc, Write::Insert(1, 10), Write::Insert(1, 11));
     let told = commit(rt, &index, &mut share, &Receipt::blank(alloc), writes);
-    let before = in_use(domain);
+    let before = counted(rt, &index);
+    rounds(rt, &index, 1);
+    let once = counted(rt, &index);
+    rounds(rt, &index, 7);
+    let after = counted(rt, &index);
     reclaim(rt, &index);
-    let after = in_use(domain);
     let audits = [
         audit(rt, &index, &got(rt, alloc, 1, 1, Some(10))),
         audit(rt, &index, &got(rt, alloc, 1, 1, Some(11))),
@@ -98,7 +105,7 @@ fn told_under_the_lock<L: Naming, R: Wait + Abort>(
     ];
     put(rt, &mut shares, share);
     let number = closed(rt, domain, index, shares);
-    (told, [before, after], audits, number)
+    (told, [before, once, after], audits, number)
 }
 
 /// Whether a commit was the first one, and wrote the first of its two pairs alone.
@@ -116,11 +123,65 @@ fn a_call_under_the_lock_is_that_of_the_book(rt: HostRuntime) {
     let local = member(&rt, &domain);
     let found = told_under_the_lock::<Brand, _>(&rt, rt.alloc(), &domain, local, Blank::new(1));
     end(&rt, domain);
-    let (told, slots, audits, number) = found;
+    let (told, counts, audits, number) = found;
     assert!(rt; is_told(&told));
     assert!(rt; audits == [Ok(Audit::Yes), Ok(Audit::No(0)), Ok(Audit::Unknown)]);
     // the empty version, a version and its segment; then without the first one
-    assert_eq!(rt; (slots, number), ([3, 2], 1));
+    let used = [((0, 1), (3, 64)), ((0, 1), (3, 64)), ((0, 1), (2, 64))];
+    assert_eq!(rt; (counts, number), (used, 1));
+}
+
+/// Why no index is made, with nothing in use; none where one is made.
+fn refused<L: Naming, R: Abort>(
+    rt: &R,
+    alloc: Global,
+    domain: &Domain<Item>,
+    local: Local<Item>,
+    blank: Blank,
+) -> Option<NewRefused>
+    requires begins { CanBegin L.place L.name L.parts 1 domain.now local blank }
+    requires last { L.last ≡ 18446744073709551615 }
+{
+    match made::<L, 2>(alloc, domain, local, blank, 1) {
+        Ok((index, shares)) => {
+            let _number = closed(rt, domain, index, shares);
+            None
+        }
+        Err((local, _, why)) => {
+            leave(domain, local);
+            Some(why)
+        }
+    }
+}
+
+/// The same in a place of its own, with so many slots and cells.
+fn refused_in<R: Abort>(rt: &R, alloc: Global, slots: usize, cells: usize) -> Option<NewRefused> {
+    if slots > 8 || cells > 8 {
+        panic!(rt; "a small place");
+    }
+    let sizes = Sizes {
+        participants: 1,
+        slots,
+        cells,
+        jobs: 0,
+    };
+    let domain = place(alloc, sizes).expect(rt, ROOM);
+    let local = member(rt, &domain);
+    let why = refused::<Brand, R>(rt, alloc, &domain, local, Blank::new(1));
+    end(rt, domain);
+    why
+}
+
+#[test]
+fn no_index_is_made_without_a_slot_or_a_cell(rt: HostRuntime) {
+    let alloc = rt.alloc();
+    let found = [
+        refused_in(&rt, alloc, 0, 1),
+        refused_in(&rt, alloc, 8, 0),
+        refused_in(&rt, alloc, 1, 1),
+    ];
+    let none = Some(NewRefused::NoSlot);
+    assert!(rt; found == [none, none, None]);
 }
 
 /// What a commit is told where the place has no slot for it, what a session reads then, and the number.

@@ -4,13 +4,15 @@ ghost use Rattle.std.specs.Prelude.{◌≡◌, ◌<◌, ◌≤◌};
 ghost use Rattle.sdd_domain.specs.Tokens.{place_of, home_of, own_of, IsSame};
 ghost use Rattle.shared_index_tests.specs.Scenes.{CanBegin};
 
-use crate::calls::{Index, asked, audit, close, commit, ended, leave, opened, reclaim, registered};
+use crate::calls::{
+    Index, asked, audit, close, commit, ended, leave, made, opened, reclaim, registered,
+};
 use crate::place::{Item, ROOM, one, two};
 use sdd_domain::domain::Domain;
 use sdd_domain::local::Local;
 use sdd_plain::sizes::Sizes;
 use serial_history::{Answer, Audit, Cause, Query, Receipt, Refused};
-use shared_index::{Naming, Share, SharedIndex};
+use shared_index::{Naming, Share};
 use std::alloc::Global;
 use std::ops::Bound;
 use std::process::Abort;
@@ -46,7 +48,7 @@ pub(crate) fn begun<'d, L: Naming, R: Abort, const S: usize>(
     requires some { 0 < shares }
     requires size { (1 ≤ S) × (S ≤ 225) }
 {
-    match SharedIndex::new(alloc, domain, local, blank, shares) {
+    match made(alloc, domain, local, blank, shares) {
         Ok(made) => made,
         Err(_) => panic!(rt; "there is memory, a slot and a cell"),
     }
