@@ -12,7 +12,7 @@ use crate::task::{Index, Item, drawn, key, next};
 use crate::writer::{ascending, commit};
 use sdd_domain::domain::Domain;
 use sdd_domain::local::Local;
-use serial_history::{Answer, Cause, Query, Receipt, Refused};
+use serial_history::{Accepted, Answer, Cause, Query, Receipt, Refused};
 use shared_index::{Naming, Share, SharedIndex, join_over};
 use std::alloc::{AllocError, Global};
 use std::sync::Wait;
@@ -41,12 +41,19 @@ pub enum Told {
     Refused,
 }
 
-/// A turn of a thread: the number of its session, what its keys had, and what it was to write.
+/// What a key had in a session.
+#[derive(Clone, Copy)]
+pub struct Look {
+    pub key: u64,
+    pub found: Option<u64>,
+}
+
+/// A turn of a thread: the number of its session, what two keys had, and what it was to write.
 #[derive(Clone, Copy)]
 pub struct Event {
     pub number: u64,
-    pub keys: [u64; 2],
-    pub found: [Option<u64>; 2],
+    pub first: Look,
+    pub second: Look,
     pub write: (u64, u64),
     pub told: Told,
 }
@@ -61,27 +68,29 @@ struct Turn {
 /// What a thread does in its turn: the keys that it reads, and what it writes, if it commits.
 #[derive(Clone, Copy)]
 struct Draw {
-    keys: [u64; 2],
+    first: u64,
+    second: u64,
     write: (u64, u64),
     state: u64,
 }
 
 /// The draws of a turn. The value to be written is the state behind them.
-fn draw(turn: Turn, pairs: u32) -> Draw {
+fn draw_of(turn: Turn, pairs: u32) -> Draw {
     let first = next(turn.state);
     let second = next(first);
     let state = next(second);
     Draw {
-        keys: [key(drawn(first, pairs)), key(drawn(second, pairs))],
+        first: key(drawn(first, pairs)),
+        second: key(drawn(second, pairs)),
         write: (key(drawn(state, pairs)), state),
         state,
     }
 }
 
 /// What a key has, by the answer of a read of it.
-fn found_in(answer: Result<Answer<u64, u64>, AllocError>) -> Option<Option<u64>> {
+fn look_of(key: u64, answer: Result<Answer<u64, u64>, AllocError>) -> Option<Look> {
     match answer {
-        Ok(Answer::Get(found)) => Some(found),
+        Ok(Answer::Get(found)) => Some(Look { key, found }),
         _ => None,
     }
 }
@@ -95,11 +104,11 @@ fn first_turn(logged: Logged) -> Turn {
 }
 
 /// What is logged of a turn.
-fn event_of(receipt: &Receipt<u64, u64>, draw: Draw, found: [Option<u64>; 2], told: Told) -> Event {
+fn event_of(number: u64, first: Look, second: Look, draw: Draw, told: Told) -> Event {
     Event {
-        number: receipt.number,
-        keys: draw.keys,
-        found,
+        number,
+        first,
+        second,
         write: draw.write,
         told,
     }
@@ -123,9 +132,9 @@ impl Event {
 fn read_two<L: Naming>(
     index: &Index<'_, L>,
     local: &mut Local<Item>,
-    keys: [u64; 2],
+    draw: Draw,
     at_least: u64,
-) -> Option<(Receipt<u64, u64>, [Option<u64>; 2])>
+) -> Option<(Receipt<u64, u64>, Look, Look)>
     requires home { home_of local.old ≡ L.place }
     requires closed { (own_of local.old).nesting ≡ 0 }
     ensures same { IsSame local.old local.new }
@@ -134,10 +143,26 @@ fn read_two<L: Naming>(
     let Ok(mut session) = index.open(local, at_least) else {
         return None;
     };
-    let one = session.read(Query::Get(keys[0]));
-    let other = session.read(Query::Get(keys[1]));
+    let one = session.read(Query::Get(draw.first));
+    let other = session.read(Query::Get(draw.second));
     let receipt = session.close(index.domain(), local);
-    Some((receipt, [found_in(one)?, found_in(other)?]))
+    let first = look_of(draw.first, one)?;
+    let second = look_of(draw.second, other)?;
+    Some((receipt, first, second))
+}
+
+/// What is logged of a commit.
+fn told_of(told: Result<Accepted, Refused<u64, u64>>) -> Told {
+    match told {
+        Ok(accepted) => Told::Accepted(accepted.number),
+        Err(
+            Refused {
+                cause: Cause::Conflict(at),
+                writes: _,
+            },
+        ) => Told::Conflict(at),
+        Err(_) => Told::Refused,
+    }
 }
 
 /// Commits an upsert on a receipt.
@@ -152,16 +177,7 @@ fn written<L: Naming, R: Wait>(
     let Ok(writes) = vec![in alloc; Write::Upsert(write.0, write.1)] else {
         return Told::Refused;
     };
-    let told = match index.commit(rt, share, receipt, writes) {
-        Ok(accepted) => Told::Accepted(accepted.number),
-        Err(
-            Refused {
-                cause: Cause::Conflict(at),
-                writes: _,
-            },
-        ) => Told::Conflict(at),
-        Err(_) => Told::Refused,
-    };
+    let told = told_of(index.commit(rt, share, receipt, writes));
     index.reclaim(rt);
     told
 }
@@ -180,12 +196,12 @@ fn commits<L: Naming, R: Wait>(
     let mut local = registered(domain)?;
     let mut turn = first_turn(logged);
     for _round in 0..logged.rounds {
-        let draw = draw(turn, logged.pairs);
-        let Some((receipt, found)) = read_two(index, &mut local, draw.keys, turn.latest) else {
+        let draw = draw_of(turn, logged.pairs);
+        let Some((receipt, first, second)) = read_two(index, &mut local, draw, turn.latest) else {
             break;
         };
         let told = written(rt, alloc, index, share, &receipt, draw.write);
-        let event = event_of(&receipt, draw, found, told);
+        let event = event_of(receipt.number, first, second, draw, told);
         turn = event.next(draw);
         if events.push(event).is_err() {
             break;
@@ -202,11 +218,11 @@ fn reads<L: Naming>(alloc: Global, index: &Index<'_, L>, logged: Logged) -> Opti
     let mut local = registered(domain)?;
     let mut turn = first_turn(logged);
     for _round in 0..logged.rounds {
-        let draw = draw(turn, logged.pairs);
-        let Some((receipt, found)) = read_two(index, &mut local, draw.keys, turn.latest) else {
+        let draw = draw_of(turn, logged.pairs);
+        let Some((receipt, first, second)) = read_two(index, &mut local, draw, turn.latest) else {
             break;
         };
-        let event = event_of(&receipt, draw, found, Told::Read);
+        let event = event_of(receipt.number, first, second, draw, Told::Read);
         turn = event.next(draw);
         if events.push(event).is_err() {
             break;

@@ -141,10 +141,10 @@ fn show<R: Print>(rt: &R, thread: u32, events: &Option<Vec<Event>>) -> io::Resul
         println!(rt;
             "{thread} {} {} {:?} {} {:?} {} {} {:?}",
             event.number,
-            event.keys[0],
-            event.found[0],
-            event.keys[1],
-            event.found[1],
+            event.first.key,
+            event.first.found,
+            event.second.key,
+            event.second.found,
             event.write.0,
             event.write.1,
             event.told
