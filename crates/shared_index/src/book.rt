@@ -16,7 +16,6 @@ pub mod from_base;
 
 use crate::commit::{begin, install};
 use crate::naming::Naming;
-use crate::reclaiming::reclaim_once;
 use crate::share::{Share, cut, end_all};
 use sdd_domain::atomic_shared::AtomicShared;
 use sdd_domain::domain::Domain;
@@ -28,7 +27,7 @@ use serial_history::transaction::{Prepared, copied_replies, prepare};
 use serial_history::{
     Accepted, Audit, Cause, CheckpointRefused, Receipt, Recorded, Refused, Seq, Transaction,
 };
-use shared_versions::{Node, Present, reclaim};
+use shared_versions::{Node, Present, reclaim, reclaim_once};
 use std::alloc::{AllocError, Global};
 use std::marker::Model;
 use std::sync::ledger;

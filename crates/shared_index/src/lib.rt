@@ -23,7 +23,6 @@ mod index;
 mod naming;
 mod participant;
 mod reading;
-mod reclaiming;
 mod share;
 mod sharing;
 mod tasks;

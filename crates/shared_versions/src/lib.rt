@@ -32,6 +32,6 @@ pub use lending::view_of;
 pub use node::{Node, Rest, Version};
 pub use present::{Present, publish};
 pub use reader::{Reader, version_at};
-pub use reclaiming::reclaim;
+pub use reclaiming::{reclaim, reclaim_once};
 pub use session::Session;
 pub use version_drafts::draft::rising_until;

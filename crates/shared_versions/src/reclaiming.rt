@@ -17,12 +17,12 @@ pub fn reclaim<T: Holds>(domain: &Domain<T>, local: &mut Local<T>)
     ensures same { IsSame local.old local.new }
 {
     for _turn in 0..8u32 {
-        pass(domain, local);
+        reclaim_once(domain, local);
     }
 }
 
-/// Opens and closes an accelerated guard.
-fn pass<T: Holds>(domain: &Domain<T>, local: &mut Local<T>)
+/// One of these eight rounds: it opens and closes one accelerated guard of a participant, which has none open.
+pub fn reclaim_once<T: Holds>(domain: &Domain<T>, local: &mut Local<T>)
     requires home { home_of local.old ≡ place_of domain.now }
     requires closed { (own_of local.old).nesting ≡ 0 }
     ensures closed { (own_of local.new).nesting ≡ 0 }
