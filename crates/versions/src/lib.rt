@@ -9,7 +9,7 @@ pub mod world;
 pub use sdd_plain::NoSlot;
 pub use shared_versions::{
     Draft, Node, Present, Reader, Rest, Session, Version, build, build_list, publish, reclaim,
-    rising_until, version_at, view_of,
+    reclaim_once, rising_until, version_at, view_of,
 };
 pub use version_views::{
     Directory, Nearby, Reply, Segment, Trees, VersionView, Walk, Write, WriteRefused, plain,
