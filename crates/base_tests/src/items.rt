@@ -4,11 +4,10 @@ use crate::play::plays;
 use crate::steps::Found::{Back, Done, Is, No, NoSlot, Yes};
 use crate::steps::Part::{HandBack, Once};
 use crate::steps::Step::{
-    Clone, CloneCell, Close, EndCell, FreeSlots, Keep, KeepOwned, KeepShared, Look, NullSharedCell,
-    Open, Own, OwnWith, OwnedCell, Participant, Pass, ReadOwned, ReadShared, Release, Retire, See,
-    Share, SharedCell, Slots,
+    Clone, Close, EndCell, FreeSlots, Keep, KeepOwned, Look, NullSharedCell, Open, Own, OwnWith,
+    OwnedCell, Participant, Pass, ReadOwned, ReadShared, Release, Retire, See, Share, Slots,
 };
-use crate::steps::{A, B, C, D, G, Table};
+use crate::steps::{A, B, G, Table};
 use sdd_world::{Job, NoJob};
 
 const THE_LAST_OF_TWO: Table = Table {
@@ -66,28 +65,6 @@ const BACK: Table = Table {
     ])],
 };
 
-const NO_CELL: Table = Table {
-    about: "owners are back, and no cell is cloned, where no cell is free",
-    sizes: [1, 3, 1, 0],
-    parts: &[Once(&[
-        (SharedCell(A, 1), Done),
-        (Own(B, 2), Done),
-        (KeepOwned(B), NoSlot),
-        (ReadOwned(B), Is(2)),
-        (Share(C, 3), Done),
-        (KeepShared(C), NoSlot),
-        (ReadShared(C), Is(3)),
-        (Open(G, 0), Done),
-        (CloneCell(A, D), NoSlot),
-        (Close(G), Done),
-        (Slots, Is(3)),
-        (Retire(B, 0), Done),
-        (Release(C, 0), Yes),
-        (EndCell(A, 0), Done),
-        (Pass(0, 4), Is(0)),
-    ])],
-};
-
 const NOT_MADE: Table = Table {
     about: "nothing is made where no slot is free",
     sizes: [2, 0, 0, 0],
@@ -111,19 +88,6 @@ const HANDED_BACK: Table = Table {
             (Retire(A, 0), Done),
             (Close(G), Done),
         ]),
-    ],
-};
-
-// What waits is reclaimed first, without a guard open: an owner is out, and then a cell.
-const OUT: Table = Table {
-    about: "a world is handed back without a guard",
-    sizes: [2, 2, 1, 0],
-    parts: &[
-        Once(&[(Own(A, 5), Done), (Own(B, 6), Done), (Retire(B, 1), Done)]),
-        HandBack,
-        Once(&[(Slots, Is(1)), (ReadOwned(A), Is(5)), (KeepOwned(A), Done)]),
-        HandBack,
-        Once(&[(Slots, Is(1)), (EndCell(A, 0), Done)]),
     ],
 };
 
@@ -156,10 +120,8 @@ const TABLES: &[Table] = &[
     GUARD_KEEPS,
     PARTICIPANT,
     BACK,
-    NO_CELL,
     NOT_MADE,
     HANDED_BACK,
-    OUT,
     KEPT,
 ];
 

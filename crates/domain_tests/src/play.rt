@@ -185,7 +185,6 @@ const TABLES: &[Table] = &[
     shares::LENT,
     shares::LENT_BESIDE,
     shares::CLONED,
-    shares::NOT_CLONED,
     shares::MADE,
     shares::SHARED_BY_THREADS,
     clones::BY_THREADS,

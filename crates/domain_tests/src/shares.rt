@@ -171,19 +171,6 @@ pub(crate) const CLONED: Table = Table {
     ],
 };
 
-/// No cell is cloned where none is free, and it has its item still.
-pub(crate) const NOT_CLONED: Table = Table {
-    participants: 1,
-    slots: 1,
-    cells: 1,
-    first: 0,
-    parts: &[
-        Apart(&[(Place(3), Nothing), (Own, Yes)]),
-        Under(&[(CloneCell, No)]),
-        Apart(&[(Peek, Is(3)), (Slots, Is(1)), (Retire, Yes)]),
-    ],
-};
-
 /// A cell is made of an item where there are slots and cells.
 pub(crate) const MADE: Table = Table {
     participants: 1,

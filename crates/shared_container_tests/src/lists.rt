@@ -12,7 +12,6 @@ use sdd_domain::guard::Guard;
 use sdd_domain::local::Local;
 use shared_containers::Links;
 use shared_containers::outcome::NotMade;
-use shared_containers::queue::Queue;
 use shared_containers::stack::Stack;
 use std::alloc::Global;
 use std::process::Abort;
@@ -186,42 +185,6 @@ fn all_items_of_a_stack_are_taken_out_in_one_step(rt: HostRuntime) -> Result<(),
     local.end(&domain);
     end(&rt, domain);
     assert!(rt; found == ([Some(3), None], [Some(2), Some(1), None]));
-    Ok(())
-}
-
-/// What is popped of a stack of 1 where no cell is free: no stack and no queue is made before, and the item isn't taken out.
-fn without_cells<R: Abort>(rt: &R, scene: &Scene, local: &mut Local<u64>) -> Option<u64>
-    requires home { (home_of local.old ≡ place_of scene.now.domain.now) × (hand_of local.old ≡ []) }
-    requires closed { (own_of local.old).nesting ≡ 0 }
-    ensures same { IsAsBefore local.old local.new }
-{
-    let _ = scene.push(local, 1);
-    match Stack::<u64>::new(scene.domain, local) {
-        None => {}
-        Some(_) => panic!(rt; "no cell is free for a stack"),
-    }
-    match Queue::<u64>::new(scene.domain, local) {
-        None => {}
-        Some(_) => panic!(rt; "no cells are free for a queue"),
-    }
-    match scene.stack.pop_all(scene.domain, local) {
-        None => {}
-        Some(_) => panic!(rt; "no cell is free for what is taken out"),
-    }
-    scene.pop(local)
-}
-
-#[test]
-fn without_a_free_cell_no_list_is_made(rt: HostRuntime) -> Result<(), Fail> {
-    // a cell of the one link, one of the stack, two of the queue, and five of the bag
-    let domain = Domain::new(rt.alloc(), sized(1, 1, 9))?;
-    let mut local = member(&rt, &domain);
-    let made = Made::new(&rt, rt.alloc(), &domain, &mut local);
-    let found = without_cells(&rt, &made.scene(&domain, Kind::Stack), &mut local);
-    made.end(&domain, &mut local);
-    local.end(&domain);
-    end(&rt, domain);
-    assert!(rt; found == Some(1));
     Ok(())
 }
 

@@ -228,46 +228,6 @@ fn a_swap_takes_out_the_owner_and_the_tag(rt: HostRuntime) -> Result<(), Fail> {
     Ok(())
 }
 
-/// What comes back where the one cell of a place is taken, and so no cell is made: the value of an owner, and an item.
-fn without_cells<R: Abort>(
-    rt: &R,
-    domain: &Domain<u64>,
-    local: &mut Local<u64>,
-) -> (Option<u64>, u64)
-    requires home { (home_of local.old ≡ place_of domain.now) × (hand_of local.old ≡ []) }
-    ensures same { IsAsBefore local.old local.new }
-{
-    let Ok(cell) = AtomicOwned::null(domain, local) else {
-        panic!(rt; "a cell is free");
-    };
-    match AtomicOwned::<u64>::null(domain, local) {
-        Ok(_) => panic!(rt; "the cell is taken"),
-        Err(NoSlot) => {}
-    }
-    let fifteen = owned(rt, domain, 15, local);
-    let back = match AtomicOwned::from(domain, fifteen, local) {
-        Ok(_) => panic!(rt; "the cell is taken"),
-        Err(back) => last_value(domain, Some(back), local),
-    };
-    let item = match AtomicOwned::new(domain, 16, local) {
-        Ok(_) => panic!(rt; "the cell is taken"),
-        Err(item) => item,
-    };
-    cell.retire(domain, local);
-    (back, item)
-}
-
-#[test]
-fn no_cell_is_made_where_none_is_free(rt: HostRuntime) -> Result<(), Fail> {
-    let domain = Domain::new(rt.alloc(), sized(1, 2, 1))?;
-    let mut local = member(&rt, &domain);
-    let found = without_cells(&rt, &domain, &mut local);
-    local.end(&domain);
-    end(&rt, domain);
-    assert!(rt; found == (Some(15), 16));
-    Ok(())
-}
-
 /// What is seen of a cell: whether it is empty, its tag, and the value and the tag that a guard loads.
 type Looked = (bool, Tag, Option<u64>, Tag);
 
