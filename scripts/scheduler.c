@@ -25,7 +25,7 @@
 #include <unistd.h>
 
 enum { MOST_THREADS = 256, NOBODY = -1, FIRST = 0 };
-static const uint64_t MOST_STEPS = 200000000, FAR = 100000;
+static const uint64_t MOST_STEPS = 500000000, FAR = 1000000;
 
 struct thread {
     pthread_t name;
