@@ -87,7 +87,7 @@ pub(crate) fn closed<L: Naming, R: Abort, const S: usize>(
 
 /// An upsert of a key that rests on what it had before.
 #[derive(Clone, Copy)]
-struct Swap {
+struct Step {
     key: u64,
     old: Option<u64>,
     new: u64,
@@ -100,13 +100,13 @@ fn try_swap<L: Naming, R: Wait, const S: usize>(
     alloc: Global,
     index: &Index<'_, L, S>,
     share: &mut Share<L>,
-    swap: Swap,
+    step: Step,
 ) -> Option<bool> {
     let mut receipt = Receipt::blank(alloc);
-    let Ok(()) = receipt.note(Query::Get(swap.key), &Answer::Get(swap.old)) else {
+    let Ok(()) = receipt.note(Query::Get(step.key), &Answer::Get(step.old)) else {
         return None;
     };
-    let Ok(writes) = vec![in alloc; Write::Upsert(swap.key, swap.new)] else {
+    let Ok(writes) = vec![in alloc; Write::Upsert(step.key, step.new)] else {
         return None;
     };
     match commit(rt, index, share, &receipt, writes) {
@@ -133,7 +133,7 @@ pub(crate) fn swap<L: Naming, R: Wait, const S: usize>(
     new: u64,
 ) -> Option<bool> {
     for _ in 0..100u32 {
-        if let Some(is_accepted) = try_swap(rt, alloc, index, share, Swap { key, old, new }) {
+        if let Some(is_accepted) = try_swap(rt, alloc, index, share, Step { key, old, new }) {
             return Some(is_accepted);
         }
     }
