@@ -10,7 +10,7 @@
  * the others have made FAR steps: one of them may wait for it, and look again and again.
  * TORN=1 has each step that reads and writes done in two, with a choice between them: what must be seen to go wrong.
  * TOLD names a descriptor to which, at the end, a line goes: how many threads there were, how many steps, how many turns
- * changed hands, and how many other threads had ended when the stalled one went on.
+ * changed hands, and whether the stalled one went on only when no other could.
  */
 #define _GNU_SOURCE
 #include <linux/futex.h>
@@ -41,7 +41,7 @@ static struct thread threads[MOST_THREADS];
 static int count = 1;
 static __thread int self = FIRST;
 static uint64_t state, odds, steps, changes;
-static int stalled = NOBODY, is_torn, told = NOBODY, ended_before = NOBODY;
+static int stalled = NOBODY, is_torn, told = NOBODY, was_last;
 static uint64_t stalled_at, steps_of_stalled, held_since;
 
 static uint64_t draw(void) {
@@ -53,7 +53,7 @@ static uint64_t draw(void) {
 
 static void tell(void) {
     if (told == NOBODY) return;
-    dprintf(told, "%d %lu %lu %d\n", count, (unsigned long)steps, (unsigned long)changes, ended_before);
+    dprintf(told, "%d %lu %lu %d\n", count, (unsigned long)steps, (unsigned long)changes, was_last);
     told = NOBODY;
 }
 
@@ -100,18 +100,12 @@ static int any_but(int but) {
         if (is_held_back(it)) held = it;
         else found[n++] = it;
     }
-    return n ? found[draw() % (uint64_t)n] : held;
-}
-
-/* How many others have ended where the stalled thread gets its turn again. */
-static void note_release(int it) {
-    if (it != stalled || !held_since || ended_before != NOBODY) return;
-    ended_before = 0;
-    for (int other = 0; other < count; other++) ended_before += threads[other].has_ended;
+    if (n) return found[draw() % (uint64_t)n];
+    was_last |= held != NOBODY;
+    return held;
 }
 
 static void pass_turn(int to) {
-    note_release(to);
     if (to == self) return;
     changes++;
     sem_post(&threads[to].turn);
@@ -143,7 +137,6 @@ static void *started(void *given) {
     it->has_ended = 1;
     int next = any_but(self);
     if (next == NOBODY) give_up("no thread can go on");
-    note_release(next);
     changes++;
     sem_post(&threads[next].turn);
     return it->answer;
