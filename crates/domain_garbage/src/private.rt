@@ -18,7 +18,6 @@ ghost use Rattle.domain_garbage.specs.Bag.{IsKept, NoneDue, HandsAll, GivesBack,
 
 use crate::notes::Notes;
 use atomic_table::{Join, Play, Split};
-use calm::Calm;
 use domain_table::aim::{Collect, Retire};
 use domain_table::bags::{Bags, Ends};
 use domain_table::board::{Acting, Home, Place, Stored, Words};
@@ -27,7 +26,7 @@ use domain_table::owners::release;
 use domain_table::private_chains::{join_noted, take_noted};
 use domain_table::row::Row;
 use domain_table::steps::sit;
-use parted::One;
+use parted::{Calm, One};
 use sdd_plain::local_state::LocalState;
 use sdd_plain::sizes::Sizes;
 use std::collections::VecDeque;

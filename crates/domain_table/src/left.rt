@@ -24,7 +24,7 @@ use crate::board::{Acting, Home, Place, Words};
 use crate::holding::Holding;
 use crate::steps::STRIDE;
 use atomic_table::Play;
-use ghost_list::GhostList;
+use parted::GhostList;
 use sdd_plain::sizes::Sizes;
 
 /// The number of the first participant's left word.

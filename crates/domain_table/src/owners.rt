@@ -24,11 +24,9 @@ use crate::homes::{let_go, parts_of};
 use crate::leases::row_of;
 use crate::row::Row;
 use atomic_table::{Join, Split};
-use calm::Calm;
-use parted::One;
+use parted::{Calm, One, Tally};
 use sdd_plain::sizes::Sizes;
 use std::collections::VecDeque;
-use tally::Tally;
 
 /// How often the count of an item's owners is read and tried to be raised: each time others may be faster.
 const TRIES: u64 = u64::MAX;

@@ -16,10 +16,9 @@ use crate::holding::Holding;
 use crate::homes::{let_go, room_of};
 use crate::slots;
 use crate::stored::store;
-use parted::{One, Part};
+use parted::{One, Part, Tally};
 use sdd_plain::refusal::NoSlot;
 use sdd_plain::sizes::Sizes;
-use tally::Tally;
 
 /// How many of `left` parts one of `rest` participants gets, so that as many are left as the others need, and one more.
 fn share_of(left: u64, rest: u64) -> u64

@@ -1,4 +1,4 @@
--- The bytes of this crate's structs: one address in a `Seen`, none in a `Life`, an `Ended` and a `Pledge`. Assumes `Logic`.
+-- The bytes of this crate's structs: one address in a `Seen`, none in a `Life`, an `Ended`, a `Pledge`, a `Tally` and a `GhostList`. Assumes `Logic`.
 use Rattle.std.proofs.Common.{◌≡◌, List, [], ◌∷◌, ◌++◌, refl, ap, ◌∙◌}
 use seplogic.Ra.Ura.{Ura}
 use mir.Val.{Val, vstruct, vcons, vnil, of_list}
@@ -17,6 +17,8 @@ use Rattle.parted.specs.contracts.life.Life as life
 use Rattle.parted.specs.contracts.life.Ended as ended
 use Rattle.parted.specs.contracts.life.Pledge as pledge
 use Rattle.parted.specs.contracts.raw.Seen as seen
+use Rattle.parted.specs.contracts.tally.Tally as tally
+use Rattle.parted.specs.contracts.ghost_list.GhostList as list
 
 abbrev pub blank : Val
 blank = vstruct vnil
@@ -29,6 +31,12 @@ EndedData = Struct (shape ended.the_type)
 
 abbrev pub PledgeData : RattleType
 PledgeData = Struct (shape pledge.the_type)
+
+abbrev pub TallyData : RattleType
+TallyData = Struct (shape tally.the_type)
+
+abbrev pub ListData : RattleType
+ListData = Struct (shape list.the_type)
 
 pub life_told : (vs : List Val) → Is LifeData tt vs → vs ≡ blank ∷ []
 life_told vs is = is.1.0
@@ -48,6 +56,12 @@ module _ {M : Type 1} {𝓤 : Ura M} (𝓛 : Logic 𝓤) where
 
   pub pledge_made : ent 𝓤 (emp 𝓤) (sem 𝓛 (PledgeData.own_val tt (blank ∷ [])))
   pledge_made = makes_shadow 𝓛 (PledgeData.own_val tt (blank ∷ [])) (λ vss. (tt, tt)) (tt, (refl, tt))
+
+  pub tally_made : ent 𝓤 (emp 𝓤) (sem 𝓛 (TallyData.own_val tt (blank ∷ [])))
+  tally_made = makes_shadow 𝓛 (TallyData.own_val tt (blank ∷ [])) (λ vss. (tt, tt)) (tt, (refl, tt))
+
+  pub list_made : ent 𝓤 (emp 𝓤) (sem 𝓛 (ListData.own_val tt (blank ∷ [])))
+  list_made = makes_shadow 𝓛 (ListData.own_val tt (blank ∷ [])) (λ vss. (tt, tt)) (tt, (refl, tt))
 
 module _ (R : RattleType) where
   abbrev pub SeenData : RattleType

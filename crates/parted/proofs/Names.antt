@@ -43,7 +43,7 @@ pub use denote.Triple.Walked.{Stays, stay_dropped, stay_ref, walk_of, Goes-dropp
 pub use Rattle.core.proofs.atomic.Steps.{tail, Ptr-Good}
 pub use Rattle.atomic_table.proofs.Walks.{proved, proved_at, leaves}
 pub use Rattle.atomic_table.proofs.Calls.{fm}
-pub use Rattle.atomic_table.proofs.Fields.{strip_good}
+pub use Rattle.atomic_table.proofs.Fields.{strip_good, token_val, pin_told}
 pub use Rattle.parted.specs.Owned.{tokens, over, life_shared}
 pub use Rattle.parted.proofs.Counted.{all_out, all_in, parted, joined, borrowed}
 pub use Rattle.parted.proofs.Bytes.{blank, LifeData, life_told, life_made, EndedData, ended_made, PledgeData, pledge_told, pledge_made, word, SeenData, seen_told, seen_made, seen_opens}

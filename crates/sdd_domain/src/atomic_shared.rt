@@ -14,11 +14,11 @@ use crate::swapping::swap_owner;
 use domain_table::cells::word_of;
 use domain_table::loading::slot_named;
 use domain_table::tags::tag_in;
+use parted::Tally;
 use sdd_plain::refusal::NoSlot;
 use sdd_plain::tag::Tag;
 use std::marker::PhantomData;
 use std::sync::atomic::Ordering;
-use tally::Tally;
 
 /// Takes a cell that nobody has: each of the place is tried once. Where each was taken when it was tried, that is a miss.
 fn take_cell<T: Holds>(domain: &Domain<T>, misses: &mut Tally) -> Option<usize>

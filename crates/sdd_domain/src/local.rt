@@ -28,12 +28,11 @@ use domain_table::loading::lease;
 use domain_table::row::Row;
 use domain_table::scan::scan_due;
 use domain_table::{cells, steps};
-use parted::{Life, Seen};
+use parted::{Life, Seen, Tally};
 use sdd_plain::local_state::LocalState;
 use sdd_plain::sizes::Sizes;
 use sdd_plain::tag::Tag;
 use std::collections::VecDeque;
-use tally::Tally;
 
 /// A registered participant. It must be consumed by `end`.
 pub struct Local<T> {

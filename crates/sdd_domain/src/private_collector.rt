@@ -10,12 +10,12 @@ use crate::holds::Holds;
 use crate::local::Local;
 use crate::reclaiming::sweep;
 use crate::shared::Shared;
-use calm::Calm;
 use domain_garbage::private::{
     Kept, Noted, flag_waiting, hand_all, new_bag, part_bag, put_in, reread, take_bag,
 };
 use domain_table::board::Acting;
 use domain_table::owners::take_in;
+use parted::Calm;
 use sdd_plain::sizes::Sizes;
 use std::alloc::AllocError;
 

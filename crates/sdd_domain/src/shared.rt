@@ -11,14 +11,13 @@ use crate::held::Held;
 use crate::holds::Holds;
 use crate::local::Local;
 use crate::pointer::{Loaded, Ptr};
-use calm::Calm;
 use domain_table::aim::Retire;
 use domain_table::board::{Acting, Stored};
 use domain_table::leases::seen_like;
 use domain_table::loading::lease_own;
 use domain_table::owners::{clone, own_leased, part_with, release, take_in};
 use domain_table::placing::{place_item, place_made};
-use parted::One;
+use parted::{Calm, One};
 use sdd_plain::refusal::NoSlot;
 
 /// One of the owners of an item, which stays, as it is, while it has owners. It must be consumed by `release`. Whoever

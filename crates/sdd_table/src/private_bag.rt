@@ -6,7 +6,7 @@
 ghost use Rattle.std.specs.Prelude.{◌≡◌, ◌<◌, ◌++◌, ◌∷◌, [], List, ℕ, length, IfSome, IfNone};
 ghost use Rattle.sdd_table.specs.Steps.{left_behind};
 
-use ghost_list::GhostList;
+use parted::GhostList;
 use std::marker::Model;
 
 /// The first and the last place of a private bag, how many wait in it, and for how many it has room.
