@@ -1,5 +1,5 @@
 -- what the tests of participants, items and states tell where they answer yes
-use Rattle.std.proofs.Common.{◌≡◌, ◌≢◌, ◌⊎◌, ◌||◌, ◌==◌, Bool, true, false, not, ℕ, zero, suc, ◌+◌, ◌<◌, ◌≤◌, cond, nat_lt, List, length, sym, refl, ap, ◌∙◌, subst, ⊎_elim, inl, inr, arith, eqb-true, ltb-true, leb-true, eq-eqb, ne_eqb, Option, Some, None, is_some}
+use Rattle.std.proofs.Common.{◌≡◌, ◌≢◌, ◌⊎◌, ◌||◌, ◌==◌, Bool, true, false, not, ℕ, zero, suc, ◌+◌, ◌-◌, ◌<◌, ◌≤◌, cond, nat_lt, List, length, sym, refl, ap, ◌∙◌, subst, ⊎_elim, inl, inr, arith, eqb-true, ltb-true, leb-true, eq-eqb, ne_eqb, Option, Some, None, is_some}
 use mathlib.Core.Logic.{dite}
 use native.Mathlib.Decide.{ℕ_discrete}
 use Rattle.sdd_steps.specs.declared.participant.Phase.{Phase}
@@ -10,7 +10,7 @@ use Rattle.sdd_steps.specs.declared.participant.Participant.{Participant}
 use Rattle.sdd_steps.specs.declared.item.Item.{Item}
 use Rattle.sdd_steps.specs.declared.item.Cell.{Cell}
 use Rattle.sdd_steps.specs.State.{State, At, Has, has, participant_at, cell_at, item_at, participant_is, cell_is, item_is, newcomer, empty_cell, no_item}
-use Rattle.sdd_steps.specs.Steps.{is_idle_phase, is_reading_phase, is_opened_phase, count_of, is_idle, is_turning, is_inside, is_ready, agrees, all_looked, is_live, is_due, is_reclaimed, is_left, is_past, is_reclaimable, named, noted, aged, left}
+use Rattle.sdd_steps.specs.Steps.{is_idle_phase, is_reading_phase, is_opened_phase, count_of, is_idle, is_turning, is_inside, is_ready, agrees, all_looked, is_live, is_due, is_reclaimed, is_left, is_past, is_shut, is_reclaimable, named, noted, aged, left, settled}
 use Rattle.sdd_steps.specs.Invariant.{Standing}
 use Rattle.sdd_steps.proofs.ListLemmas.{at_get, both, either, unless}
 use Rattle.sdd_steps.proofs.CountLemmas.{has_has}
@@ -60,6 +60,9 @@ ready_is x h = ⊎_elim (λ t. inl (idle_is x.phase t)) (λ t. inr (count_of x.p
 pub agrees_is : (count : ℕ) (y : Participant) → agrees count y ≡ true → (e : ℕ) → y.phase ≡ Opened e → e ≡ count
 agrees_is count y h e is = ⊎_elim (λ t. let unshut : is_opened_phase y.phase ≡ true = ap is_opened_phase is in let shut : is_opened_phase y.phase ≡ false = unless (is_opened_phase y.phase) t in let bad : true ≡ false = sym unshut ∙ shut in cc)
     (λ t. sym (ap count_of is) ∙ eqb-true (count_of y.phase) count t) (either (not (is_opened_phase y.phase)) (count_of y.phase == count) h)
+
+pub shut_is : (y : Participant) → is_shut y ≡ true → (e : ℕ) → y.phase ≢ Opened e
+shut_is y h e is = let unshut : is_opened_phase y.phase ≡ true = ap is_opened_phase is in let shut : is_opened_phase y.phase ≡ false = unless (is_opened_phase y.phase) h in let bad : true ≡ false = sym unshut ∙ shut in cc
 
 pub looked_is : (p : ℕ) (looked : List ℕ) (n : ℕ) → all_looked p looked n ≡ true → (q : ℕ) → q < n → q ≢ p → Has looked q
 looked_is p looked zero h q less other = absurd (omega arith)
@@ -201,3 +204,58 @@ left_from p (Retired q b) r a e = left_retired (λ z. z ≡ Retired r a → (r �
 left_from p (Collected m) r a e = absurd (cc)
 left_from p Waiting r a e = absurd (cc)
 left_from p (Reclaimed q) r a e = absurd (cc)
+
+-- settling: what p retired counts as retired two counts before the one that it read
+abbrev pub settled_since : ℕ → ℕ → ItemState → ℕ → ℕ
+settled_since p e Live n = n
+settled_since p e (Due r) n = n
+settled_since p e (Retired r a) n = cond (r == p) (e - 2) n
+settled_since p e (Collected m) n = n
+settled_since p e Waiting n = n
+settled_since p e (Reclaimed r) n = n
+
+pub settled_live : (p : ℕ) (f : ItemState) → settled p f ≡ Live → f ≡ Live
+settled_live p Live e = refl
+settled_live p (Due q) e = absurd (cc)
+settled_live p (Retired q b) e = absurd (cc)
+settled_live p (Collected n) e = absurd (cc)
+settled_live p Waiting e = absurd (cc)
+settled_live p (Reclaimed q) e = absurd (cc)
+
+pub settled_standing : (p b e n : ℕ) (f : ItemState) → ((a : ℕ) → f ≢ Retired p a) → Standing b n f → Standing b (settled_since p e f n) (settled p f)
+settled_standing p b e n Live other h = tt
+settled_standing p b e n (Due q) other h = tt
+settled_standing p b e n (Retired q a) other h = let ne : q ≢ p = (λ z. other a (ap (λ k. Retired k a) z)) in subst (λ c. b ≤ cond c (e - 2) n) (sym (ne_eqb q p ne)) h
+settled_standing p b e n (Collected m) other h = h
+settled_standing p b e n Waiting other h = h
+settled_standing p b e n (Reclaimed q) other h = h
+
+pub settled_most : (p e count : ℕ) (f : ItemState) (n : ℕ) → e ≤ count → n ≤ count → settled_since p e f n ≤ count
+settled_most p e count Live n low h = h
+settled_most p e count (Due q) n low h = h
+settled_most p e count (Retired q a) n low h = elim (q == p) as (λ c. cond c (e - 2) n ≤ count) [ true ↦ omega arith | false ↦ h ]
+settled_most p e count (Collected m) n low h = h
+settled_most p e count Waiting n low h = h
+settled_most p e count (Reclaimed q) n low h = h
+
+pub settled_noted : (p : ℕ) (f : ItemState) (n : ℕ) → settled p f ≡ Collected n → f ≡ Collected n
+settled_noted p Live n e = absurd (cc)
+settled_noted p (Due q) n e = absurd (cc)
+settled_noted p (Retired q b) n e = absurd (cc)
+settled_noted p (Collected m) n e = e
+settled_noted p Waiting n e = absurd (cc)
+settled_noted p (Reclaimed q) n e = absurd (cc)
+
+pub settled_from : (p e n : ℕ) (f : ItemState) (r a : ℕ) → settled p f ≡ Retired r a → (b : ℕ) × (f ≡ Retired r b) × (((r ≡ p) × (a ≡ 3) × (settled_since p e f n ≡ e - 2)) ⊎ ((r ≢ p) × (a ≡ b) × (settled_since p e f n ≡ n)))
+settled_from p e n Live r a h = absurd (cc)
+settled_from p e n (Due q) r a h = absurd (cc)
+settled_from p e n (Collected m) r a h = absurd (cc)
+settled_from p e n Waiting r a h = absurd (cc)
+settled_from p e n (Reclaimed q) r a h = absurd (cc)
+settled_from p e n (Retired q b) r a h = let c : ℕ = cond (q == p) 3 b in let hr : q ≡ r = cc in let ha : c ≡ a = cc in (
+  b,
+  ap (λ k. Retired k b) hr,
+  dite (ℕ_discrete q p)
+      (λ same. let three : c ≡ 3 = ap (λ k. cond k 3 b) (eq-eqb q p same) in inl (sym hr ∙ same, sym ha ∙ three, ap (λ k. cond k (e - 2) n) (eq-eqb q p same)))
+      (λ other. let none : c ≡ b = ap (λ k. cond k 3 b) (ne_eqb q p other) in inr ((λ z. other (hr ∙ z)), sym ha ∙ none, ap (λ k. cond k (e - 2) n) (ne_eqb q p other))),
+)

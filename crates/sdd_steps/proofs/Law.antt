@@ -1,6 +1,6 @@
 -- the laws: every step keeps the invariant, the start meets it, and it keeps the promise
-use Rattle.std.proofs.Common.{◌≡◌, ◌≢◌, ◌&&◌, ◌||◌, ◌==◌, nat_lt, true, not, is_some, ℕ, ◌-◌, ◌^◌, ◌<◌, List, [], ◌∷◌, map, length, replicate, sym, refl, ap, ◌∙◌, subst, arith, Option, Some, None, eqb-true, ltb-true}
-use Rattle.sdd_steps.specs.declared.participant.Phase.TheVariants.{Idle, Opened}
+use Rattle.std.proofs.Common.{◌≡◌, ◌≢◌, ◌&&◌, ◌||◌, ◌==◌, nat_lt, true, not, is_some, ℕ, ◌-◌, ◌^◌, ◌<◌, List, [], ◌∷◌, map, length, replicate, sym, refl, ap, ◌∙◌, subst, arith, Option, Some, None, eqb-true, ltb-true, leb-true, nat_le}
+use Rattle.sdd_steps.specs.declared.participant.Phase.TheVariants.{Idle, HasRead, Opened}
 use Rattle.sdd_steps.specs.declared.item.ItemState.{ItemState}
 use Rattle.sdd_steps.specs.declared.item.ItemState.TheVariants.{Live, Due, Retired, Collected, Waiting, Reclaimed}
 use Rattle.sdd_steps.specs.declared.participant.Seen.{Seen}
@@ -8,15 +8,15 @@ use Rattle.sdd_steps.specs.declared.participant.Participant.{Participant}
 use Rattle.sdd_steps.specs.declared.item.Item.{Item}
 use Rattle.sdd_steps.specs.declared.item.Cell.{Cell}
 use Rattle.sdd_steps.specs.declared.step.Step.{Step}
-use Rattle.sdd_steps.specs.declared.step.Step.TheVariants.{ReadEpoch, Publish, Rotate, LoadCell, LoadInHand, ReadSegment, SwapCell, Release, Retire, Collect, Look, Raise, Reclaim, GiveUp, GiveUpCell, Close, Place, RaiseOwners, Reread, End, TakeOver}
+use Rattle.sdd_steps.specs.declared.step.Step.TheVariants.{ReadEpoch, Publish, Rotate, LoadCell, LoadInHand, ReadSegment, SwapCell, Release, Retire, Collect, Look, Raise, Reclaim, GiveUp, GiveUpCell, Close, Place, RaiseOwners, Reread, End, TakeOver, LookShut, Settle}
 use Rattle.sdd_steps.specs.State.{State, At, Has, has, participant_at, cell_at, item_at, participant_is, cell_is, item_is, newcomer, empty_cell, no_item, start}
-use Rattle.sdd_steps.specs.Steps.{enabled, after, Steps, Schedule, is_idle, is_reading, is_turning, is_inside, is_ready, has_loose_owner, is_full, is_live, is_due, is_reclaimed, is_left, is_reclaimable, is_offered, is_reachable, is_within, agrees, all_looked, all_have_loose_owners, all_alone, none_due, holder_is, count_of, named, let_go, emptied, filled, seen, with_state}
+use Rattle.sdd_steps.specs.Steps.{enabled, after, Steps, Schedule, is_idle, is_reading, is_turning, is_inside, is_ready, has_loose_owner, is_full, is_live, is_due, is_reclaimed, is_left, is_reclaimable, is_offered, is_reachable, is_within, is_shut, agrees, all_looked, all_have_loose_owners, all_alone, none_due, holder_is, count_of, named, let_go, emptied, filled, seen, with_state}
 use Rattle.sdd_steps.specs.Invariant.{AllOwnersCounted, Facts, Guarded, Standing, Inv, Safe, names_of}
 use Rattle.sdd_steps.specs.Snapshots.{CanAge, HasRoom}
 use Rattle.sdd_steps.proofs.ListLemmas.{both, at_inside, at_mapped, at_replicate, find_at, get_at, has_map, read_or}
 use Rattle.sdd_steps.proofs.CountLemmas.{has_has, times_has, held_some, names_reheld, names_kept}
-use Rattle.sdd_steps.proofs.EnabledLemmas.{participant_there, cell_there, item_there, idle_is, reading_is, turning_is, inside_is, ready_is, agrees_is, looked_is, due_is, live_is, reclaimed_is, left_dead, reclaimable_is, some_is}
-use Rattle.sdd_steps.proofs.StepLemmas.{named_there, live_in_hand, reads, publishes, closes, loads, looks_at, rereads, rotates, ends, raises, retires, collects, reclaims, adds_owner, releases, places, reholds, empties_cell, emptied_cell, emptied_hand, fills_cell, gives_up_owner}
+use Rattle.sdd_steps.proofs.EnabledLemmas.{participant_there, cell_there, item_there, idle_is, reading_is, turning_is, inside_is, ready_is, agrees_is, shut_is, looked_is, due_is, live_is, reclaimed_is, left_dead, reclaimable_is, some_is}
+use Rattle.sdd_steps.proofs.StepLemmas.{named_there, live_in_hand, reads, publishes, closes, loads, looks_at, looks_shut, settles, rereads, rotates, ends, raises, retires, collects, reclaims, adds_owner, releases, places, reholds, empties_cell, emptied_cell, emptied_hand, fills_cell, gives_up_owner}
 
 module _ (s : State) (i : Inv s) where
   abbrev k : AllOwnersCounted (names_of s.cells) s.items
@@ -60,7 +60,7 @@ module _ (s : State) (i : Inv s) where
       collects s k b n f p j x (item_at s j) (count_of x.phase) (named x.reread) v.0 (inside_is x w.0) (some_is x.reread w.1) u.0 (λ e. let bad : Live ≡ Due p = sym e ∙ is in cc)
   kept_after (Look p q) h = let t = both (participant_is is_inside s p && not (q == p)) (participant_is (agrees s.count) s q) h in let u = both (participant_is is_inside s p) (not (q == p)) t.0 in
       let x = participant_there is_inside s p u.0 in let y = participant_there (agrees s.count) s q t.1 in
-      (k, looks_at s k b n f p q (participant_at s p) (participant_at s q) x.0 y.0 (agrees_is s.count (participant_at s q) y.1))
+      (k, looks_at s k b n f p q (count_of (participant_at s p).phase) (participant_at s p) (participant_at s q) x.0 (inside_is (participant_at s p) x.1).0 y.0 (agrees_is s.count (participant_at s q) y.1))
   kept_after (Raise p) h = let x = participant_at s p in let all = all_looked p x.looked (length s.participants) in
       let t = both (participant_is (λ x. is_inside x && (count_of x.phase == s.count) && all_looked p x.looked (length s.participants)) s p) (nat_lt s.count (2 ^ 64 - 1)) h in
       let u = participant_there (λ x. is_inside x && (count_of x.phase == s.count) && all_looked p x.looked (length s.participants)) s p t.0 in
@@ -84,6 +84,13 @@ module _ (s : State) (i : Inv s) where
   kept_after (End p) h = let t = both (participant_is is_idle s p) (none_due p s.items) h in let u = participant_there is_idle s p t.0 in ends s k b n f p (participant_at s p) u.0 (idle_is (participant_at s p).phase u.1)
   kept_after (TakeOver p j) h = let t = both (participant_is is_ready s p) (item_is (λ it. is_left it.state) s j) h in let x = participant_there is_ready s p t.0 in let u = item_there (λ it. is_left it.state) s j t.1 in
       retires s k b n f p j (participant_at s p) (item_at s j) x.0 (ready_is (participant_at s p) x.1) u.0 (left_dead (item_at s j).state u.1)
+  kept_after (LookShut p q) h = let t = both (participant_is is_reading s p && not (q == p)) (participant_is is_shut s q) h in let u = both (participant_is is_reading s p) (not (q == p)) t.0 in
+      let x = participant_there is_reading s p u.0 in let y = participant_there is_shut s q t.1 in
+      (k, looks_shut s k b n f p q (count_of (participant_at s p).phase) (participant_at s p) (participant_at s q) x.0 (reading_is (participant_at s p).phase x.1) y.0 (shut_is (participant_at s q) y.1))
+  kept_after (Settle p) h = let x = participant_at s p in let all = all_looked p x.looked (length s.participants) in
+      let t = participant_there (λ x. is_reading x && nat_le 3 (count_of x.phase) && all_looked p x.looked (length s.participants)) s p h in
+      let u = both (is_reading x && nat_le 3 (count_of x.phase)) all t.1 in let v = both (is_reading x) (nat_le 3 (count_of x.phase)) u.0 in
+      settles s k b n f p (count_of x.phase) x t.0 (reading_is x.phase v.0) (leb-true 3 (count_of x.phase) v.1) (looked_is p x.looked (length s.participants) u.1)
 
 pub keeps : (s : State) (a : Step) (t : State) → Steps s a t → Inv s → Inv t
 keeps s a t h i = subst Inv (sym h.1) (kept_after s i a h.0)
@@ -106,6 +113,8 @@ starts participants cells = let fresh = (λ (p : ℕ) (x : Participant) (at : At
       ageing = λ i it r a x at. let z = at_inside [] i it at in absurd (omega arith);
       noted = λ i it m at. let z = at_inside [] i it at in absurd (omega arith);
       kept = λ p x e l at h. let same : Idle ≡ Opened e = ap (λ (z : Participant). z.phase) (fresh p x at) ∙ h in absurd (cc);
+      calm = λ p x q at h has. subst (λ (z : Participant). Has z.looked q) (sym (fresh p x at)) has;
+      quiet = λ p q x y m e l it a at h. let same : Idle ≡ HasRead m = ap (λ (z : Participant). z.phase) (fresh p x at) ∙ h in absurd (cc);
     },
   ),
 )

@@ -10,12 +10,12 @@ use Rattle.sdd_steps.specs.declared.participant.Participant.{Participant}
 use Rattle.sdd_steps.specs.declared.item.Item.{Item}
 use Rattle.sdd_steps.specs.declared.item.Cell.{Cell}
 use Rattle.sdd_steps.specs.State.{State, At, Has, times, without, cell_at, item_at, with_participant, with_item, no_item, empty_cell}
-use Rattle.sdd_steps.specs.Steps.{loaded_as, handed, unhanded, emptied, filled, after_release, count_of, older, aged, left, left_by, noted, paid, new_item, taken_up, all_have_loose_owners}
+use Rattle.sdd_steps.specs.Steps.{loaded_as, handed, unhanded, emptied, filled, after_release, count_of, older, aged, left, left_by, settled, settled_by, noted, paid, new_item, taken_up, all_have_loose_owners}
 use Rattle.sdd_steps.specs.Invariant.{Ageing, AllOwnersCounted, Same, Standing, Facts, Inv, names_of}
 use Rattle.sdd_steps.proofs.ListLemmas.{put, set_all, set_here, set_else, same_at, at_inside, at_get, get_at, at_mapped, at_map, at_longer, has_end}
 use Rattle.sdd_steps.proofs.CountLemmas.{uses_set, uses_some, points_self, points_other, times_some, counted_step, counted_give_up, counted_states, counted_placed, placed_all, paid_at, names_set, names_taken_up, loose_has, has_without}
-use Rattle.sdd_steps.proofs.FactLemmas.{Holding, participant_step, items_step, item_step, same_state, cells_step}
-use Rattle.sdd_steps.proofs.EnabledLemmas.{Inside, Ready, Reclaimable, aged_from, aged_standing, aged_live, aged_noted, left_from, left_standing, left_live, left_noted}
+use Rattle.sdd_steps.proofs.FactLemmas.{Holding, participant_step, items_stand, items_step, item_step, same_state, cells_step}
+use Rattle.sdd_steps.proofs.EnabledLemmas.{Inside, Ready, Reclaimable, aged_from, aged_standing, aged_live, aged_noted, left_from, left_standing, left_live, left_noted, settled_since, settled_live, settled_standing, settled_most, settled_from, settled_noted}
 
 module _ (s : State) (k : AllOwnersCounted (names_of s.cells) s.items) (born since : ℕ → ℕ) (f : Facts s born since) where
   abbrev More : State → Type 0
@@ -39,7 +39,8 @@ module _ (s : State) (k : AllOwnersCounted (names_of s.cells) s.items) (born sin
         record { past = g.past; reading = λ e h. let k : s.count ≡ e = cc in (omega arith, omega arith); inside = λ e h. absurd (cc); again = λ e n h. absurd (cc) }
         (λ e h. absurd (cc)) (λ r y e h. absurd (cc))
         (λ i it a at_i h. let o = f.ageing i it p a x at_i h at in let d = f.dated i in record { behind = o.behind; young = o.young; reading = λ e k. let n : s.count ≡ e = cc in omega arith; turning = λ e k. absurd (cc) })
-        (λ e h' h. absurd (cc)),
+        (λ e h' h. absurd (cc))
+        (λ q' h. absurd (cc)) (λ q' y' n' e' l it' a' h has. absurd (f.calm p x q' at is has)) (λ e' l it' h. absurd (cc)),
   )
 
   pub publishes : (p : ℕ) (x : Participant) (e : ℕ) → At s.participants p x → x.phase ≡ HasRead e → More (with_participant s p (record x { phase = Opened e; reread = None; looked = []; loaded = [] }))
@@ -50,7 +51,8 @@ module _ (s : State) (k : AllOwnersCounted (names_of s.cells) s.items) (born sin
         record { past = g.past; reading = λ e' h. absurd (cc); inside = λ e' h. let k : e ≡ e' = cc in (omega arith, omega arith, omega arith, omega arith); again = λ e' n h i. absurd (cc) }
         (λ e' h. inl refl) (λ r y e' h has. absurd has)
         (λ i it a at_i h. let o = f.ageing i it p a x at_i h at in record { behind = o.behind; young = o.young; reading = λ e' k. absurd (cc); turning = λ e' k _. let n : e ≡ e' = cc in let m = o.reading e is in omega arith })
-        (λ e' h' h has. absurd has),
+        (λ e' h' h has. absurd has)
+        (λ q' h. absurd (cc)) (λ q' y' n' e' l it' a' h. absurd (cc)) (λ e' l it' h has. absurd has),
   )
 
   pub closes : (p : ℕ) (x : Participant) → At s.participants p x → More (with_participant s p (record x { phase = Idle; reread = None; looked = []; loaded = [] }))
@@ -61,7 +63,8 @@ module _ (s : State) (k : AllOwnersCounted (names_of s.cells) s.items) (born sin
         record { past = g.past; reading = λ e' h. absurd (cc); inside = λ e' h. absurd (cc); again = λ e' n h. absurd (cc) }
         (λ e' h. absurd (cc)) (λ r y e' h has. absurd has)
         (λ i it a at_i h. let o = f.ageing i it p a x at_i h at in record { behind = o.behind; young = o.young; reading = λ e' k. absurd (cc); turning = λ e' k _. absurd (cc) })
-        (λ e' h' h has. absurd has),
+        (λ e' h' h has. absurd has)
+        (λ q' h has. has) (λ q' y' n' e' l it' a' h. absurd (cc)) (λ e' l it' h. absurd (cc)),
   )
 
   pub loads : (p : ℕ) (x : Participant) (i : ℕ) → At s.participants p x → At s.items i (item_at s i) → (item_at s i).state ≡ Live → More (with_participant s p (record x { loaded = x.loaded ++ loaded_as s.items i ∷ [] }))
@@ -72,11 +75,14 @@ module _ (s : State) (k : AllOwnersCounted (names_of s.cells) s.items) (born sin
         (f.guards p x at) (λ e h. inr (h, refl)) (λ r y e h has other at_r is'. f.looks p x r y e at h has at_r is')
         (λ j z a at_j h. f.ageing j z p a x at_j h at)
         (λ e l h has. ⊎_elim (λ t. f.kept p x e l at h t) (λ (t : new ≡ l). subst (λ (m : Loaded). (z : Item) × At s.items m.item z × Same s.items m z × Standing (born p) (since m.item) z.state) t
-        (item_at s i, at_i, record { value = refl; holds = refl }, subst (Standing (born p) (since i)) (sym is_live) tt)) (has_end x.loaded new l has)),
+        (item_at s i, at_i, record { value = refl; holds = refl }, subst (Standing (born p) (since i)) (sym is_live) tt)) (has_end x.loaded new l has))
+        (λ q h. f.calm p x q at h) (λ q y m e l it a h has _ at_q is_q has_l at_l. f.quiet p q x y m e l it a at h has at_q is_q has_l at_l)
+        (λ e l it h has at_l. ⊎_elim (λ t. inl (h, t)) (λ (t : new ≡ l). let same : item_at s i ≡ it = same_at s.items l.item (item_at s i) it (subst (λ (m : Loaded). At s.items m.item (item_at s i)) t at_i) at_l in
+        inr (λ r a bad. let live : it.state ≡ Live = ap (λ (z : Item). z.state) (sym same) ∙ is_live in cc)) (has_end x.loaded new l has)),
   )
 
-  pub looks_at : (p q : ℕ) (x y : Participant) → At s.participants p x → At s.participants q y → ((e : ℕ) → y.phase ≡ Opened e → e ≡ s.count) → More (with_participant s p (record x { looked = x.looked ++ q ∷ [] }))
-  looks_at p q x y at at_q agrees = (
+  pub looks_at : (p q n : ℕ) (x y : Participant) → At s.participants p x → x.phase ≡ Opened n → At s.participants q y → ((e : ℕ) → y.phase ≡ Opened e → e ≡ s.count) → More (with_participant s p (record x { looked = x.looked ++ q ∷ [] }))
+  looks_at p q n x y at opened at_q agrees = (
     put born p (born p),
     since,
     participant_step s born since f p x (record x { looked = x.looked ++ q ∷ [] }) (born p) at
@@ -84,7 +90,22 @@ module _ (s : State) (k : AllOwnersCounted (names_of s.cells) s.items) (born sin
         (λ r z e h has other at_r is'. ⊎_elim (λ t. f.looks p x r z e at h t at_r is')
         (λ (t : q ≡ r). let same : y ≡ z = same_at s.participants r y z (subst (λ k. At s.participants k y) t at_q) at_r in
         let same_phase : y.phase ≡ z.phase = ap (λ (k : Participant). k.phase) same in let e_is = agrees e (same_phase ∙ is') in let g = (f.guards r z at_r).inside e is' in let g1 = g.1 in omega arith) (has_end x.looked q r has))
-        (λ j z a at_j h. f.ageing j z p a x at_j h at) (λ e l h has. f.kept p x e l at h has),
+        (λ j z a at_j h. f.ageing j z p a x at_j h at) (λ e l h has. f.kept p x e l at h has)
+        (λ r h. let bad : Opened n ≡ Idle = sym opened ∙ h in absurd (cc)) (λ r z m e' l it a h. let bad : Opened n ≡ HasRead m = sym opened ∙ h in absurd (cc)) (λ e' l it h has _. inl (h, has)),
+  )
+
+  -- before its guard is open it looks at another one that has none
+  pub looks_shut : (p q e : ℕ) (x y : Participant) → At s.participants p x → x.phase ≡ HasRead e → At s.participants q y → ((n : ℕ) → y.phase ≢ Opened n) → More (with_participant s p (record x { looked = x.looked ++ q ∷ [] }))
+  looks_shut p q e x y at is at_q shut = (
+    put born p (born p),
+    since,
+    participant_step s born since f p x (record x { looked = x.looked ++ q ∷ [] }) (born p) at
+        (f.guards p x at) (λ e' h. absurd (cc)) (λ r z e' h. absurd (cc))
+        (λ j z a at_j h. f.ageing j z p a x at_j h at) (λ e' l h. absurd (cc))
+        (λ r h. absurd (cc))
+        (λ r z n e' l it a h has _ at_r is_r has_l at_l. ⊎_elim (λ t. f.quiet p r x z n e' l it a at h t at_r is_r has_l at_l)
+        (λ (t : q ≡ r). let same : y ≡ z = same_at s.participants r y z (subst (λ k. At s.participants k y) t at_q) at_r in absurd (shut e' (ap (λ (k : Participant). k.phase) same ∙ is_r))) (has_end x.looked q r has))
+        (λ e' l it h. absurd (cc)),
   )
 
   pub rereads : (p : ℕ) (x : Participant) → At s.participants p x → More (with_participant s p (record x { reread = Some s.count }))
@@ -94,7 +115,8 @@ module _ (s : State) (k : AllOwnersCounted (names_of s.cells) s.items) (born sin
     participant_step s born since f p x (record x { reread = Some s.count }) (born p) at
         record { past = g.past; reading = g.reading; inside = g.inside; again = λ e n h i. let j : s.count ≡ n = cc in let b = (g.inside e h).2 in (omega arith, omega arith) }
         (λ e h. inr (h, refl)) (λ r y e h has other at_r is'. f.looks p x r y e at h has at_r is')
-        (λ j z a at_j h. f.ageing j z p a x at_j h at) (λ e l h has. f.kept p x e l at h has),
+        (λ j z a at_j h. f.ageing j z p a x at_j h at) (λ e l h has. f.kept p x e l at h has)
+        (λ q h. f.calm p x q at h) (λ q y m e l it a h has _ at_q is_q has_l at_l. f.quiet p q x y m e l it a at h has at_q is_q has_l at_l) (λ e l it h has _. inl (h, has)),
   )
 
   pub rotates : (p : ℕ) (x : Participant) (e : ℕ) → At s.participants p x → x.phase ≡ Opened e → e ≢ x.found → Inv (record s { participants = set s.participants p (record x { found = e }); items = map (older p) s.items })
@@ -103,7 +125,8 @@ module _ (s : State) (k : AllOwnersCounted (names_of s.cells) s.items) (born sin
       record { past = omega arith; reading = λ e' h. absurd (cc); inside = λ e' h. let k : e ≡ e' = cc in let h' = g.inside e' h in (omega arith, h'.1, h'.2, h'.3); again = g.again }
       (λ e' h. inr (h, refl)) (λ r y e' h has other at_r is'. f.looks p x r y e' at h has at_r is')
       (λ i it a at_i h. let o = f.ageing i it p a x at_i h at in let b = o.behind in let y = o.young in record { behind = λ k. let m = b k in omega arith; young = omega arith; reading = o.reading; turning = λ e' h' n. let k : e ≡ e' = cc in absurd (n (sym k)) })
-      (λ e' l h has. f.kept p x e' l at h has) in (
+      (λ e' l h has. f.kept p x e' l at h has)
+      (λ q h. f.calm p x q at h) (λ q y m e' l it a h has _ at_q is_q has_l at_l. f.quiet p q x y m e' l it a at h has at_q is_q has_l at_l) (λ e' l it h has _. inl (h, has)) in (
         counted_states (aged p) s.items (names_of s.cells) refl (aged_live p) k,
         (
           put born p (born p),
@@ -123,7 +146,8 @@ module _ (s : State) (k : AllOwnersCounted (names_of s.cells) s.items) (born sin
                 turning = λ e' h d. let k : e ≡ e' = cc in absurd (d (sym k));
               }))
               (λ (m : (r ≢ p) × (a ≡ b.0)). f.ageing i z r a y t.1 (b.1 ∙ ap (λ k. Retired r k) (sym m.1)) (sym (set_else s.participants p r x' m.0) ∙ at_r)) b.2)
-              (λ i it n at_i is_n. let t = at_mapped (older p) s.items i it at_i in f.noted i t.0 n t.1 (aged_noted p t.0.state n (ap (λ (k : Item). k.state) t.2 ∙ is_n))),
+              (λ i it n at_i is_n. let t = at_mapped (older p) s.items i it at_i in f.noted i t.0 n t.1 (aged_noted p t.0.state n (ap (λ (k : Item). k.state) t.2 ∙ is_n)))
+              (λ i it r a m y at_i is_r at_r reads. let t = at_mapped (older p) s.items i it at_i in let b = aged_from p t.0.state r a (ap (λ (k : Item). k.state) t.2 ∙ is_r) in (t.0, b.0, t.1, b.1)),
         ),
       )
 
@@ -133,7 +157,8 @@ module _ (s : State) (k : AllOwnersCounted (names_of s.cells) s.items) (born sin
       (λ i it at_i. (left_by p it, at_map (left_by p) s.items i it at_i, record { value = refl; holds = λ _ _. refl; stands = λ b _ _ st. left_standing p b (since i) it.state st }))
       f.dated
       (λ i it r a y at_i is_r at_r. let t = at_mapped (left_by p) s.items i it at_i in let was = left_from p t.0.state r a (ap (λ (k : Item). k.state) t.2 ∙ is_r) in f.ageing i t.0 r a y t.1 was.1 at_r)
-      (λ i it n at_i is_n. let t = at_mapped (left_by p) s.items i it at_i in f.noted i t.0 n t.1 (left_noted p t.0.state n (ap (λ (k : Item). k.state) t.2 ∙ is_n))) in (
+      (λ i it n at_i is_n. let t = at_mapped (left_by p) s.items i it at_i in f.noted i t.0 n t.1 (left_noted p t.0.state n (ap (λ (k : Item). k.state) t.2 ∙ is_n)))
+      (λ i it r a m y at_i is_r at_r reads. let t = at_mapped (left_by p) s.items i it at_i in let was = left_from p t.0.state r a (ap (λ (k : Item). k.state) t.2 ∙ is_r) in (t.0, a, t.1, was.1)) in (
         counted_states (left p) s.items (names_of s.cells) refl (left_live p) k,
         (
           put born p (born p),
@@ -142,7 +167,44 @@ module _ (s : State) (k : AllOwnersCounted (names_of s.cells) s.items) (born sin
               record { past = omega arith; reading = λ e h. absurd (cc); inside = λ e h. absurd (cc); again = λ e n h. absurd (cc) }
               (λ e h. inr (h, refl)) (λ r y e h has other at_r is'. f.looks p x r y e at h has at_r is')
               (λ i it a at_i h. let t = at_mapped (left_by p) s.items i it at_i in let was = left_from p t.0.state p a (ap (λ (k : Item). k.state) t.2 ∙ h) in absurd (was.0 refl))
-              (λ e l h. absurd (cc)),
+              (λ e l h. absurd (cc))
+              (λ q h. f1.calm p x q at h) (λ q y m e l it a h has _ at_q is_q has_l at_l. f1.quiet p q x y m e l it a at h has at_q is_q has_l at_l) (λ e l it h has _. inl (h, has)),
+        ),
+      )
+
+  -- what p retired has age 3 from now on: nobody who was looked at has loaded any of it, and all others were
+  pub settles : (p e : ℕ) (x : Participant) → At s.participants p x → x.phase ≡ HasRead e → 3 ≤ e → ((q : ℕ) → q < length s.participants → q ≢ p → Has x.looked q) → Inv (record s { participants = set s.participants p (record x { found = e }); items = map (settled_by p) s.items })
+  settles p e x at is three all = let x' : Participant = record x { found = e } in let g = f.guards p x at in let r = g.reading e is in let r0 = r.0 in let r1 = r.1 in
+      let since' : ℕ → ℕ = (λ i. settled_since p e (item_at s i).state (since i)) in
+      let of : (i : ℕ) (it : Item) → At s.items i it → since' i ≡ settled_since p e it.state (since i) = (λ i it here. ap (λ (z : Item). settled_since p e z.state (since i)) (get_at s.items i no_item it here)) in
+      let f1 = participant_step s born since f p x x' (born p) at
+      record { past = omega arith; reading = λ e' h. let k : HasRead e ≡ HasRead e' = sym is ∙ h in let m : e ≡ e' = cc in (omega arith, omega arith); inside = λ e' h. let bad : HasRead e ≡ Opened e' = sym is ∙ h in absurd (cc); again = λ e' n h. let bad : HasRead e ≡ Opened e' = sym is ∙ h in absurd (cc) }
+      (λ e' h. inr (h, refl)) (λ q y e' h has other at_q is_q. f.looks p x q y e' at h has at_q is_q)
+      (λ i it a at_i h. let o = f.ageing i it p a x at_i h at in let b = o.behind in let y = o.young in record { behind = λ k. let m = b k in omega arith; young = omega arith; reading = o.reading; turning = λ e' h' n. let bad : HasRead e ≡ Opened e' = sym is ∙ h' in absurd (cc) })
+      (λ e' l h has. f.kept p x e' l at h has)
+      (λ q h. f.calm p x q at h) (λ q y m e' l it a h has _ at_q is_q has_l at_l. f.quiet p q x y m e' l it a at h has at_q is_q has_l at_l) (λ e' l it h has _. inl (h, has)) in (
+        counted_states (settled p) s.items (names_of s.cells) refl (settled_live p) k,
+        (
+          put born p (born p),
+          since',
+          items_stand (with_participant s p x') (put born p (born p)) since since' k.holding f1 (map (settled_by p) s.items) s.cells
+              (λ i it at_i. (settled_by p it, at_map (settled_by p) s.items i it at_i, refl))
+              (λ q y e' l it it' at_q is_q has at_l at_l' st. let same : settled_by p it ≡ it' = same_at (map (settled_by p) s.items) l.item (settled_by p it) it' (at_map (settled_by p) s.items l.item it at_l) at_l' in
+              let mine : (a : ℕ) → it.state ≢ Retired p a = (λ a. set_all (λ q' y'. y'.phase ≡ Opened e' → Has y'.loaded l → it.state ≢ Retired p a) s.participants p x'
+              (λ h _. let bad : HasRead e ≡ Opened e' = sym is ∙ h in absurd (cc))
+              (λ q' y' other here h has'. f.quiet p q' x y' e e' l it a at is (all q' (at_inside s.participants q' y' here) other) here h has' at_l) q y at_q is_q has) in
+              (ap (λ (z : Item). z.holds) (sym same), subst (λ (z : Item). Standing (put born p (born p) q) (since' l.item) z.state) same (subst (λ n. Standing (put born p (born p) q) n (settled p it.state)) (sym (of l.item it at_l)) (settled_standing p (put born p (born p) q) e (since l.item) it.state mine st))))
+              (λ i. settled_most p e s.count (item_at s i).state (since i) r1 (f.dated i))
+              (λ i it q a y at_i is_q at_q. let t = at_mapped (settled_by p) s.items i it at_i in let z = t.0 in let was : settled p z.state ≡ Retired q a = ap (λ (k : Item). k.state) t.2 ∙ is_q in let b = settled_from p e (since i) z.state q a was in
+              subst (λ n. Ageing n a y.found y.phase) (sym (of i z t.1)) (⊎_elim
+              (λ (m : (q ≡ p) × (a ≡ 3) × (settled_since p e z.state (since i) ≡ e - 2)). let y_is : x' ≡ y = same_at (set s.participants p x') p x' y (set_here s.participants p x' x at) (subst (λ k. At (set s.participants p x') k y) m.0 at_q) in
+              let m1 = m.1 in subst (λ n. Ageing n a y.found y.phase) (sym m.2) (subst (λ (k : Participant). Ageing (e - 2) a k.found k.phase) y_is
+              (record { behind = λ _. omega arith; young = omega arith; reading = λ e' h. let k : HasRead e ≡ HasRead e' = sym is ∙ h in let n : e ≡ e' = cc in omega arith; turning = λ e' h _. let bad : HasRead e ≡ Opened e' = sym is ∙ h in absurd (cc) })))
+              (λ (m : (q ≢ p) × (a ≡ b.0) × (settled_since p e z.state (since i) ≡ since i)). subst (λ n. Ageing n a y.found y.phase) (sym m.2)
+              (f.ageing i z q a y t.1 (b.1 ∙ ap (λ k. Retired q k) (sym m.1)) (sym (set_else s.participants p q x' m.0) ∙ at_q))) b.2))
+              (λ i it n at_i is_n. let t = at_mapped (settled_by p) s.items i it at_i in let was = settled_noted p t.0.state n (ap (λ (k : Item). k.state) t.2 ∙ is_n) in
+              let low = f.noted i t.0 n t.1 was in (subst (λ m. m ≤ n + 1) (sym (of i t.0 t.1 ∙ ap (λ z. settled_since p e z (since i)) was)) low.0, low.1))
+              (λ i it q a m y at_i is_q at_q reads. let t = at_mapped (settled_by p) s.items i it at_i in let b = settled_from p e (since i) t.0.state q a (ap (λ (k : Item). k.state) t.2 ∙ is_q) in (t.0, b.0, t.1, b.1)),
         ),
       )
 
@@ -165,6 +227,8 @@ module _ (s : State) (k : AllOwnersCounted (names_of s.cells) s.items) (born sin
       ageing = f.ageing;
       noted = λ i it m at_i is_m. let t = f.noted i it m at_i is_m in let low = t.1 in (t.0, omega arith);
       kept = f.kept;
+      calm = f.calm;
+      quiet = f.quiet;
     },
   )
 
@@ -172,10 +236,11 @@ module _ (s : State) (k : AllOwnersCounted (names_of s.cells) s.items) (born sin
   becomes : (i : ℕ) (it : Item) (state' : ItemState) → At s.items i it → it.state ≢ Live → state' ≢ Live → ((b : ℕ) → b ≤ s.count → s.count ≤ b + 1 → Standing b (since i) it.state → Standing b s.count state')
       → ((r a : ℕ) (y : Participant) → state' ≡ Retired r a → At s.participants r y → Ageing s.count a y.found y.phase)
       → ((m : ℕ) → state' ≡ Collected m → (s.count ≤ m + 1) × (m ≤ s.count))
+      → ((q a m : ℕ) (y : Participant) → state' ≡ Retired q a → At s.participants q y → y.phase ≢ HasRead m)
       → Inv (with_item s i (record it { state = state' }))
-  becomes i it state' at dead dead' stands ageing noted = let w = k.owned i it at in (
+  becomes i it state' at dead dead' stands ageing noted fresh = let w = k.owned i it at in (
     counted_step (names_of s.cells) (names_of s.cells) s.items k i it (record it { state = state' }) at refl (λ j other. refl) (w.counted, (λ e. absurd (dead' e)), (λ more. absurd (dead (w.is_live more))), w.limit) k.named,
-    (born, put since i s.count, item_step s born since k.holding f i it (record it { state = state' }) s.cells s.count at (record { value = refl; holds = λ _ _. refl; stands = stands }) (omega arith) ageing noted),
+    (born, put since i s.count, item_step s born since k.holding f i it (record it { state = state' }) s.cells s.count at (record { value = refl; holds = λ _ _. refl; stands = stands }) (omega arith) ageing noted (λ q a m y is at_q reads. absurd (fresh q a m y is at_q reads))),
   )
 
   pub retires : (p i : ℕ) (x : Participant) (it : Item) → At s.participants p x → Ready x → At s.items i it → it.state ≢ Live → Inv (with_item s i (record it { state = Retired p 0 }))
@@ -189,10 +254,12 @@ module _ (s : State) (k : AllOwnersCounted (names_of s.cells) s.items) (born sin
         turning = λ e' h n. absurd (⊎_elim (λ (t : x.phase ≡ Idle). let bad : Idle ≡ Opened e' = sym t ∙ h in cc) (λ (t : (d : ℕ) × Inside x d). let same_e : Opened t.0 ≡ Opened e' = sym t.1.0 ∙ h in let m : t.0 ≡ e' = cc in n (sym m ∙ t.1.1)) ready);
       }))
       (λ m e. absurd (cc))
+      (λ q a m y e at_q reads. let q_is : p ≡ q = cc in let same : x ≡ y = same_at s.participants q x y (subst (λ n. At s.participants n x) q_is at) at_q in let mine : x.phase ≡ HasRead m = ap (λ (z : Participant). z.phase) same ∙ reads in
+      ⊎_elim (λ (t : x.phase ≡ Idle). let bad : Idle ≡ HasRead m = sym t ∙ mine in cc) (λ (t : (d : ℕ) × Inside x d). let bad : Opened t.0 ≡ HasRead m = sym t.1.0 ∙ mine in cc) ready)
 
   pub collects : (p i : ℕ) (x : Participant) (it : Item) (e n : ℕ) → At s.participants p x → Inside x e → x.reread ≡ Some n → At s.items i it → it.state ≢ Live → Inv (with_item s i (record it { state = noted x.reread }))
   collects p i x it e n at is again at_i dead = let g = f.guards p x at in let a = g.again e n is.0 again in let late = (g.inside e is.0).3 in let a0 = a.0 in
-      subst (λ o. Inv (with_item s i (record it { state = noted o }))) (sym again) (becomes i it (Collected n) at_i dead (λ e. cc) (λ b less _ _. less) (λ r a y e at_r. absurd (cc)) (λ m e. let j : n ≡ m = cc in let a1 = a.1 in (omega arith, omega arith)))
+      subst (λ o. Inv (with_item s i (record it { state = noted o }))) (sym again) (becomes i it (Collected n) at_i dead (λ e. cc) (λ b less _ _. less) (λ r a y e at_r. absurd (cc)) (λ m e. let j : n ≡ m = cc in let a1 = a.1 in (omega arith, omega arith)) (λ q a m y e. absurd (cc)))
 
   pub reclaims : (p i : ℕ) (x : Participant) (it : Item) → At s.participants p x → At s.items i it → Reclaimable p x it.state → Inv (with_item s i (record it { state = Reclaimed p }))
   reclaims p i x it at at_i reclaimable = becomes i it (Reclaimed p) at_i
@@ -202,7 +269,7 @@ module _ (s : State) (k : AllOwnersCounted (names_of s.cells) s.items) (born sin
       (λ (t : it.state ≡ Retired p 3). let o = f.ageing i it p 3 x at_i t at in let behind = o.behind (omega arith) in let past = (f.guards p x at).past in let standing : b ≤ since i = subst (Standing b (since i)) t st in absurd (omega arith))
       (λ (t : (n m : ℕ) × (it.state ≡ Collected n) × Inside x (count_of x.phase) × (x.reread ≡ Some m) × (n + 3 ≤ m)). let note = (f.noted i it t.0 at_i t.2).0 in let a = (f.guards p x at).again (count_of x.phase) t.1 t.3.0 t.4 in let a1 = a.1 in
       let above = t.5 in let standing : b ≤ since i = subst (Standing b (since i)) t.2 st in absurd (omega arith)) reclaimable)
-      (λ r a y e at_r. absurd (cc)) (λ m e. absurd (cc))
+      (λ r a y e at_r. absurd (cc)) (λ m e. absurd (cc)) (λ q a m y e. absurd (cc))
 
   pub adds_owner : (i : ℕ) (it : Item) → At s.items i it → it.state ≡ Live → it.owners < 2 ^ 32 - 1 → Inv (with_item s i (record it { hand = it.hand + 1; owners = it.owners + 1 }))
   adds_owner i it at_i is room = let it' : Item = record it { hand = it.hand + 1; owners = it.owners + 1 } in let w = k.owned i it at_i in let n = w.counted in (
@@ -215,7 +282,7 @@ module _ (s : State) (k : AllOwnersCounted (names_of s.cells) s.items) (born sin
       let made : ItemState → Item = (λ z. record it { hand = it.hand - 1; owners = it.owners - 1; state = z }) in dite (ℕ_discrete n 0)
       (λ e. subst (λ b. Inv (with_item s i (made (cond b (Due p) it.state)))) (sym (eq-eqb n 0 e)) (
         counted_step (names_of s.cells) (names_of s.cells) s.items k i it (made (Due p)) at_i refl (λ j other. refl) (omega arith, (λ e. absurd (cc)), (λ more. absurd (omega arith)), omega arith) k.named,
-        (born, put since i (since i), item_step s born since k.holding f i it (made (Due p)) s.cells (since i) at_i (record { value = refl; holds = λ _ _. refl; stands = λ _ _ _ _. tt }) (f.dated i) (λ r a y e. absurd (cc)) (λ m e. absurd (cc))),
+        (born, put since i (since i), item_step s born since k.holding f i it (made (Due p)) s.cells (since i) at_i (record { value = refl; holds = λ _ _. refl; stands = λ _ _ _ _. tt }) (f.dated i) (λ r a y e. absurd (cc)) (λ m e. absurd (cc)) (λ q a m y e. absurd (cc))),
       ))
       (λ d. subst (λ b. Inv (with_item s i (made (cond b (Due p) it.state)))) (sym (ne_eqb n 0 d)) (
         counted_step (names_of s.cells) (names_of s.cells) s.items k i it (made it.state) at_i refl (λ j other. refl) (omega arith, (λ _. omega arith), (λ _. is), omega arith) k.named,
@@ -258,7 +325,8 @@ module _ (s : State) (k : AllOwnersCounted (names_of s.cells) s.items) (born sin
           (λ m it at. (record it { hand = it.hand - times m hs }, at_longer (paid hs s.items) (new_item v hs ∷ []) m (record it { hand = it.hand - times m hs }) (paid_at hs s.items m it at), record { value = refl; holds = λ _ _. refl; stands = λ _ _ _ st. st }))
           f.dated
           (λ j z r a y here is at_r. placed_all v hs s.items (λ j' z'. z'.state ≡ Retired r a → Ageing (since j') a y.found y.phase) (λ e. absurd (cc)) (λ j' it at' e. f.ageing j' it r a y at' e at_r) j z here is)
-          (λ j z m here is. placed_all v hs s.items (λ j' z'. z'.state ≡ Collected m → (since j' ≤ m + 1) × (m ≤ s.count)) (λ e. absurd (cc)) (λ j' it at' e. f.noted j' it m at' e) j z here is),
+          (λ j z m here is. placed_all v hs s.items (λ j' z'. z'.state ≡ Collected m → (since j' ≤ m + 1) × (m ≤ s.count)) (λ e. absurd (cc)) (λ j' it at' e. f.noted j' it m at' e) j z here is)
+          (λ j z q a m y here is at_q reads. placed_all v hs s.items (λ j' z'. z'.state ≡ Retired q a → (w : Item) × (c : ℕ) × At s.items j' w × (w.state ≡ Retired q c)) (λ e. absurd (cc)) (λ j' it at' e. (it, a, at', e)) j z here is),
     ),
   )
 

@@ -1,7 +1,7 @@
 -- what every state keeps that steps leave, and the promise that follows from it
 use Rattle.std.specs.Prelude.{◌≡◌, ◌≢◌, ℕ, ◌+◌, ◌-◌, ◌^◌, ◌<◌, ◌≤◌, List, [], ◌∷◌, length, map, Option, None, Some}
 use Rattle.sdd_steps.specs.declared.participant.Phase.{Phase}
-use Rattle.sdd_steps.specs.declared.participant.Phase.TheVariants.{HasRead, Opened}
+use Rattle.sdd_steps.specs.declared.participant.Phase.TheVariants.{Idle, HasRead, Opened}
 use Rattle.sdd_steps.specs.declared.item.ItemState.{ItemState}
 use Rattle.sdd_steps.specs.declared.item.ItemState.TheVariants.{Live, Due, Retired, Collected, Waiting, Reclaimed}
 use Rattle.sdd_steps.specs.declared.participant.Seen.{Seen}
@@ -77,6 +77,8 @@ pub record Facts (s : State) (born since : ℕ → ℕ) : Type 0 where
   pub ageing : (i : ℕ) (it : Item) (r a : ℕ) (x : Participant) → At s.items i it → it.state ≡ Retired r a → At s.participants r x → Ageing (since i) a x.found x.phase
   pub noted : (i : ℕ) (it : Item) (n : ℕ) → At s.items i it → it.state ≡ Collected n → (since i ≤ n + 1) × (n ≤ s.count)
   pub kept : (p : ℕ) (x : Participant) (e : ℕ) (h : Loaded) → At s.participants p x → x.phase ≡ Opened e → Has x.loaded h → (it : Item) × At s.items h.item it × Same s.items h it × Standing (born p) (since h.item) it.state
+  pub calm : (p : ℕ) (x : Participant) (q : ℕ) → At s.participants p x → x.phase ≡ Idle → ¬ Has x.looked q
+  pub quiet : (p q : ℕ) (x y : Participant) (n e : ℕ) (h : Loaded) (it : Item) (a : ℕ) → At s.participants p x → x.phase ≡ HasRead n → Has x.looked q → At s.participants q y → y.phase ≡ Opened e → Has y.loaded h → At s.items h.item it → it.state ≢ Retired p a
 
 -- The invariant: owners are counted, and counts can be told for publications and retirements that meet the rest
 abbrev pub Inv : State → Type 0

@@ -10,7 +10,7 @@ use Rattle.sdd_steps.specs.declared.participant.Participant.{Participant}
 use Rattle.sdd_steps.specs.declared.item.Item.{Item}
 use Rattle.sdd_steps.specs.declared.item.Cell.{Cell}
 use Rattle.sdd_steps.specs.declared.step.Step.{Step}
-use Rattle.sdd_steps.specs.declared.step.Step.TheVariants.{ReadEpoch, Publish, Rotate, LoadCell, LoadInHand, ReadSegment, SwapCell, Release, Retire, Collect, Look, Raise, Reclaim, GiveUp, GiveUpCell, Close, Place, RaiseOwners, Reread, End, TakeOver}
+use Rattle.sdd_steps.specs.declared.step.Step.TheVariants.{ReadEpoch, Publish, Rotate, LoadCell, LoadInHand, ReadSegment, SwapCell, Release, Retire, Collect, Look, Raise, Reclaim, GiveUp, GiveUpCell, Close, Place, RaiseOwners, Reread, End, TakeOver, LookShut, Settle}
 use Rattle.sdd_steps.specs.State.{State, participant_at, cell_at, item_at, participant_is, cell_is, item_is, with_participant, with_cell, with_item, has, times, without, no_item, empty_cell}
 
 -- phases: without a guard; the count was read and not published; a guard is open
@@ -56,6 +56,10 @@ is_ready x = is_idle x || is_inside x
 -- closed, or open with the present count
 abbrev pub agrees : ℕ → Participant → Bool
 agrees count x = not (is_opened_phase x.phase) || (count_of x.phase == count)
+
+-- no guard of it is open
+abbrev pub is_shut : Participant → Bool
+is_shut x = not (is_opened_phase x.phase)
 
 -- each number below n is p or was looked at
 abbrev pub all_looked : ℕ → List ℕ → ℕ → Bool
@@ -186,6 +190,8 @@ enabled s (RaiseOwners p i) = participant_is is_ready s p && item_is (λ it. is_
 enabled s (Reread p) = participant_is is_inside s p
 enabled s (End p) = participant_is is_idle s p && none_due p s.items
 enabled s (TakeOver p i) = participant_is is_ready s p && item_is (λ it. is_left it.state) s i
+enabled s (LookShut p q) = participant_is is_reading s p && not (q == p) && participant_is is_shut s q
+enabled s (Settle p) = participant_is (λ x. is_reading x && nat_le 3 (count_of x.phase) && all_looked p x.looked (length s.participants)) s p
 
 -- the item that a cell names
 abbrev pub named : Option ℕ → ℕ
@@ -241,11 +247,23 @@ left p (Collected n) = Collected n
 left p Waiting = Waiting
 left p (Reclaimed r) = Reclaimed r
 
+-- items retired by p have age 3
+abbrev pub settled : ℕ → ItemState → ItemState
+settled p Live = Live
+settled p (Due r) = Due r
+settled p (Retired r a) = Retired r (cond (r == p) 3 a)
+settled p (Collected n) = Collected n
+settled p Waiting = Waiting
+settled p (Reclaimed r) = Reclaimed r
+
 abbrev pub older : ℕ → Item → Item
 older p it = record it { state = aged p it.state }
 
 abbrev pub left_by : ℕ → Item → Item
 left_by p it = record it { state = left p it.state }
+
+abbrev pub settled_by : ℕ → Item → Item
+settled_by p it = record it { state = settled p it.state }
 
 -- the empty cells of item i stand by themselves
 abbrev pub is_held_by : ℕ → Option ℕ → Bool
@@ -296,6 +314,8 @@ after s (RaiseOwners p i) = with_item s i (record (item_at s i) { hand = (item_a
 after s (Reread p) = with_participant s p (record (participant_at s p) { reread = Some s.count })
 after s (End p) = record s { participants = set s.participants p (record (participant_at s p) { found = 0 }); items = map (left_by p) s.items }
 after s (TakeOver p i) = with_state s i (Retired p 0)
+after s (LookShut p q) = with_participant s p (record (participant_at s p) { looked = (participant_at s p).looked ++ q ∷ [] })
+after s (Settle p) = record s { participants = set s.participants p (record (participant_at s p) { found = count_of (participant_at s p).phase }); items = map (settled_by p) s.items }
 
 -- the step a leads from s to t
 abbrev pub Steps : State → Step → State → Type 0

@@ -472,7 +472,7 @@ impl Snapshot {
                 self.set_state(alloc, i, ItemState::Retired(p, 0))
             }
             Step::Collect(p, i) => self.collect(alloc, p, i),
-            Step::Look(p, q) => self.look(alloc, p, q),
+            Step::Look(p, q) | Step::LookShut(p, q) => self.look(alloc, p, q),
             Step::Raise(_) => {
                 self.raise();
                 Ok(())
@@ -487,6 +487,7 @@ impl Snapshot {
             Step::RaiseOwners(p, i) => self.raise_owners(alloc, p, i),
             Step::Reread(p) => self.reread(alloc, p),
             Step::End(p) => self.end(alloc, p),
+            Step::Settle(p) => self.settle(alloc, p),
         }
     }
 }

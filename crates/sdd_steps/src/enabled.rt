@@ -1,8 +1,8 @@
 //! Where a step is enabled.
 
-ghost use Rattle.std.specs.Prelude.{◌≡◌, ◌<◌, ◌||◌, ◌&&◌, ◌==◌, ◌^◌, ◌-◌, nat_lt, not, is_some, length};
+ghost use Rattle.std.specs.Prelude.{◌≡◌, ◌<◌, ◌||◌, ◌&&◌, ◌==◌, ◌^◌, ◌-◌, nat_le, nat_lt, not, is_some, length};
 ghost use Rattle.sdd_steps.specs.State.{participant_is, cell_is, item_is, participant_at, has, times};
-ghost use Rattle.sdd_steps.specs.Steps.{is_idle_phase, is_reading_phase, is_opened_phase, count_of, is_idle, is_reading, is_turning, is_inside, is_ready, is_full, is_live, is_due, is_reclaimed, is_left, is_past, is_reclaimable, has_loose_owner, is_offered, is_reachable, is_within, stands_alone, holder_is, agrees, all_looked, all_have_loose_owners, all_alone, none_due, was_loaded, was_held, segment_loaded, enabled};
+ghost use Rattle.sdd_steps.specs.Steps.{is_idle_phase, is_reading_phase, is_opened_phase, count_of, is_idle, is_reading, is_turning, is_inside, is_ready, is_shut, is_full, is_live, is_due, is_reclaimed, is_left, is_past, is_reclaimable, has_loose_owner, is_offered, is_reachable, is_within, stands_alone, holder_is, agrees, all_looked, all_have_loose_owners, all_alone, none_due, was_loaded, was_held, segment_loaded, enabled};
 ghost use Rattle.sdd_steps.specs.Snapshots.{snapshot_state};
 
 use crate::item::{Cell, Item, ItemState};
@@ -292,6 +292,23 @@ impl Snapshot {
         q < self.participants.len() && self.participant(q).agrees(self.count)
     }
 
+    fn is_shut(&self, q: usize) -> bool
+        ensures { result ≡ participant_is is_shut (snapshot_state self.now) q }
+    {
+        q < self.participants.len() && !self.participant(q).phase.is_opened()
+    }
+
+    // The participant has read a count of 3 at least, and has looked at all others since.
+    fn may_settle(&self, p: usize) -> bool
+        ensures { result ≡ participant_is (λ x. is_reading x && nat_le 3 (count_of x.phase) && all_looked p x.looked (length self.now.participants.items)) (snapshot_state self.now) p }
+    {
+        if !self.is_reading(p) {
+            return false;
+        }
+        let x = self.participant(p);
+        x.phase.count() >= 3 && all_looked(p, x.looked.as_slice(), self.participants.len())
+    }
+
     fn has_reread(&self, p: usize) -> bool
         ensures { result ≡ participant_is (λ x. is_inside x && is_some x.reread) (snapshot_state self.now) p }
     {
@@ -447,6 +464,8 @@ impl Snapshot {
             Step::Reread(p) => self.is_inside(*p),
             Step::End(p) => self.is_idle(*p) && none_due(*p, &self.items),
             Step::TakeOver(p, i) => self.is_ready(*p) && self.is_left(*i),
+            Step::LookShut(p, q) => self.is_reading(*p) && q != p && self.is_shut(*q),
+            Step::Settle(p) => self.may_settle(*p),
         }
     }
 }

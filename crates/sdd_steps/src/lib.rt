@@ -12,6 +12,7 @@ mod item;
 pub mod laws;
 mod participant;
 mod seq;
+mod settling;
 mod snapshot;
 mod state;
 mod step;

@@ -36,7 +36,7 @@ pub struct Participant {
     pub found: u64,
     /// The count that it last read again under its open guard.
     pub reread: Option<u64>,
-    /// Whom it has looked at under its open guard.
+    /// Whom it has looked at under its open guard, or since it read the count.
     pub looked: Seq<usize>,
     /// What it has loaded under its open guard.
     pub loaded: Seq<Loaded>,

@@ -54,4 +54,9 @@ pub enum Step {
     End(usize),
     /// The item, which waits or is in a private bag, is retired by the participant with age 0.
     TakeOver(usize, usize),
+    /// Between its reading of the count and its publication the participant notes that the second one has no guard open.
+    LookShut(usize, usize),
+    /// It noted this of all others, and has read a count of 3 at least: what it retired has age 3, and the count that it
+    /// read is the one found.
+    Settle(usize),
 }

@@ -32,6 +32,8 @@ pub(crate) enum Move {
     Reread(usize),
     End(usize),
     TakeOver(usize, usize),
+    LookShut(usize, usize),
+    Settle(usize),
 }
 
 fn listed(alloc: Global, number: Option<usize>) -> Result<Seq<usize>, AllocError> {
@@ -84,6 +86,8 @@ pub(crate) fn step(alloc: Global, one: Move) -> Result<Step, AllocError> {
         Move::Reread(p) => Ok(Step::Reread(p)),
         Move::End(p) => Ok(Step::End(p)),
         Move::TakeOver(p, i) => Ok(Step::TakeOver(p, i)),
+        Move::LookShut(p, q) => Ok(Step::LookShut(p, q)),
+        Move::Settle(p) => Ok(Step::Settle(p)),
     }
 }
 

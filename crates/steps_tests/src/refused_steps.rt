@@ -99,6 +99,8 @@ const STEPS: &[(Move, [bool; 5])] = &[
     (Move::Reread(0), UNDER),
     (Move::TakeOver(0, 5), FREE),
     (Move::End(0), [false, false, false, false, false]),
+    (Move::LookShut(0, 1), [false, true, false, false, false]),
+    (Move::Settle(0), [false, false, false, false, false]),
 ];
 
 // Whether steps are enabled and refused in a phase as a table says.
@@ -457,7 +459,7 @@ fn any_move(dice: &mut Dice, items: usize) -> Move {
     let c = dice.number(3);
     let value = dice.below(100);
     let some = if value % 2 == 0 { Some(i) } else { None };
-    match dice.below(26) {
+    match dice.below(28) {
         0 => Move::ReadEpoch(p),
         1 => Move::Publish(p),
         2 => Move::Rotate(p),
@@ -480,7 +482,9 @@ fn any_move(dice: &mut Dice, items: usize) -> Move {
         22 => Move::RaiseOwners(p, i),
         23 => Move::Reread(p),
         24 => Move::End(p),
-        _ => Move::TakeOver(p, i),
+        25 => Move::TakeOver(p, i),
+        26 => Move::LookShut(p, q),
+        _ => Move::Settle(p),
     }
 }
 

@@ -1,6 +1,6 @@
 //! Two schedules of a reader and a writer, as lists of steps, with what is left after each list.
 
-use crate::common::{Move, refuses, takes};
+use crate::common::{Move, Row, plays, refuses, takes};
 use sdd_steps::{ItemState, State};
 use std::alloc::Global;
 use std::process::Abort;
@@ -230,4 +230,60 @@ fn a_reader_that_published_the_present_count_keeps_its_version(rt: HostRuntime) 
     }
     assert!(rt; state.count() == 14);
     assert!(rt; left(&state) == [false, false, true, true]);
+}
+
+// Three guards that raise the count.
+const THREE_RAISES: &[Move] = &[
+    Move::ReadEpoch(0),
+    Move::Publish(0),
+    Move::Look(0, 1),
+    Move::Raise(0),
+    Move::Close(0),
+    Move::ReadEpoch(0),
+    Move::Publish(0),
+    Move::Rotate(0),
+    Move::Look(0, 1),
+    Move::Raise(0),
+    Move::Close(0),
+    Move::ReadEpoch(0),
+    Move::Publish(0),
+    Move::Rotate(0),
+    Move::Look(0, 1),
+    Move::Raise(0),
+    Move::Close(0),
+];
+
+const RETIRES: Row = Row::Does(&[
+    Move::Place(0, 1, None, None),
+    Move::Release(0, 0),
+    Move::Retire(0, 0),
+]);
+
+const SETTLES: &[Row] = &[
+    // Below a count of 3 it doesn't.
+    RETIRES,
+    Row::Does(&[Move::ReadEpoch(0), Move::LookShut(0, 1)]),
+    Row::Refuses(&[Move::Settle(0), Move::LookShut(0, 0), Move::LookShut(1, 0)]),
+    Row::Does(&[Move::Publish(0), Move::Close(0)]),
+    Row::Does(THREE_RAISES),
+    Row::Item(0, ItemState::Retired(0, 2)),
+    // While another one has a guard open it isn't looked at.
+    Row::Does(&[
+        Move::ReadEpoch(1),
+        Move::Publish(1),
+        Move::Rotate(1),
+        Move::ReadEpoch(0),
+    ]),
+    Row::Refuses(&[Move::LookShut(0, 1), Move::Settle(0)]),
+    Row::Does(&[Move::Close(1), Move::LookShut(0, 1), Move::Settle(0)]),
+    Row::Item(0, ItemState::Retired(0, 3)),
+    Row::Does(&[Move::Publish(0)]),
+    Row::Refuses(&[Move::Rotate(0)]),
+    Row::Does(&[Move::Reclaim(0, 0)]),
+];
+
+#[test]
+fn what_waits_is_due_where_no_other_guard_is_open(rt: HostRuntime) {
+    let start = State::start(rt.alloc(), 2, 1).expect(&rt, "memory");
+    plays(&rt, rt.alloc(), start, SETTLES);
 }
