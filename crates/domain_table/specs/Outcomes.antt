@@ -4,6 +4,7 @@ use Rattle.std.specs.Mem.{manually_drop_value}
 use Rattle.core.specs.declared.mem.manually_drop.ManuallyDrop.{ManuallyDrop}
 use Rattle.atomic_table.specs.Table.{Me}
 use Rattle.sdd_steps.specs.declared.participant.Participant.{Participant}
+use Rattle.sdd_steps.specs.State.{Has}
 use Rattle.sdd_steps.specs.Steps.{is_ready}
 use Rattle.sdd_homes.specs.declared.Lease.{Lease}
 use Rattle.sdd_homes.specs.declared.Owner.{Owner}
@@ -18,6 +19,7 @@ use Rattle.domain_table.specs.Views.{publishing, rotated}
 use Rattle.domain_table.specs.declared.board.Acting.{Acting}
 use Rattle.domain_table.specs.declared.board.Home.{Home}
 use Rattle.domain_table.specs.declared.board.Home.TheVariants.{Blank}
+use Rattle.domain_table.specs.declared.left.Looks.{Looks}
 
 -- a count that isn't below the one read is published, and the rotation is done if it was due
 abbrev pub HasPublished : {S : Type 0} → ℕ → Me S Acting → Me S Acting → Type 0
@@ -116,3 +118,7 @@ module _ {T : Type 0} where
   -- where a slot and the homes of what is leased were out, empty, they are so now
   abbrev pub KeepsOut : Me (Home T) Acting → Me (Home T) Acting → Type 0
   KeepsOut m after = (k : ℕ) → has_all is_blank (k ∷ leased_homes m.0 m.0.leases) m.1 ≡ true → has_all is_blank (k ∷ leased_homes after.0 after.0.leases) after.1 ≡ true
+
+-- the left word of each participant below n was read
+abbrev pub HasLookedAtAll : ℕ → Looks → Type 0
+HasLookedAtAll n looks = (q : ℕ) → q < n → Has looks.numbers.items q

@@ -8,7 +8,6 @@
 
 ghost use Rattle.std.specs.Prelude.{◌≡◌, true, None, ℕ, ◌<◌, ◌≤◌, ◌^◌, ◌++◌, ◌∷◌, [], List, IfSome};
 ghost use Rattle.sdd_homes.specs.declared.Garbage.{Garbage};
-ghost use Rattle.sdd_steps.specs.State.{Has};
 ghost use Rattle.sdd_steps.specs.Steps.{is_ready};
 ghost use Rattle.sdd_steps.specs.declared.participant.Phase.TheVariants.{Idle};
 ghost use Rattle.domain_table.specs.Bags.{IsBag, ends_of};
@@ -16,6 +15,7 @@ ghost use Rattle.domain_table.specs.Chains.{AllBelow, left_code};
 ghost use Rattle.domain_table.specs.Fitting.{FitsNumber, FitsSizes};
 ghost use Rattle.domain_table.specs.Layout.{epoch_words};
 ghost use Rattle.domain_table.specs.Ledgers.{WaitsIn};
+ghost use Rattle.domain_table.specs.Outcomes.{HasLookedAtAll};
 ghost use Rattle.domain_table.specs.Plays.{taken_all, take_left_then, take_own_then, leaving, leave_then};
 ghost use Rattle.domain_table.specs.Views.{IsBare};
 
@@ -199,7 +199,7 @@ pub(crate) fn take_all_left<T, H: Holding<T>>(
     ensures seat { (place.new.table_id ≡ place.old.table_id) × (place.new.id ≡ place.old.id) }
     ensures taken { (ws : List Garbage) × WaitsIn sizes.now.slots ws bags.new × (place.new.me ≡ (record place.old.me.0 { waits = ws }, place.old.me.1)) }
     ensures due { bags.new.due ≡ bags.old.due }
-    ensures looked { (q : ℕ) → q < sizes.now.participants → Has result.numbers.items q }
+    ensures looked { HasLookedAtAll sizes.now.participants result }
 {
     let mut looks = Looks {
         numbers: GhostList::new(),

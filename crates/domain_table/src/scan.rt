@@ -1,6 +1,6 @@
 //! A scan: whether the count may be raised, and its raise.
 
-ghost use Rattle.std.specs.Prelude.{◌≡◌, ◌≢◌, ℕ, ◌-◌, ◌^◌, ◌<◌, IsTrue, cond};
+ghost use Rattle.std.specs.Prelude.{◌≡◌, ◌≢◌, ◌⊎◌, ℕ, ◌-◌, ◌^◌, ◌<◌, IsTrue, cond, is_some};
 ghost use Rattle.sdd_plain.specs.Locals.{closings_after, scans};
 ghost use Rattle.sdd_steps.specs.State.{Has};
 ghost use Rattle.domain_table.specs.Fitting.{HasEpochs, FitsSizes};
@@ -11,7 +11,7 @@ use crate::bags::Bags;
 use crate::board::{Place, Words};
 use crate::holding::Holding;
 use crate::left::take_all_left;
-use crate::steps::{give_lock, is_present, look, raise, take_lock};
+use crate::steps::{Tried, give_lock, is_present, look, raise, take_lock};
 use sdd_plain::local_state::LocalState;
 use sdd_plain::sizes::Sizes;
 
@@ -37,7 +37,8 @@ fn all_agree<T, H: Holding<T>>(
     true
 }
 
-/// Raises the count by one where it is `epoch`, and all others are closed or have published it; and gives the lock back.
+/// Raises the count by one where it is `epoch`, and all others are closed or have published it. The last count,
+/// `2^64 - 1`, isn't raised.
 fn raise_if_all_agree<T, H: Holding<T>>(
     words: &Words<T, H>,
     place: &mut Place<T>,
@@ -47,20 +48,21 @@ fn raise_if_all_agree<T, H: Holding<T>>(
 )
     requires table { HasEpochs words.now.table_id words.now.key.sizes place.old.table_id participants }
     requires open { Scans place.old number epoch 1 }
-    requires below { epoch < 2 ^ 64 - 1 }
-    ensures { (place.new.table_id ≡ place.old.table_id) × (place.new.id ≡ place.old.id) × Steady place.old.me place.new.me × Scans place.new number epoch 0 }
+    ensures seat { (place.new.table_id ≡ place.old.table_id) × (place.new.id ≡ place.old.id) × Steady place.old.me place.new.me }
+    ensures stage { Scans place.new number epoch 1 ⊎ Scans place.new number epoch 2 }
 {
-    if is_present(words, place, number, epoch)
-        && all_agree(words, place, number, participants, epoch)
-    {
-        raise(words, place, number, epoch);
+    if epoch == u64::MAX || !is_present(words, place, number, epoch) {
+        return;
     }
-    give_lock(words, place, number, epoch);
+    if !all_agree(words, place, number, participants, epoch) {
+        return;
+    }
+    raise(words, place, number, epoch);
 }
 
-/// A scan of participant `number`, whose guard is open with the count `epoch`. It tries once for the scan lock, and
-/// raises the count by one only where that is the present one, and each other participant is closed or has published
-/// it. A count of `2^64 - 1` isn't raised. With the lock it first takes over what ended participants left.
+/// A scan of participant `number`, whose guard is open with the count `epoch`. It tries once for the scan lock. With the
+/// lock it takes over what ended participants left: it gives the lock back only once it has looked for that at each number.
+/// It raises the count by one only where that is the present one, and each other participant is closed or has published it.
 #[inline(never)]
 fn scan<T, H: Holding<T>>(
     words: &Words<T, H>,
@@ -69,7 +71,7 @@ fn scan<T, H: Holding<T>>(
     number: usize,
     bags: &mut Bags,
     epoch: u64,
-)
+) -> Tried
     requires table { FitsSizes words.now.table_id words.now.key.sizes place.old.table_id place.old.me.0.sizes sizes.now }
     requires open { Scans place.old number epoch 0 }
     requires waits { WaitsIn sizes.now.slots place.old.me.0.waits bags.old }
@@ -77,11 +79,14 @@ fn scan<T, H: Holding<T>>(
     ensures waits { WaitsIn sizes.now.slots place.new.me.0.waits bags.new }
     ensures due { bags.new.due ≡ bags.old.due }
 {
-    if epoch == u64::MAX || !take_lock(words, place, number, epoch) {
-        return;
+    let tried = take_lock(words, place, number, epoch);
+    if !tried.got() {
+        return tried;
     }
-    let _looks = take_all_left(words, place, sizes, bags);
+    let looks = take_all_left(words, place, sizes, bags);
     raise_if_all_agree(words, place, number, sizes.participants, epoch);
+    give_lock(words, place, number, epoch, looks);
+    tried
 }
 
 /// Whether this outermost closing scans, where `closings` counts it.
@@ -91,7 +96,7 @@ fn scans(own: &LocalState, closings: u8) -> bool
     own.accelerated || own.garbage && closings >= 64
 }
 
-/// Counts an outermost closing, and scans if one is due.
+/// Counts an outermost closing, and scans if one is due: that it then tried for the scan lock.
 #[inline(always)]
 pub fn scan_due<T, H: Holding<T>>(
     words: &Words<T, H>,
@@ -100,12 +105,13 @@ pub fn scan_due<T, H: Holding<T>>(
     number: usize,
     bags: &mut Bags,
     own: &mut LocalState,
-)
+) -> Option<Tried>
     requires table { FitsSizes words.now.table_id words.now.key.sizes place.old.table_id place.old.me.0.sizes sizes.now }
     requires open { Scans place.old number own.old.previous 0 }
     requires waits { WaitsIn sizes.now.slots place.old.me.0.waits bags.old }
     ensures seat { (place.new.table_id ≡ place.old.table_id) × (place.new.id ≡ place.old.id) × SteadyButWaits place.old.me place.new.me }
     ensures open { Scans place.new number own.old.previous 0 }
+    ensures tried { is_some result ≡ scans own.old }
     ensures counted { own.new ≡ record own.old { closings = cond (scans own.old) 0 (closings_after own.old) } }
     ensures waits { WaitsIn sizes.now.slots place.new.me.0.waits bags.new }
     ensures due { bags.new.due ≡ bags.old.due }
@@ -117,9 +123,11 @@ pub fn scan_due<T, H: Holding<T>>(
     };
     if scans(own, closings) {
         let epoch = own.previous;
-        scan(words, place, sizes, number, bags, epoch);
+        let tried = scan(words, place, sizes, number, bags, epoch);
         own.closings = 0;
+        Some(tried)
     } else {
         own.closings = closings;
+        None
     }
 }

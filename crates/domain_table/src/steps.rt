@@ -8,7 +8,7 @@ ghost use Rattle.sdd_steps.specs.Steps.{is_ready};
 ghost use Rattle.sdd_steps.specs.declared.participant.Phase.TheVariants.{Idle, HasRead, Opened};
 ghost use Rattle.domain_table.specs.Fitting.{HasEpochOf, HasClaimOf};
 ghost use Rattle.domain_table.specs.Contents.{IsIn, Announces};
-ghost use Rattle.domain_table.specs.Outcomes.{HasPublished};
+ghost use Rattle.domain_table.specs.Outcomes.{HasPublished, HasLookedAtAll};
 ghost use Rattle.domain_table.specs.Views.{IsBare, spent, reading, rotated, looking};
 ghost use Rattle.domain_table.specs.Layout.{lock_word, claim_word, epoch_words, all_words, IsSized, shown};
 ghost use Rattle.domain_table.specs.Plays.{read_then, publish_then, count_then, look_then, agree_then, raise_then, lock_then, unlock_then, sit_then, HasRegistered, HasSpare, claim_then, learn_then, end_then, Steady, Scans};
@@ -17,6 +17,7 @@ ghost use Rattle.domain_table.specs.declared.board.Home.{Home};
 use crate::board::{Acting, Home, Place, Words};
 use crate::holding::Holding;
 use crate::homes::let_go;
+use crate::left::Looks;
 use atomic_table::Play;
 use sdd_plain::sizes::Sizes;
 use std::marker::PhantomData;
@@ -222,18 +223,34 @@ pub fn count_under<T, H: Holding<T>>(words: &Words<T, H>, place: &mut Place<T>, 
     words.load::<OnCount>(place, COUNT)
 }
 
+/// That the scan lock was tried for once, and whether it was free. Only `take_lock` makes one.
+#[derive(Drop)]
+pub struct Tried {
+    got: bool,
+}
+
+impl Tried {
+    /// Whether the lock was free, and is the participant's now.
+    pub(crate) fn got(&self) -> bool
+        ensures { result ≡ self.now.got }
+    {
+        self.got
+    }
+}
+
 /// Tries once for the scan lock.
 pub(crate) fn take_lock<T, H: Holding<T>>(
     words: &Words<T, H>,
     place: &mut Place<T>,
     number: usize,
     epoch: u64,
-) -> bool
+) -> Tried
     requires { (place.old.table_id ≡ words.now.table_id) × (lock_word < words.now.table_id.words) × Scans place.old number epoch 0 }
     ensures seat { (place.new.table_id ≡ place.old.table_id) × (place.new.id ≡ place.old.id) × Steady place.old.me place.new.me }
-    ensures stage { MatchBool result (Scans place.new number epoch 1) (Scans place.new number epoch 0) }
+    ensures stage { MatchBool result.got (Scans place.new number epoch 1) (Scans place.new number epoch 0) }
 {
-    words.compare_exchange::<OnLock>(place, LOCK, 0, 1) == 0
+    let found = words.compare_exchange::<OnLock>(place, LOCK, 0, 1);
+    Tried { got: found == 0 }
 }
 
 /// Whether the count is still the published one, under the scan lock.
@@ -250,16 +267,19 @@ pub(crate) fn is_present<T, H: Holding<T>>(
     words.load::<OnAgree>(place, COUNT) == epoch
 }
 
-/// Gives the scan lock back.
+/// Gives the scan lock back. Condition: what ended participants left was looked for at each number.
 pub(crate) fn give_lock<T, H: Holding<T>>(
     words: &Words<T, H>,
     place: &mut Place<T>,
     number: usize,
     epoch: u64,
+    looks: Looks,
 )
-    requires { (place.old.table_id ≡ words.now.table_id) × (lock_word < words.now.table_id.words) × (Scans place.old number epoch 1 ⊎ Scans place.old number epoch 2) }
+    requires lock { (place.old.table_id ≡ words.now.table_id) × (lock_word < words.now.table_id.words) × (Scans place.old number epoch 1 ⊎ Scans place.old number epoch 2) }
+    requires looked { HasLookedAtAll words.now.key.sizes.participants looks }
     ensures { (place.new.table_id ≡ place.old.table_id) × (place.new.id ≡ place.old.id) × Steady place.old.me place.new.me × Scans place.new number epoch 0 }
 {
+    drop(looks);
     words.store::<OnUnlock>(place, LOCK, 0);
 }
 

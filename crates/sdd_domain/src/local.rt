@@ -285,7 +285,7 @@ impl<T: Holds> Local<T> {
             ..
         } = self;
         let epoch = own.previous;
-        scan_due(domain.words(), place, &domain.sizes, *number, bags, own);
+        let _ = scan_due(domain.words(), place, &domain.sizes, *number, bags, own);
         let ended = last_token(life, token);
         give_home(
             domain.words(),
