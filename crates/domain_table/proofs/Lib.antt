@@ -50,3 +50,5 @@ pub mod GiveUps
 pub mod Linking
 pub mod BagLemmas
 pub mod WaitLemmas
+pub mod Settles
+pub mod SettledWaits

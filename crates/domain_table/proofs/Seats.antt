@@ -52,6 +52,8 @@ module _ (S : Type 0) (IsIn : Content → S → Type 0) (plan : Plan) where
               ageing = λ i it r a x at. absurd (cc);
               noted = λ i it m at. absurd (cc);
               kept = λ p x e l at h. absurd (idle p x e at h);
+              calm = λ p x q at _ has. subst (λ (y : Participant). Has y.looked q) (sym (at_replicate n p newcomer x at)) has;
+              quiet = λ p q x y m e l it a at is has at_q is_q. absurd (idle q y e at_q is_q);
             },
           ),
         );

@@ -13,7 +13,7 @@ use Rattle.sdd_steps.specs.declared.item.ItemState.TheVariants.{Live, Due, Retir
 use Rattle.sdd_steps.specs.declared.item.Cell.{Cell}
 use Rattle.sdd_steps.specs.State as steps
 use Rattle.sdd_steps.specs.State.{At, Has}
-use Rattle.sdd_steps.specs.Steps.{aged, left, older, left_by}
+use Rattle.sdd_steps.specs.Steps.{aged, left, settled, older, left_by, settled_by}
 use Rattle.sdd_steps.specs.Invariant.{names_of}
 use Rattle.sdd_steps.proofs.ListLemmas.{put, put_else, has_map, at_map, at_mapped, same_at, set_all, set_here, set_else}
 use Rattle.sdd_homes.specs.declared.Lease.{Lease}
@@ -30,7 +30,7 @@ use Rattle.sdd_homes.proofs.SpareLemmas.{stays_kept, refilled}
 use Rattle.sdd_homes.proofs.HandLemmas.{owned_set}
 use Rattle.domain_table.specs.Layout.{epoch_words, claim_word, cell_word, slot_word, link_word, all_homes, all_spares}
 use Rattle.domain_table.specs.Items.{owners_in_hand, Grasps, Grip, Owns, IsWaiting, IsLeftover, IsNoted, Leftovers, Private, IsLinked, Links, IsFilling, Rests, Carries, Items, Distinct}
-use Rattle.domain_table.specs.Views.{older_waits}
+use Rattle.domain_table.specs.Views.{older_waits, settled_waits}
 use Rattle.domain_table.proofs.Privates.{private_set}
 use Rattle.domain_table.specs.declared.board.Acting.{Acting}
 
@@ -74,6 +74,17 @@ left_due p q (Retired r a) e = (elim (r == p) as (λ b. cond b Waiting (Retired 
 left_due p q (Collected n) e = absurd (cc)
 left_due p q Waiting e = absurd (cc)
 left_due p q (Reclaimed r) e = absurd (cc)
+
+settled_due : (p q : ℕ) (f : ItemState) → settled p f ≡ Due q → f ≡ Due q
+settled_due p q Live e = absurd (cc)
+settled_due p q (Due r) e = e
+settled_due p q (Retired r a) e = absurd (cc)
+settled_due p q (Collected n) e = absurd (cc)
+settled_due p q Waiting e = absurd (cc)
+settled_due p q (Reclaimed r) e = absurd (cc)
+
+pub stirred_settled : (p : ℕ) (items : List Item) → Stirred items (map (settled_by p) items)
+stirred_settled p items = stirred_map (settled_by p) items (λ it. record { value = refl; hand = refl; owners = refl; holds = refl; due = λ q e. settled_due p q it.state e; gone = λ q e. ap (settled p) e })
 
 pub stirred_older : (p : ℕ) (items : List Item) → Stirred items (map (older p) items)
 stirred_older p items = stirred_map (older p) items (λ it. record { value = refl; hand = refl; owners = refl; holds = refl; due = λ q e. aged_due p q it.state e; gone = λ q e. ap (aged p) e })
@@ -121,6 +132,24 @@ waits_older_else p q items slot_of w ne y = (older p y.0, at_map (older p) items
 
 pub waits_left : (p q : ℕ) (items : List Item) (slot_of : ℕ → ℕ) (w : Garbage) → q ≢ p → IsWaiting items slot_of q w → IsWaiting (map (left_by p) items) slot_of q w
 waits_left p q items slot_of w ne y = (left_by p y.0, at_map (left_by p) items w.item y.0 y.1, ap (left p) y.2 ∙ ap (λ b. cond b Waiting (Retired q w.age)) (ne_eqb q p ne), y.3, y.4)
+
+-- what p has retired is due where it settles, and what others have stays
+pub waits_settled : (p : ℕ) (items : List Item) (slot_of : ℕ → ℕ) (ws : List Garbage) (w : Garbage) → ((v : Garbage) → Has ws v → IsWaiting items slot_of p v) → Has (settled_waits ws) w → IsWaiting (map (settled_by p) items) slot_of p w
+waits_settled p items slot_of ws w all h = let t = has_map (λ (v : Garbage). record v { age = 3 }) ws w h in let y = all t.0 t.1 in
+    subst (IsWaiting (map (settled_by p) items) slot_of p) t.2 (settled_by p y.0, at_map (settled_by p) items t.0.item y.0 y.1, ap (settled p) y.2 ∙ ap (λ b. Retired p (cond b 3 t.0.age)) (eq-eqb p p refl), y.3, y.4)
+
+pub distinct_settled : (ws : List Garbage) → Distinct ws → Distinct (settled_waits ws)
+distinct_settled [] h = tt
+distinct_settled (w ∷ ws) h = ((λ v has. let t = has_map (λ (z : Garbage). record z { age = 3 }) ws v has in λ e. h.0 t.0 t.1 (ap (λ (z : Garbage). z.item) t.2 ∙ e)), distinct_settled ws h.1)
+
+pub waits_settled_else : (p q : ℕ) (items : List Item) (slot_of : ℕ → ℕ) (w : Garbage) → q ≢ p → IsWaiting items slot_of q w → IsWaiting (map (settled_by p) items) slot_of q w
+waits_settled_else p q items slot_of w ne y = (settled_by p y.0, at_map (settled_by p) items w.item y.0 y.1, ap (settled p) y.2 ∙ ap (λ b. Retired q (cond b 3 w.age)) (ne_eqb q p ne), y.3, y.4)
+
+pub notes_settled : (p : ℕ) (items : List Item) (slot_of : ℕ → ℕ) (w : Garbage) → IsNoted items slot_of w → IsNoted (map (settled_by p) items) slot_of w
+notes_settled p items slot_of w y = (settled_by p y.0, at_map (settled_by p) items w.item y.0 y.1, ap (settled p) y.2, y.3, y.4)
+
+pub left_settled : (p : ℕ) (items : List Item) (slot_of : ℕ → ℕ) (w : Garbage) → IsLeftover items slot_of w → IsLeftover (map (settled_by p) items) slot_of w
+left_settled p items slot_of w y = (settled_by p y.0, at_map (settled_by p) items w.item y.0 y.1, ap (settled p) y.2, y.3, y.4)
 
 -- so is what is in private bags
 pub notes_older : (p : ℕ) (items : List Item) (slot_of : ℕ → ℕ) (w : Garbage) → IsNoted items slot_of w → IsNoted (map (older p) items) slot_of w

@@ -1,5 +1,5 @@
 -- the single steps that participants take on the words of a place, from what stands at the places that they read
-use Rattle.std.proofs.Common.{◌≡◌, ◌≢◌, ◌&&◌, ◌||◌, ◌==◌, Bool, true, false, not, ℕ, zero, suc, ◌+◌, ◌-◌, ◌^◌, ◌<◌, List, [], ◌∷◌, ◌++◌, set, map, length, sym, refl, ap, ◌∙◌, subst, ⊎_elim, arith, None, eq-eqb, ne_eqb, lt-ltb, nat_lt}
+use Rattle.std.proofs.Common.{◌≡◌, ◌≢◌, ◌&&◌, ◌||◌, ◌==◌, Bool, true, false, not, ℕ, zero, suc, ◌+◌, ◌-◌, ◌^◌, ◌<◌, List, [], ◌∷◌, ◌++◌, set, map, length, sym, refl, ap, ◌∙◌, subst, ⊎_elim, arith, None, eq-eqb, ne_eqb, lt-ltb, le-leb, nat_lt, nat_le, ◌≤◌}
 use mathlib.Core.Logic.{dite}
 use native.Mathlib.Decide.{ℕ_discrete}
 use Rattle.sdd_steps.specs.declared.participant.Phase.{Phase}
@@ -9,9 +9,9 @@ use Rattle.sdd_steps.specs.declared.item.Item.{Item}
 use Rattle.sdd_steps.specs.declared.item.ItemState.{ItemState}
 use Rattle.sdd_steps.specs.declared.item.ItemState.TheVariants.{Live, Due, Retired, Collected, Waiting, Reclaimed}
 use Rattle.sdd_steps.specs.declared.step.Step.{Step}
-use Rattle.sdd_steps.specs.declared.step.Step.TheVariants.{ReadEpoch, Publish, Rotate, Look, Raise, Close, End}
+use Rattle.sdd_steps.specs.declared.step.Step.TheVariants.{ReadEpoch, Publish, Rotate, Look, Raise, Close, End, LookShut, Settle}
 use Rattle.sdd_steps.specs.State.{State, At, Has, has, with_participant, participant_at, participant_is}
-use Rattle.sdd_steps.specs.Steps.{Steps, Schedule, is_opened_phase, is_idle, is_reading, is_turning, is_inside, agrees, count_of, all_looked, older, left_by, is_due, none_due}
+use Rattle.sdd_steps.specs.Steps.{Steps, Schedule, is_opened_phase, is_idle, is_reading, is_turning, is_inside, is_shut, is_reading_phase, agrees, count_of, all_looked, older, settled_by, left_by, is_due, none_due}
 use Rattle.sdd_steps.specs.Invariant.{Inv}
 use Rattle.sdd_steps.proofs.Law.{keeps}
 use Rattle.domain_table.specs.Rule.{Runs}
@@ -47,6 +47,14 @@ agreed count y h = go y.phase refl
     go Idle e = or_left (not (is_opened_phase y.phase)) (count_of y.phase == count) (ap (λ z. not (is_opened_phase z)) e)
     go (HasRead m) e = or_left (not (is_opened_phase y.phase)) (count_of y.phase == count) (ap (λ z. not (is_opened_phase z)) e)
     go (Opened m) e = or_right (not (is_opened_phase y.phase)) (count_of y.phase == count) (eq-eqb (count_of y.phase) count (ap count_of e ∙ h m e))
+
+shut : (y : Participant) → ((e : ℕ) → y.phase ≢ Opened e) → is_shut y ≡ true
+shut y none = go y.phase refl
+  where
+    go : (f : Phase) → y.phase ≡ f → is_shut y ≡ true
+    go Idle e = ap (λ z. not (is_opened_phase z)) e
+    go (HasRead m) e = ap (λ z. not (is_opened_phase z)) e
+    go (Opened m) e = absurd (none m e)
 
 undue : (p : ℕ) (f : ItemState) → f ≢ Due p → not (is_due p f) ≡ true
 undue p Live h = refl
@@ -88,6 +96,23 @@ module _ (s : State) (p : ℕ) (x : Participant) (at : At s.participants p x) wh
         (and_true (participant_is is_inside s p) (not (q == p)) (participant_passes is_inside s p x at (inside x e is found)) (ap not (ne_eqb q p other)))
         (participant_passes (agrees s.count) s q y at_q (agreed s.count y agree)),
     λ j. with_participant s p (record (sym read j) { looked = (sym read j).looked ++ q ∷ [] }),
+  )
+
+  pub looks_shut : (e q : ℕ) (y : Participant) → x.phase ≡ HasRead e → q ≢ p → At s.participants q y → ((m : ℕ) → y.phase ≢ Opened m) → Steps s (LookShut p q) (with_participant s p (record x { looked = x.looked ++ q ∷ [] }))
+  looks_shut e q y is other at_q none = (
+    and_true (participant_is is_reading s p && not (q == p)) (participant_is is_shut s q)
+        (and_true (participant_is is_reading s p) (not (q == p)) (participant_passes is_reading s p x at (ap is_reading_phase is)) (ap not (ne_eqb q p other)))
+        (participant_passes is_shut s q y at_q (shut y none)),
+    λ j. with_participant s p (record (sym read j) { looked = (sym read j).looked ++ q ∷ [] }),
+  )
+
+  pub settles : (e : ℕ) → x.phase ≡ HasRead e → 3 ≤ e → ((q : ℕ) → q < length s.participants → q ≢ p → Has x.looked q) → Steps s (Settle p) (record s { participants = set s.participants p (record x { found = e }); items = map (settled_by p) s.items })
+  settles e is three all = (
+    participant_passes (λ z. is_reading z && nat_le 3 (count_of z.phase) && all_looked p z.looked (length s.participants)) s p x at
+        (and_true (is_reading x && nat_le 3 (count_of x.phase)) (all_looked p x.looked (length s.participants))
+        (and_true (is_reading x) (nat_le 3 (count_of x.phase)) (ap is_reading_phase is) (ap (λ z. nat_le 3 (count_of z)) is ∙ le-leb 3 e three)) (looked_all p x.looked (length s.participants) all)),
+    (λ j. record s { participants = set s.participants p (record x { found = ap count_of (sym is) j }); items = map (settled_by p) s.items })
+        ∙ (λ j. record s { participants = set s.participants p (record (sym read j) { found = count_of (sym read j).phase }); items = map (settled_by p) s.items }),
   )
 
   pub raises : x.phase ≡ Opened s.count → s.count ≡ x.found → ((q : ℕ) → q < length s.participants → q ≢ p → Has x.looked q) → s.count < 2 ^ 64 - 1

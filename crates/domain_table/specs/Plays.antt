@@ -14,7 +14,7 @@ use Rattle.sdd_homes.specs.declared.Owner.{Owner}
 use Rattle.sdd_homes.specs.declared.Filling.{Filling}
 use Rattle.sdd_homes.specs.declared.Garbage.{Garbage}
 use Rattle.sdd_homes.specs.Book.{Content, part, home, lease, Lends, Apart, recounted, blank, room, deed}
-use Rattle.domain_table.specs.Views.{spent, gathering, registered, reading, rereading, publishing, rotated, looking, closing}
+use Rattle.domain_table.specs.Views.{spent, gathering, registered, reading, rereading, publishing, rotated, looking, settling, closing}
 use Rattle.domain_table.specs.Layout.{state_word, claim_word, slot_word, link_word, all_homes, Tells, shown}
 use Rattle.domain_table.specs.Chains.{is_threaded, left_code, AllBelow}
 use Rattle.domain_table.specs.Owners.{slot_code, part_of, besides}
@@ -50,6 +50,14 @@ module _ {S : Type 0} where
   -- the count is found to be the published one, or another
   abbrev pub agree_then : Step S → Me S Acting → ℕ → Me S Acting → Type 0
   agree_then t m n m' = (e : ℕ) → m.0.known.phase ≡ Opened e → (n ≡ e → m' ≡ (record m.0 { scan = 2 }, m.1)) × (n ≢ e → m' ≡ m)
+
+  -- a word that tells of no open guard is noted
+  abbrev pub shut_then : Step S → Me S Acting → ℕ → Me S Acting → Type 0
+  shut_then t m n m' = (q : ℕ) → t.word ≡ state_word q → (n ≡ 0 → m' ≡ (record m.0 { known = looking q m.0.known }, m.1)) × (n ≢ 0 → m' ≡ m)
+
+  -- all that the participant retired is due
+  abbrev pub settle_then : Step S → Me S Acting → ℕ → Me S Acting → Type 0
+  settle_then t m n m' = (e : ℕ) → m.0.known.phase ≡ HasRead e → m' ≡ (settling e m.0, m.1)
 
   abbrev pub raise_then : Step S → Me S Acting → ℕ → Me S Acting → Type 0
   raise_then t m n m' = m' ≡ (record m.0 { scan = 1 }, m.1)

@@ -50,6 +50,14 @@ rotated e found ws = cond (e == found) ws (older_waits ws)
 abbrev pub publishing : ℕ → Participant → Participant
 publishing e x = record x { phase = Opened e; found = e; reread = None; looked = []; loaded = [] }
 
+-- all that a participant has retired is due
+abbrev pub settled_waits : List Garbage → List Garbage
+settled_waits ws = map (λ (w : Garbage). record w { age = 3 }) ws
+
+-- the same of a view, and the count that was read is the one found
+abbrev pub settling : ℕ → Acting → Acting
+settling e d = record d { known = record d.known { found = e }; waits = settled_waits d.waits }
+
 abbrev pub looking : ℕ → Participant → Participant
 looking q x = record x { looked = x.looked ++ q ∷ [] }
 

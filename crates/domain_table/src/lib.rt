@@ -25,6 +25,7 @@ pub mod placing;
 pub mod private_chains;
 pub mod row;
 pub mod scan;
+pub mod settling;
 pub mod slots;
 pub mod steps;
 pub mod stored;

@@ -35,7 +35,7 @@ const LOCK: usize = 8;
 pub(crate) const STRIDE: usize = 8;
 
 /// Where the first participant publishes.
-const STATE: usize = 16;
+pub(crate) const STATE: usize = 16;
 
 /// Where it stands whether somebody acts for the first participant: then it is 0, and else one more than the number of
 /// the participant's spare slot.

@@ -4,7 +4,7 @@ ghost use Rattle.std.specs.Prelude.{◌≡◌, []};
 ghost use Rattle.sdd_domain.specs.Tokens.{place_of, home_of, hand_of, own_of, IsSame};
 
 use crate::hands::told;
-use crate::steps::Act::{Alternate, Join, Leave, Pass, Passes};
+use crate::steps::Act::{Alternate, Join, Leave, Pass, Passes, Place, Release, Slots};
 use crate::steps::Found::{Is, No, Nothing, Yes};
 use crate::steps::Part::{Apart, Renew, Under};
 use crate::steps::View::{Beside, Epoch, HasGarbage, Nest, SetGarbage};
@@ -193,10 +193,11 @@ pub(crate) const LATE_FLAG: Table = Table {
     ],
 };
 
-/// The last counts are told apart, up to the end.
+/// The last counts are told apart, up to the end. What waits then isn't reclaimed by guards, whoever has retired it; the
+/// place is closed with it.
 pub(crate) const LAST_COUNTS: Table = Table {
     participants: 2,
-    slots: 0,
+    slots: 2,
     cells: 0,
     first: u64::MAX - 2,
     parts: &[Apart(&[
@@ -204,10 +205,16 @@ pub(crate) const LAST_COUNTS: Table = Table {
         (Pass(true), Is(62)),
         (Pass(true), Is(63)),
         (Pass(true), Is(63)),
-        (Pass(true), Is(63)),
-        (Pass(true), Is(63)),
-        (Pass(true), Is(63)),
-        (Pass(true), Is(63)),
+        (Join, Is(1)),
+        (Alternate, Nothing),
+        (Place(1), Nothing),
+        (Release, Yes),
+        (Alternate, Nothing),
+        (Leave, Nothing),
+        (Place(2), Nothing),
+        (Release, Yes),
+        (Passes(true, 4), Nothing),
+        (Slots, Is(2)),
     ])],
 };
 

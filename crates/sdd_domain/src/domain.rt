@@ -126,9 +126,9 @@ impl<T: Holds> Domain<T> {
         Ok(Local::registered(place, number, spare, ledger))
     }
 
-    /// Opens and closes accelerated guards of a participant until nothing waits for it, four for each slot at most, and
-    /// ends it: the first one takes over what others left, and what an item held waits only once the item is reclaimed. Its
-    /// ledger is back, empty.
+    /// Opens and closes accelerated guards of a participant, the first of which takes over what others left, and reclaims
+    /// behind each what nobody reads, at the last count too. It goes on until nothing waits, four times for each slot at most,
+    /// since what an item held waits only once the item is reclaimed; and ends the participant. Its ledger is back, empty.
     fn run_out(&self, local: Local<T>) -> Ledger<T>
         requires { (home_of local ≡ place_of self.now) × ((own_of local).nesting ≡ 0) × (hand_of local ≡ []) }
         ensures { IsEmpty self.now.sizes.slots result }
@@ -139,6 +139,7 @@ impl<T: Holds> Domain<T> {
                 guard.accelerate(&mut local);
                 guard.close(self, &mut local);
             }
+            local.reclaim_all(self);
             if !local.has_waiting() {
                 break;
             }
@@ -178,8 +179,8 @@ impl<T: Holds> Domain<T> {
         count_used(self.words(), &self.sizes)
     }
 
-    /// Ends the place, and drops what still waits, with what that holds. It is handed back while a `Local`, an owner or
-    /// what a collector holds is out, and where something waits at the last count. It takes no memory.
+    /// Ends the place, and drops what still waits, with what that holds, at the last count too. It is handed back while a
+    /// `Local`, an owner or what a collector holds is out. It takes no memory.
     pub fn close(self) -> Result<(), Domain<T>>
         ensures back { IfErr result (λ d. (place_of d ≡ place_of self) × (participants_of d ≡ participants_of self) × (first_of d ≡ first_of self)) }
     {

@@ -24,3 +24,4 @@ mod reclaiming;
 pub mod refusal;
 pub mod shared;
 mod swapping;
+mod unread;

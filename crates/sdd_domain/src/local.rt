@@ -63,7 +63,7 @@ pub struct Local<T> {
 }
 
 /// Behind a publication: turns the bags if the count isn't the one that was found before, and reclaims what is due then.
-fn turn<T: Holds>(
+pub(crate) fn turn<T: Holds>(
     words: &Words<T>,
     place: &mut Place<T>,
     sizes: &Sizes,

@@ -1,0 +1,134 @@
+//! What a participant retired is due at once, whatever its age, where no other one has a guard open.
+//!
+//! Between its reading of the count and its publication a participant retires nothing. If it finds each other participant
+//! without an open guard in that time, nobody reads what it had retired before: guards that open later find none of it in a
+//! cell. So all of it may be reclaimed once its own guard is open, and no raise of the count is needed for that.
+
+ghost use Rattle.std.specs.Prelude.{◌≡◌, ◌≢◌, ℕ, ◌<◌, ◌≤◌, List, IsTrue, IsFalse, None};
+ghost use Rattle.sdd_homes.specs.declared.Garbage.{Garbage};
+ghost use Rattle.sdd_steps.specs.State.{Has};
+ghost use Rattle.sdd_steps.specs.declared.participant.Phase.TheVariants.{HasRead};
+ghost use Rattle.domain_table.specs.Fitting.{FitsNumber, HasEpochs, HasEpochOf};
+ghost use Rattle.domain_table.specs.Ledgers.{WaitsIn};
+ghost use Rattle.domain_table.specs.Plays.{shut_then, settle_then};
+ghost use Rattle.domain_table.specs.Views.{looking, settling};
+
+use crate::bags::Bags;
+use crate::board::{Acting, Home, Place, Words};
+use crate::holding::Holding;
+use crate::steps::{STATE, STRIDE};
+use atomic_table::Play;
+use sdd_plain::sizes::Sizes;
+
+/// The word of the count of raises.
+const COUNT: usize = 0;
+
+struct OnShut;
+
+impl<T> Play<Home<T>, Acting> for OnShut {
+    ghost then = { shut_then };
+}
+
+struct OnSettle;
+
+impl<T> Play<Home<T>, Acting> for OnSettle {
+    ghost then = { settle_then };
+}
+
+/// Whether the other has no guard open. It is asked once the count `epoch` was read, before it is published.
+fn is_shut<T, H: Holding<T>>(words: &Words<T, H>, place: &mut Place<T>, other: usize) -> bool
+    requires table { HasEpochOf words.now.table_id words.now.key.sizes place.old.table_id other }
+    requires read { (place.old.me.0.kind ≡ 1) × (place.old.me.0.number ≢ other) × ((e : ℕ) × (place.old.me.0.known.phase ≡ HasRead e)) }
+    ensures seat { (place.new.table_id ≡ place.old.table_id) × (place.new.id ≡ place.old.id) }
+    ensures noted { IsTrue result → place.new.me ≡ (record place.old.me.0 { known = looking other place.old.me.0.known }, place.old.me.1) }
+    ensures not_noted { IsFalse result → place.new.me ≡ place.old.me }
+{
+    let found = words.load::<OnShut>(place, STRIDE * other + STATE);
+    found == 0
+}
+
+/// The same of any participant, where the seat's own one passes unasked. Who was looked at before stays so.
+fn passes<T, H: Holding<T>>(
+    words: &Words<T, H>,
+    place: &mut Place<T>,
+    number: usize,
+    other: usize,
+) -> bool
+    requires table { HasEpochOf words.now.table_id words.now.key.sizes place.old.table_id other }
+    requires read { (place.old.me.0.kind ≡ 1) × (place.old.me.0.number ≡ number) × ((e : ℕ) × (place.old.me.0.known.phase ≡ HasRead e)) }
+    ensures seat { (place.new.table_id ≡ place.old.table_id) × (place.new.id ≡ place.old.id) }
+    ensures looked { (ls : List ℕ) × (place.new.me ≡ (record place.old.me.0 { known = record place.old.me.0.known { looked = ls } }, place.old.me.1)) × (IsTrue result → other ≢ number → Has ls other) × ((q : ℕ) → Has place.old.me.0.known.looked q → Has ls q) }
+{
+    if other == number {
+        return true;
+    }
+    if is_shut(words, place, other) {
+        true
+    } else {
+        false
+    }
+}
+
+/// Whether no other participant has a guard open. It stops at the first that has.
+fn all_shut<T, H: Holding<T>>(
+    words: &Words<T, H>,
+    place: &mut Place<T>,
+    number: usize,
+    participants: usize,
+) -> bool
+    requires table { HasEpochs words.now.table_id words.now.key.sizes place.old.table_id participants }
+    requires read { (place.old.me.0.kind ≡ 1) × (place.old.me.0.number ≡ number) × ((e : ℕ) × (place.old.me.0.known.phase ≡ HasRead e)) }
+    ensures seat { (place.new.table_id ≡ place.old.table_id) × (place.new.id ≡ place.old.id) }
+    ensures looked { (ls : List ℕ) × (place.new.me ≡ (record place.old.me.0 { known = record place.old.me.0.known { looked = ls } }, place.old.me.1)) × (IsTrue result → (q : ℕ) → q < participants → q ≢ number → Has ls q) }
+{
+    for other in 0..participants {
+        if !passes(words, place, number, other) {
+            return false;
+        }
+    }
+    true
+}
+
+/// All that the participant retired is due, where each other one was found without an open guard.
+fn settle_all<T, H: Holding<T>>(words: &Words<T, H>, place: &mut Place<T>, epoch: u64)
+    requires table { (place.old.table_id ≡ words.now.table_id) × (0 < words.now.table_id.words) }
+    requires read { (place.old.me.0.kind ≡ 1) × (place.old.me.0.known.phase ≡ HasRead epoch) × (3 ≤ epoch) }
+    requires all { (q : ℕ) → q < words.now.key.sizes.participants → q ≢ place.old.me.0.number → Has place.old.me.0.known.looked q }
+    ensures { (place.new.table_id ≡ place.old.table_id) × (place.new.id ≡ place.old.id) × (place.new.me ≡ (settling epoch place.old.me.0, place.old.me.1)) }
+{
+    let _ = words.load::<OnSettle>(place, COUNT);
+}
+
+/// Makes all due that participant `number` retired, where no other one has a guard open: whether it could. It has read the
+/// count `epoch`, and publishes it next. A count below 3 is too low for that, and then nothing is looked at.
+pub fn settle<T, H: Holding<T>>(
+    words: &Words<T, H>,
+    place: &mut Place<T>,
+    sizes: &Sizes,
+    number: usize,
+    bags: &mut Bags,
+    epoch: u64,
+) -> bool
+    requires table { FitsNumber words.now.table_id words.now.key.sizes place.old.table_id place.old.me.0.sizes sizes.now number }
+    requires read { (place.old.me.0.kind ≡ 1) × (place.old.me.0.number ≡ number) × (place.old.me.0.known.phase ≡ HasRead epoch) }
+    requires waits { WaitsIn sizes.now.slots place.old.me.0.waits bags.old × (bags.old.due ≡ None) }
+    ensures seat { (place.new.table_id ≡ place.old.table_id) × (place.new.id ≡ place.old.id) }
+    ensures settled { IsTrue result → (ls : List ℕ) × (ws : List Garbage) × WaitsIn sizes.now.slots ws bags.new × (place.new.me ≡ (record place.old.me.0 { known = record place.old.me.0.known { found = epoch; looked = ls }; waits = ws }, place.old.me.1)) }
+    ensures kept { IsFalse result → (ls : List ℕ) × (bags.new ≡ bags.old) × (place.new.me ≡ (record place.old.me.0 { known = record place.old.me.0.known { looked = ls } }, place.old.me.1)) }
+{
+    if epoch < 3 {
+        return false;
+    }
+    if !all_shut(words, place, number, sizes.participants) {
+        return false;
+    }
+    let due = bags.joined(words, place, sizes);
+    settle_all(words, place, epoch);
+    *bags = Bags {
+        current: None,
+        previous: None,
+        next: None,
+        due,
+    };
+    true
+}
