@@ -9,8 +9,8 @@ ghost use Rattle.sdd_homes.specs.declared.Garbage.{Garbage};
 ghost use Rattle.domain_table.specs.Ledgers.{WaitsIn};
 ghost use Rattle.domain_table.specs.Fitting.{FitsSizes, HasEpochs};
 ghost use Rattle.domain_table.specs.Contents.{IsIn, is_blank};
-ghost use Rattle.domain_table.specs.Views.{spent, rotated};
-ghost use Rattle.domain_table.specs.Leases.{life_number, row_told, lease_told, leased_homes, row_slots, all_below, has_all};
+ghost use Rattle.domain_table.specs.Views.{spent, rotated, older_waits};
+ghost use Rattle.domain_table.specs.Leases.{IsAtRest, life_number, row_told, lease_told, leased_homes, row_slots, all_below, has_all};
 ghost use Rattle.domain_table.specs.Plays.{own_spare, HasRegistered, Scans, Steady};
 ghost use Rattle.domain_table.specs.Layout.{claim_word};
 
@@ -62,6 +62,30 @@ pub struct Local<T> {
     ghost waits: { WaitsIn place.me.0.sizes.slots place.me.0.waits bags × (bags.due ≡ None) },
 }
 
+/// Turns the bags by one, and reclaims what is due then. Where nothing waits there is nothing to turn.
+fn rotate_and_reclaim<T: Holds>(
+    words: &Words<T>,
+    place: &mut Place<T>,
+    sizes: &Sizes,
+    number: usize,
+    bags: &mut Bags,
+)
+    requires table { FitsSizes words.now.table_id words.now.key.sizes place.old.table_id place.old.me.0.sizes sizes.now × (number < sizes.now.participants) }
+    requires ready { IsAtRest number place.old.me.0 × (place.old.me.0.filling ≡ None) }
+    requires waits { (ws : List Garbage) × (place.old.me.0.waits ≡ older_waits ws) × WaitsIn sizes.now.slots ws bags.old }
+    requires done { bags.old.due ≡ None }
+    ensures seat { (place.new.table_id ≡ place.old.table_id) × (place.new.id ≡ place.old.id) }
+    ensures reclaimed { (k : ℕ) × (ws : List Garbage) × (place.new.me ≡ (record place.old.me.0 { slot = k; waits = ws }, place.old.me.1)) }
+    ensures waits { WaitsIn sizes.now.slots place.new.me.0.waits bags.new }
+    ensures bags { bags.new.due ≡ None }
+{
+    if !bags.has_some() {
+        return;
+    }
+    bags.rotate();
+    reclaim_due(words, place, sizes, number, bags);
+}
+
 /// Behind a publication: turns the bags if the count isn't the one that was found before, and reclaims what is due then.
 pub(crate) fn turn<T: Holds>(
     words: &Words<T>,
@@ -88,8 +112,7 @@ pub(crate) fn turn<T: Holds>(
     if own.previous == epoch {
         return;
     }
-    bags.rotate();
-    reclaim_due(words, place, sizes, number, bags);
+    rotate_and_reclaim(words, place, sizes, number, bags);
     own.garbage = bags.has_some();
     own.published = epoch;
     own.previous = epoch;
