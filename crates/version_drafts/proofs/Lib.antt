@@ -7,3 +7,4 @@ pub mod RunLemmas
 pub mod RangeLemmas
 pub mod SpanLemmas
 pub mod StretchLemmas
+pub mod TakenLemmas

@@ -108,6 +108,12 @@ module _ {K V N : Type 0} where
       pub closed : length c.tail.pairs ≡ 0 → 0 < c.row.last → s < c.row.last + length block
       pub opened : 0 < length c.tail.pairs → s < length c.tail.pairs + length block
 
+    -- the older segments from one place up to another were put behind parts, by their names
+    pub record TakesStretch (blocks : List (List (K × V))) (from upto : ℕ) (items items' : List (Part K V N)) : Type 0 where
+      pub names : List N
+      pub are : map named names ≡ between from upto blocks
+      pub behind : items' ≡ items ++ map parts.Taken names
+
   -- a segment of so many pairs fits into one with what is last
   abbrev pub Joins : ℕ → ℕ → SegmentBuilder K V N → Type 0
   Joins s n c = ((length c.tail.pairs ≡ 0) × (0 < c.row.last) × (c.row.last + n ≤ s)) ⊎ ((0 < length c.tail.pairs) × (length c.tail.pairs + n ≤ s))

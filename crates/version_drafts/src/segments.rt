@@ -4,7 +4,7 @@ ghost use Rattle.std.specs.Prelude.{◌≡◌, ◌≤◌, ◌<◌, ◌+◌, ◌-
 ghost use Rattle.leaf_array.specs.Pairs.{IsAscending};
 ghost use Rattle.leaf_array.specs.Values.{ClonesAreSame};
 ghost use Rattle.version_views.specs.Cuts.{IsCut, IsSeparated, greatest_key, pairs_in};
-ghost use Rattle.version_drafts.specs.Cutting.{IsClosing, IsCutting, IsSegmentRow, OfBlock, StaysApart, between, given_pairs, room_spent, trees};
+ghost use Rattle.version_drafts.specs.Cutting.{IsClosing, IsCutting, IsSegmentRow, StaysApart, TakesStretch, between, given_pairs, room_spent, trees};
 ghost use Rattle.version_drafts.specs.Parts.{HasMadeTree, blocks_of_parts, made_in};
 
 use crate::draft::BaseVersion;
@@ -182,28 +182,6 @@ pub(crate) fn push<
     }
 }
 
-/// Takes a segment of the older version over, whose keys are above all that were given.
-fn take<K: Clone + Ord + Drop, V: Clone + Drop, N: Drop, O: BaseVersion<K, V, N>, const S: usize>(
-    out: &mut SegmentBuilder<K, V, N>,
-    old: &O,
-    place: usize,
-) -> Result<(), AllocError>
-    requires keys { ClonesAreSame K.is_clone }
-    requires values { ClonesAreSame V.is_clone }
-    requires separated { IsSeparated (O.blocks old.now) (O.separators old.now) }
-    requires whole { IsCutting (O.named old.now) K.cmp S (O.blocks old.now) out.old }
-    requires apart { StaysApart (O.named old.now) K.cmp S (O.blocks old.now) place out.old }
-    ensures whole { OnOk result (IsCutting (O.named old.now) K.cmp S (O.blocks old.now) out.new) }
-    ensures pairs { OnOk result ((b : List (K × V)) → slice_get (O.blocks old.now) place ≡ Some b → given_pairs (O.named old.now) out.new ≡ given_pairs (O.named old.now) out.old ++ b) }
-    ensures trees { OnOk result (trees out.new ≡ trees out.old) }
-    ensures last { OnOk result ((b : List (K × V)) → slice_get (O.blocks old.now) place ≡ Some b → out.new.row.last ≡ length b) }
-    ensures tail { OnOk result (out.new.tail.pairs ≡ []) }
-{
-    seal::<K, V, N, O, S>(out, old)?;
-    take_over::<K, V, N, O, S>(out, old, place)?;
-    Ok(())
-}
-
 /// Takes the segments of the older version from one place up to another over, whose keys are above all that were given. No
 /// key is compared.
 pub(crate) fn take_stretch<
@@ -226,62 +204,63 @@ pub(crate) fn take_stretch<
     ensures trees { OnOk result (trees out.new ≡ trees out.old) }
     ensures last { OnOk result ((b : List (K × V)) → Some b ≡ slice_get (O.blocks old.now) (upto - 1) → out.new.row.last ≡ length b) }
 {
-    take::<K, V, N, O, S>(out, old, from)?;
-    for place in from + 1..upto {
-        take_next::<K, V, N, O, S>(out, old, place)?;
-    }
-    Ok(())
-}
-
-/// Takes a segment of the older version over where no tree is open.
-#[inline(always)]
-fn take_next<K: Clone + Ord + Drop, V: Drop, N: Drop, O: BaseVersion<K, V, N>, const S: usize>(
-    out: &mut SegmentBuilder<K, V, N>,
-    old: &O,
-    place: usize,
-) -> Result<(), AllocError>
-    requires keys { ClonesAreSame K.is_clone }
-    requires separated { IsSeparated (O.blocks old.now) (O.separators old.now) }
-    requires whole { IsCutting (O.named old.now) K.cmp S (O.blocks old.now) out.old }
-    requires apart { StaysApart (O.named old.now) K.cmp S (O.blocks old.now) place out.old }
-    requires none { out.old.tail.pairs ≡ [] }
-    ensures whole { OnOk result (IsCutting (O.named old.now) K.cmp S (O.blocks old.now) out.new) }
-    ensures pairs { OnOk result ((b : List (K × V)) → slice_get (O.blocks old.now) place ≡ Some b → given_pairs (O.named old.now) out.new ≡ given_pairs (O.named old.now) out.old ++ b) }
-    ensures trees { OnOk result (trees out.new ≡ trees out.old) }
-    ensures last { OnOk result ((b : List (K × V)) → slice_get (O.blocks old.now) place ≡ Some b → out.new.row.last ≡ length b) }
-    ensures tail { OnOk result (out.new.tail.pairs ≡ []) }
-{
-    take_over::<K, V, N, O, S>(out, old, place)?;
-    Ok(())
-}
-
-/// Puts a segment of the older version behind those that are done.
-#[inline(always)]
-fn take_over<K: Clone + Ord + Drop, V: Drop, N: Drop, O: BaseVersion<K, V, N>, const S: usize>(
-    out: &mut SegmentBuilder<K, V, N>,
-    old: &O,
-    place: usize,
-) -> Result<(), AllocError>
-    requires keys { ClonesAreSame K.is_clone }
-    requires separated { IsSeparated (O.blocks old.now) (O.separators old.now) }
-    requires within { place < length (O.blocks old.now) }
-    ensures part { OnOk result ((name : N) × (Some (O.named old.now name) ≡ slice_get (O.blocks old.now) place) × (out.new.row.parts.items ≡ out.old.row.parts.items ++ Part.Taken name ∷ [])) }
-    ensures separators { OnOk result (OfBlock (O.blocks old.now) place (λ b. map Some out.new.row.separators.items ≡ map Some out.old.row.separators.items ++ greatest_key b ∷ [])) }
-    ensures last { OnOk result (OfBlock (O.blocks old.now) place (λ b. (out.new.row.last ≡ length b) × (out.new.length ≡ out.old.length + length b))) }
-    ensures held { OnOk result (out.new.held ≡ Some place) }
-    ensures tail { OnOk result (out.new.tail ≡ out.old.tail) }
-{
-    let tree = old.segment(place);
-    let Some(length) = out.length.checked_add(tree.len()) else {
+    seal::<K, V, N, O, S>(out, old)?;
+    let pairs = name_stretch::<K, V, N, O>(&mut out.row.parts, old, from, upto)?;
+    let Some(length) = out.length.checked_add(pairs) else {
         return Err(AllocError);
     };
-    let key = match greatest_at::<K, V, N, O>(old, place) {
+    copy_separators::<K, V, N, O>(&mut out.row.separators, old, from, upto)?;
+    let last = upto - 1;
+    out.row.last = old.segment(last).len();
+    out.held = Some(last);
+    out.length = length;
+    Ok(())
+}
+
+/// Puts the older segments from one place up to another behind parts, by their names, and tells how many pairs they have.
+fn name_stretch<K: Ord, V, N, O: BaseVersion<K, V, N>>(
+    parts: &mut Vec<Part<K, V, N>>,
+    old: &O,
+    from: usize,
+    upto: usize,
+) -> Result<usize, AllocError>
+    requires ordered { from ≤ upto }
+    requires within { upto ≤ length (O.blocks old.now) }
+    ensures named { OnOk result (TakesStretch (O.named old.now) (O.blocks old.now) from upto parts.old.items parts.new.items) }
+    ensures pairs { IfOk result (λ n. n ≡ length (pairs_in (between from upto (O.blocks old.now)))) }
+{
+    parts.reserve(upto - from)?;
+    let mut pairs = 0usize;
+    for place in from..upto {
+        let Some(more) = pairs.checked_add(old.segment(place).len()) else {
+            return Err(AllocError);
+        };
+        pairs = more;
+        parts.push_reserved(Part::Taken(old.name(place)));
+    }
+    Ok(pairs)
+}
+
+/// Puts clones of the greatest keys of the older segments from one place up to another behind keys: a slice of the
+/// separators, and the key of the last segment.
+fn copy_separators<K: Clone + Ord + Drop, V, N, O: BaseVersion<K, V, N>>(
+    keys: &mut Vec<K>,
+    old: &O,
+    from: usize,
+    upto: usize,
+) -> Result<(), AllocError>
+    requires keys { ClonesAreSame K.is_clone }
+    requires separated { IsSeparated (O.blocks old.now) (O.separators old.now) }
+    requires some { from < upto }
+    requires within { upto ≤ length (O.blocks old.now) }
+    ensures { OnOk result (map Some keys.new.items ≡ map Some keys.old.items ++ map greatest_key (between from upto (O.blocks old.now))) }
+{
+    let last = match greatest_at::<K, V, N, O>(old, upto - 1) {
         Some(key) => key.clone()?,
         None => return Err(AllocError),
     };
-    give(&mut out.row, Part::Taken(old.name(place)), key, tree.len())?;
-    out.held = Some(place);
-    out.length = length;
+    keys.extend_from_slice(&old.separators()[from..upto - 1])?;
+    keys.push(last)?;
     Ok(())
 }
 
