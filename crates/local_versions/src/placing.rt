@@ -68,12 +68,13 @@ fn place_parts<K: Ord + Drop, V: Drop, const S: usize>(
 {
     for part in parts {
         let owner = place_part(w, part);
-        owners.push(owner).unwrap();
+        owners.push_reserved(owner);
     }
     owners
 }
 
 /// Places a new segment, or takes one over.
+#[inline(always)]
 fn place_part<K: Ord + Drop, V: Drop, const S: usize>(
     w: &mut World<Item<K, V, S>, NoJob>,
     part: Part<K, V, Loaded<Item<K, V, S>>>,
@@ -90,6 +91,7 @@ fn place_part<K: Ord + Drop, V: Drop, const S: usize>(
 }
 
 /// One more owner of a segment that is there.
+#[inline(always)]
 fn take_over<K: Ord + Drop, V: Drop, const S: usize>(
     w: &mut World<Item<K, V, S>, NoJob>,
     at: Loaded<Item<K, V, S>>,
@@ -105,7 +107,9 @@ fn take_over<K: Ord + Drop, V: Drop, const S: usize>(
     }
 }
 
-/// Places a segment where a slot is free.
+/// Places a segment where a slot is free. There are few of them, and the others are many: so it stands apart, and the loop
+/// over all stays short.
+#[inline(never)]
 fn place_segment<K: Ord + Drop, V: Drop, const S: usize>(
     w: &mut World<Item<K, V, S>, NoJob>,
     tree: Segment<K, V>,

@@ -28,6 +28,12 @@ place_part-owner-requires g c =
       (omega (arith, free, made, sum), takeable_still c.args.w.now _ c.loop-part.w _ _ i.stands rest part still (All-head (IsTakeable c.args.w.now) part rest there)),
     )
 
+pub push_reserved-requires : goal.push_reserved-requires
+push_reserved-requires g c =
+    let i = c.loop-part.invariant in
+    let step = rw c.in-Some.is at c.next.ensures.steps in
+    omega (arith, i.room, ap length step.0, c.loop-part.owners.ok.0)
+
 pub loop-part-preserved : goal.loop-part-preserved
 loop-part-preserved g c =
     let i = c.loop-part.invariant in
@@ -38,7 +44,7 @@ loop-part-preserved g c =
     let part = c.in-Some.part in
     let yielded = c.loop-part.yielded in
     let rest = into_iter_items c.next.new.self in
-    let pushed : c.push.new.self.items ≡ owners ++ owner ∷ [] = rw c.unwrap.ensures at c.push.ensures.items in
+    let pushed = c.push_reserved.ensures.items in
     let names = ap (map kept_slot) pushed ∙ map-append kept_slot owners (owner ∷ []) in
     let there = subst (All (IsTakeable u)) step.0 i.there in
     let here = All-head (IsTakeable u) part rest there in
@@ -57,7 +63,7 @@ loop-part-preserved g c =
       whole = append_assoc yielded (part ∷ []) rest ∙ ap (λ r. yielded ++ r) (sym step.0) ∙ i.whole;
       counted = omega (arith, step.1, i.counted, ap length step.0);
       stands = subst (λ xs. StandsIn (made_in (yielded ++ part ∷ [])) xs (blocks_of_parts (named_at (value_at u)) (yielded ++ part ∷ [])) u c.place_part-owner.new.w) (sym names) (subst (λ bs. StandsIn (made_in (yielded ++ part ∷ [])) (map kept_slot owners ++ kept_slot owner ∷ []) bs u c.place_part-owner.new.w) (sym blocks) (subst (λ m. StandsIn m (map kept_slot owners ++ kept_slot owner ∷ []) (blocks_of_parts (named_at (value_at u)) yielded ++ part_pairs (named_at (value_at u)) part ∷ []) u c.place_part-owner.new.w) (sym made) stands));
-      room = omega (arith, i.room, more, ap length step.0, c.push.ensures.capacity);
+      room = omega (arith, i.room, more, ap length step.0, c.push_reserved.ensures.capacity);
       free = (let free = i.free in omega (arith, free, before, after, left, sum));
       once = once_rest u _ c.loop-part.w _ _ i.stands rest part once here;
       there = behind;
