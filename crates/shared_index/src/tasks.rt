@@ -58,8 +58,8 @@ pub struct Ran<A> {
 /// Why no task was run.
 #[derive(Clone, Copy, Debug, PartialEq, Eq, Error)]
 pub enum RunCause {
-    /// There are more than 2^30 slots or tasks.
-    #[error("there are more than 2^30 slots or tasks")]
+    /// There are more than 2^30 slots, or 2^30 tasks or more.
+    #[error("there are more than 2^30 slots, or 2^30 tasks or more")]
     Sizes,
     /// There is no memory for the place, its participants, or what is kept for each task.
     #[error("memory was refused")]
