@@ -92,8 +92,8 @@ pub use sdd_plain::{Nested, NoSlot, Sizes};
 pub use serial_history::Part;
 pub use shared_index::{
     BaseList, Book, Ended, FeedRefused, Naming, NewRefused, Participant, Ran, RunCause, RunRefused,
-    Share, SharedBaseCause, SharedBaseRefused, SharedIndex, SharedReading, Task, join_over,
-    run_tasks,
+    Share, SharedBaseCause, SharedBaseRefused, SharedIndex, SharedReading, Task, TransactRefused,
+    Transacted, join_over, run_tasks,
 };
 pub use shared_sessions::{OpenRefused, SharedNearby, SharedSession, SharedWalk};
 pub use shared_versions::{Node, Present};

@@ -1,7 +1,8 @@
 //! The settings, those who read them and the one who changes them.
 
 use ordered_index::{
-    Answer, Audit, Naming, Participant, Query, Ran, Receipt, Share, SharedIndex, Task, Write,
+    Answer, Audit, Naming, Participant, Query, Ran, Receipt, Recorded, Share, SharedIndex, Task,
+    Write,
 };
 use std::alloc::{AllocError, Global};
 use std::sync::Wait;
@@ -94,7 +95,22 @@ fn read_both<L: Naming>(member: &mut Member<'_, '_, L>, at_least: u64) -> Option
     }
 }
 
-/// Reads both settings in a session, and commits one more of each on its receipt: it is refused if either was changed since.
+/// One more of each setting than the first was read to be.
+fn one_more(
+    alloc: Global,
+    reads: &[Recorded<u64, u64>],
+) -> Result<Vec<Write<u64, u64>>, AllocError> {
+    let number = match reads {
+        [(_, Answer::Get(Some(number))), ..] => number.wrapping_add(1),
+        _ => 1,
+    };
+    Ok(vec![in alloc;
+        Write::Upsert(WORKERS, number),
+        Write::Upsert(WAITING, number),
+    ]?)
+}
+
+/// Reads both settings, and commits one more of each. Where either was changed since, it reads them again, nine times at most.
 /// True if it is accepted.
 fn raised<L: Naming, R: Wait>(
     rt: &R,
@@ -102,20 +118,9 @@ fn raised<L: Naming, R: Wait>(
     member: &mut Member<'_, '_, L>,
     share: &mut Share<L>,
 ) -> bool {
-    let Some((workers, _, receipt)) = read_both(member, 0) else {
-        return false;
-    };
-    let number = match workers {
-        Answer::Get(Some(number)) => number.wrapping_add(1),
-        _ => 1,
-    };
-    let Ok(writes) = vec![in alloc;
-        Write::Upsert(WORKERS, number),
-        Write::Upsert(WAITING, number),
-    ] else {
-        return false;
-    };
-    member.index().commit(rt, share, &receipt, writes).is_ok()
+    let queries = [Query::Get(WORKERS), Query::Get(WAITING)];
+    let told = member.transact(rt, share, &queries, 9, |reads| one_more(alloc, reads));
+    told.is_ok()
 }
 
 /// A hundred commits, each of which raises both settings.

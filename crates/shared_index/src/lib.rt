@@ -26,6 +26,7 @@ mod reading;
 mod share;
 mod sharing;
 mod tasks;
+mod transact;
 
 pub use book::feed::FeedRefused;
 pub use book::from_base::{BaseList, SharedBaseCause, SharedBaseRefused};
@@ -37,3 +38,4 @@ pub use reading::SharedReading;
 pub use share::Share;
 pub use sharing::join_over;
 pub use tasks::{Ended, Ran, RunCause, RunRefused, Task, run_tasks};
+pub use transact::{TransactRefused, Transacted};

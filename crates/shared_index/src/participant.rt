@@ -110,14 +110,15 @@ impl<'i, 'd, L: Naming, K: Clone + Ord, V: Clone + Eq, const S: usize> Participa
         Ok(SharedReading { participant: self })
     }
 
-    // Opens a session, where none is open.
-    fn open(&mut self, at_least: u64) -> Result<(), OpenRefused>
+    /// Opens a session, where none is open. Refused, none is.
+    pub(crate) fn open(&mut self, at_least: u64) -> Result<(), OpenRefused>
         requires { self.old ≡ None }
         ensures opened { OnOk result (IsSome self.new) }
         ensures number { OnOk result (at_least ≤ (reads_in self.new).number) }
         ensures blank { OnOk result ((reads_in self.new).reads ≡ []) }
         ensures never { ¬ IsErrOf result OpenRefused.Nested }
         ensures earlier { IfErr result (IsBelow at_least) }
+        ensures refused { OnErr result (self.new ≡ None) }
     {
         let Participant {
             index,

@@ -30,4 +30,6 @@ mod tasks;
 #[cfg(test)]
 mod threads;
 #[cfg(test)]
+mod transact;
+#[cfg(test)]
 mod walks;

@@ -1,6 +1,7 @@
 //! Participants and readers that end by themselves, and tasks over an index.
 
 use crate::place::ROOM;
+use crate::transact::raised;
 use serial_history::{Answer, Audit, Cause, Query, Receipt, Refused};
 use shared_index::{
     Ended, Naming, Participant, Ran, RunCause, RunRefused, Share, SharedIndex, SharedReading, Task,
@@ -9,6 +10,7 @@ use shared_index::{
 use shared_sessions::{OpenRefused, SharedNearby};
 use std::alloc::Global;
 use std::ops::Bound;
+use std::process::Abort;
 use std::sync::Wait;
 use std::test::Fail;
 use std::thread::Threads;
@@ -27,6 +29,8 @@ enum Work {
     Looks(Global, Option<Found>),
     /// Counts a key of its own up to a number.
     Counts(Global, u64, u64),
+    /// Raises key 1 so often, by transactions that are tried a hundred times at most.
+    Raises(Global, u32),
     /// Does nothing.
     Rests,
 }
@@ -57,6 +61,7 @@ impl Task<u64, u64> for Work {
         match self {
             Work::Looks(alloc, found) => *found = looked(rt, *alloc, index, share),
             Work::Counts(alloc, key, upto) => counted(rt, *alloc, index, share, *key, *upto),
+            Work::Raises(alloc, count) => raised_often(rt, *alloc, index, share, *count),
             Work::Rests => {}
         }
     }
@@ -92,6 +97,24 @@ fn counted<L: Naming, R: Wait>(
     let none = Receipt::blank(alloc);
     for number in 1..=upto {
         let _refused = wrote(rt, alloc, index, share, &none, Write::Upsert(key, number));
+        index.reclaim(rt);
+    }
+}
+
+/// So many transactions, each of which raises key 1.
+fn raised_often<L: Naming, R: Wait>(
+    rt: &R,
+    alloc: Global,
+    index: &Index<'_, L>,
+    share: &mut Share<L>,
+    count: u32,
+) {
+    let Ok(mut member) = index.participant() else {
+        return;
+    };
+    for _turn in 0..count {
+        let queries = [Query::Get(1)];
+        let _told = member.transact(rt, share, &queries, 99, |reads| raised(alloc, reads));
         index.reclaim(rt);
     }
 }
@@ -266,6 +289,37 @@ fn tasks_run_beside_each_other_and_come_back_in_order(rt: HostRuntime) -> Result
     assert_eq!(rt; number, 80);
     assert_eq!(rt; commits(ended.as_slice()), [50, 0, 30]);
     Ok(())
+}
+
+#[test]
+fn tasks_raise_one_key_by_transactions(rt: HostRuntime) -> Result<(), Fail> {
+    let alloc = rt.alloc();
+    let tasks = vec![in alloc; Work::Raises(alloc, 50), Work::Raises(alloc, 50)]?;
+    let Ok(Ran { ended, number }) = ran(&rt, alloc, 512, tasks) else {
+        panic!(rt; "{ROOM}");
+    };
+    // a try conflicts only where the other task's commit was accepted, which makes fifty
+    assert_eq!(rt; (ended.len(), number), (2, 100));
+    Ok(())
+}
+
+/// Two tasks, which aren't run only for want of memory, and are back then.
+fn run_two<R: Threads + Wait + Abort + Sync>(rt: &R, alloc: Global) {
+    let Ok(tasks) = vec![in alloc; Work::Rests, Work::Raises(alloc, 2)] else {
+        return;
+    };
+    match ran(rt, alloc, 64, tasks) {
+        Ok(Ran { ended, number }) => assert!(rt; ended.len() == 2 && number <= 2),
+        Err(RunRefused { cause, tasks }) => {
+            assert!(rt; cause == RunCause::Memory && tasks.len() == 2)
+        }
+    }
+}
+
+// (this passes whichever allocation is refused)
+#[test]
+fn a_refusal_of_memory_gives_the_tasks_back(rt: HostRuntime) {
+    run_two(&rt, rt.alloc());
 }
 
 /// Why one task isn't run in a place of so many slots, and how many tasks are back.
