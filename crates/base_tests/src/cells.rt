@@ -82,7 +82,8 @@ impl<'r, R: Abort, J: Deferred> Stage<'r, R, J> {
             | Step::TagIfFull(at, _) => at,
             Step::SwapOwned(at, owner, tag) => return self.swap_owned(at, owner, tag),
             Step::LoadOwned(at, to) => return self.load_owned(at, to),
-            Step::TakeOwned(at, to, seen) => return self.take_owned(at, to, seen),
+            Step::TakeOwned(at, to, seen) => return self.take_owned(at, to, seen, false),
+            Step::TakeOwnedWeakly(at, to, seen) => return self.take_owned(at, to, seen, true),
             _ => return self.of_shared_cells(step),
         };
         let cell = self.owned_cell(at);
@@ -128,7 +129,7 @@ impl<'r, R: Abort, J: Deferred> Stage<'r, R, J> {
     }
 
     /// Exchanges what is seen in a cell for nothing: whether that was there.
-    fn take_owned(&mut self, at: usize, to: usize, seen: usize) -> Found {
+    fn take_owned(&mut self, at: usize, to: usize, seen: usize, weak: bool) -> Found {
         let rt = self.rt;
         let current = match self.take(seen) {
             Thing::Seen(current) => current,
@@ -138,9 +139,12 @@ impl<'r, R: Abort, J: Deferred> Stage<'r, R, J> {
         let cell = self.owned_cell(at);
         let nothing = (None, Tag::Both);
         let w = &mut self.w;
-        let (taken, was) = match world::atomic_owned::compare_exchange(
-            w, &cell, current, nothing, &guard,
-        ) {
+        let exchanged = if weak {
+            world::atomic_owned::compare_exchange_weak(w, &cell, current, nothing, &guard)
+        } else {
+            world::atomic_owned::compare_exchange(w, &cell, current, nothing, &guard)
+        };
+        let (taken, was) = match exchanged {
             Ok((taken, _)) => (taken, true),
             Err((back, _)) => (back, false),
         };
@@ -153,16 +157,24 @@ impl<'r, R: Abort, J: Deferred> Stage<'r, R, J> {
     /// A step with a cell that keeps one of the owners of an item.
     fn of_shared_cells(&mut self, step: Step) -> Found {
         let at = match step {
-            Step::IsNullShared(at) | Step::TagOfShared(at) | Step::CloneCell(at, _) => at,
+            Step::IsNullShared(at)
+            | Step::TagOfShared(at)
+            | Step::TagSharedIfFull(at, _)
+            | Step::CloneCell(at, _) => at,
             Step::SwapShared(at, owner, tag) => return self.swap_shared(at, owner, tag),
             Step::LoadShared(at, to) => return self.load_shared(at, to),
-            Step::TakeShared(at, to, seen) => return self.take_shared(at, to, seen),
+            Step::TakeShared(at, to, seen) => return self.take_shared(at, to, seen, false),
+            Step::TakeSharedWeakly(at, to, seen) => return self.take_shared(at, to, seen, true),
             _ => return self.of_raw(step),
         };
         let cell = self.shared_cell(at);
         let found = match step {
             Step::IsNullShared(_) => told(world::atomic_shared::is_null(&self.w, &cell)),
             Step::TagOfShared(_) => Found::Tagged(world::atomic_shared::tag(&self.w, &cell)),
+            Step::TagSharedIfFull(_, tag) => {
+                let full = |seen: Ptr<'_, u64>| !seen.is_null();
+                told(world::atomic_shared::update_tag_if(&mut self.w, &cell, tag, full))
+            }
             Step::CloneCell(_, to) => self.clone_cell(&cell, to),
             _ => Found::Nothing,
         };
@@ -210,7 +222,7 @@ impl<'r, R: Abort, J: Deferred> Stage<'r, R, J> {
     }
 
     /// Exchanges what is seen in a cell for nothing: whether that was there.
-    fn take_shared(&mut self, at: usize, to: usize, seen: usize) -> Found {
+    fn take_shared(&mut self, at: usize, to: usize, seen: usize, weak: bool) -> Found {
         let rt = self.rt;
         let current = match self.take(seen) {
             Thing::Seen(current) => current,
@@ -220,9 +232,12 @@ impl<'r, R: Abort, J: Deferred> Stage<'r, R, J> {
         let cell = self.shared_cell(at);
         let nothing = (None, Tag::Both);
         let w = &mut self.w;
-        let (taken, was) = match world::atomic_shared::compare_exchange(
-            w, &cell, current, nothing, &guard,
-        ) {
+        let exchanged = if weak {
+            world::atomic_shared::compare_exchange_weak(w, &cell, current, nothing, &guard)
+        } else {
+            world::atomic_shared::compare_exchange(w, &cell, current, nothing, &guard)
+        };
+        let (taken, was) = match exchanged {
             Ok((taken, _)) => (taken, true),
             Err((back, _)) => (back, false),
         };

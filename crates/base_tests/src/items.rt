@@ -91,6 +91,23 @@ const HANDED_BACK: Table = Table {
     ],
 };
 
+const OUT: Table = Table {
+    about: "a world is handed back while an owner or a cell is out, and nothing waits then",
+    sizes: [2, 2, 1, 0],
+    parts: &[
+        Once(&[(Own(A, 5), Done), (Own(B, 6), Done), (Retire(B, 1), Done)]),
+        HandBack,
+        Once(&[
+            (Slots, Is(1)),
+            (ReadOwned(A), Is(5)),
+            (Retire(A, 0), Done),
+            (NullSharedCell(A), Done),
+        ]),
+        HandBack,
+        Once(&[(Slots, Is(0)), (EndCell(A, 0), Done)]),
+    ],
+};
+
 const KEPT: Table = Table {
     about: "a kept owner reads its item and is given back",
     sizes: [2, 2, 0, 0],
@@ -122,6 +139,7 @@ const TABLES: &[Table] = &[
     BACK,
     NOT_MADE,
     HANDED_BACK,
+    OUT,
     KEPT,
 ];
 

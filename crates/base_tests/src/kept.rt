@@ -4,10 +4,12 @@ use crate::play::plays;
 use crate::steps::Found::{self, Done, Is, No, NoSlot, Null, Tagged, Yes};
 use crate::steps::Part::Once;
 use crate::steps::Step::{
-    Close, EndCell, ExchangeRaw, FromRaw, IntoRaw, IsNullOwned, IsNullRaw, IsNullShared, IsOut,
-    Link, LinkNull, LoadOwned, LoadRaw, LoadShared, NullRawCell, Open, Own, OwnedCell, ReadOwned,
-    Release, Retag, Retire, See, SharedCell, Slots, StoreRaw, SwapOwned, SwapRaw, TagIfFull,
-    TagIfMarked, TagOfOwned, TagOfRaw, TagOfShared, TakeOwned, TakeShared, Untag, UpdateRaw,
+    Claim, CloneCell, Close, EndCell, ExchangeRaw, FromRaw, IntoRaw, IsNullOwned, IsNullRaw,
+    IsNullShared, IsOut, KeepOwned, KeepShared, Link, LinkNull, LoadOwned, LoadRaw, LoadShared,
+    NullRawCell, NullSharedCell, Open, Own, OwnedCell, ReadOwned, ReadShared, Release, Retag,
+    Retire, See, Share, SharedCell, Slots, StoreRaw, SwapOwned, SwapRaw, TagIfFull, TagIfMarked,
+    TagOfOwned, TagOfRaw, TagOfShared, TagSharedIfFull, TakeOwned, TakeOwnedWeakly, TakeShared,
+    TakeSharedWeakly, Untag, UpdateRaw,
 };
 use crate::steps::{A, B, C, D, G, Point, Table};
 use sdd_world::{Job, Tag};
@@ -46,6 +48,9 @@ const OWNED_IS_COMPARED: Table = Table {
         (LoadOwned(A, D), Done),
         (Retag(D, Tag::Second), Done),
         (TakeOwned(A, C, D), No),
+        (LoadOwned(A, D), Done),
+        (Retag(D, Tag::Second), Done),
+        (TakeOwnedWeakly(A, C, D), No),
         (IsNullOwned(A), No),
         (TagOfOwned(A), Tagged(Tag::None)),
         (LoadOwned(A, D), Done),
@@ -83,15 +88,60 @@ const SHARED_IS_COMPARED: Table = Table {
         (LoadShared(A, D), Done),
         (Retag(D, Tag::First), Done),
         (TakeShared(A, B, D), No),
+        (LoadShared(A, D), Done),
+        (Retag(D, Tag::First), Done),
+        (TakeSharedWeakly(A, B, D), No),
         (IsNullShared(A), No),
         (TagOfShared(A), Tagged(Tag::None)),
         (LoadShared(A, D), Done),
-        (TakeShared(A, B, D), Yes),
+        (TakeSharedWeakly(A, B, D), Yes),
         (IsNullShared(A), Yes),
+        (TagOfShared(A), Tagged(Tag::Both)),
+        (TagSharedIfFull(A, Tag::Second), No),
         (TagOfShared(A), Tagged(Tag::Both)),
         (EndCell(A, 0), Done),
         (Close(G), Done),
         (Release(B, 0), Yes),
+    ])],
+};
+
+const NO_CELL: Table = Table {
+    about: "an owner comes back where the one cell is in use",
+    sizes: [2, 3, 1, 0],
+    parts: &[Once(&[
+        (Open(G, 0), Done),
+        (SharedCell(A, 1), Done),
+        (Own(B, 2), Done),
+        (KeepOwned(B), NoSlot),
+        (ReadOwned(B), Is(2)),
+        (Share(C, 3), Done),
+        (KeepShared(C), NoSlot),
+        (ReadShared(C), Is(3)),
+        (CloneCell(A, D), NoSlot),
+        (IsNullShared(A), No),
+        (Slots, Is(3)),
+        (Retire(B, 0), Done),
+        (Release(C, 0), Yes),
+        (EndCell(A, 0), Done),
+        (Close(G), Done),
+    ])],
+};
+
+const NOTHING_TO_SHARE: Table = Table {
+    about: "nothing, and an item of one owner, have no further owner",
+    sizes: [2, 1, 1, 0],
+    parts: &[Once(&[
+        (Open(G, 0), Done),
+        (NullSharedCell(A), Done),
+        (LoadShared(A, D), Done),
+        (Claim(D, B), No),
+        (Own(C, 5), Done),
+        (See(C, G, D), Done),
+        (Claim(D, B), No),
+        (ReadOwned(C), Is(5)),
+        (Retire(C, 0), Done),
+        (EndCell(A, 0), Done),
+        (Close(G), Done),
     ])],
 };
 
@@ -162,6 +212,8 @@ const TABLES: &[Table] = &[
     OWNED_IS_COMPARED,
     TAG_IS_UPDATED,
     SHARED_IS_COMPARED,
+    NO_CELL,
+    NOTHING_TO_SHARE,
     LINKED,
     OUT_ONCE,
     OF_RAW_POINTERS,

@@ -107,9 +107,13 @@ pub(crate) enum Step {
     /// at the third one: whether it did.
     TakeOwned(usize, usize, usize),
     TakeShared(usize, usize, usize),
+    /// The same by the weak exchange.
+    TakeOwnedWeakly(usize, usize, usize),
+    TakeSharedWeakly(usize, usize, usize),
     /// Gives the cell this tag where it has the tag `First`, and where it keeps something: whether it did.
     TagIfMarked(usize, Tag),
     TagIfFull(usize, Tag),
+    TagSharedIfFull(usize, Tag),
     /// Ends a cell, and gives what it kept back by a participant.
     EndCell(usize, usize),
 

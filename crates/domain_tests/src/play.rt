@@ -185,6 +185,7 @@ const TABLES: &[Table] = &[
     shares::LENT,
     shares::LENT_BESIDE,
     shares::CLONED,
+    shares::NO_CELL,
     shares::MADE,
     shares::SHARED_BY_THREADS,
     clones::BY_THREADS,

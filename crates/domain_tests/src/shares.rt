@@ -171,6 +171,19 @@ pub(crate) const CLONED: Table = Table {
     ],
 };
 
+/// A cell isn't cloned where the one cell is in use.
+pub(crate) const NO_CELL: Table = Table {
+    participants: 1,
+    slots: 1,
+    cells: 1,
+    first: 0,
+    parts: &[
+        Apart(&[(Make(3), Nothing)]),
+        Under(&[(CloneCell, No)]),
+        Apart(&[(Peek, Is(3)), (Retire, Yes)]),
+    ],
+};
+
 /// A cell is made of an item where there are slots and cells.
 pub(crate) const MADE: Table = Table {
     participants: 1,
