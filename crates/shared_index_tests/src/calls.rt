@@ -12,7 +12,9 @@ use sdd_domain::domain::Domain;
 use sdd_domain::local::Local;
 use sdd_plain::sizes::Sizes;
 use serial_history::{Accepted, Answer, Audit, CheckpointRefused, Query, Receipt, Refused};
-use shared_index::{BaseList, Naming, NewRefused, Share, SharedBaseRefused, SharedIndex};
+use shared_index::{
+    BaseList, FeedRefused, Naming, NewRefused, Share, SharedBaseRefused, SharedIndex,
+};
 use shared_sessions::{OpenRefused, SharedSession};
 use std::alloc::{AllocError, Global};
 use std::process::Abort;
@@ -213,6 +215,16 @@ pub(crate) fn checkpoint<L: Naming, R: Wait, const S: usize>(
     upto: u64,
 ) -> Result<(), CheckpointRefused> {
     index.checkpoint(rt, upto)
+}
+
+/// How many transactions came behind a number.
+pub(crate) fn fed<L: Naming, R: Wait, const S: usize>(
+    rt: &R,
+    index: &Index<'_, L, S>,
+    number: u64,
+) -> Result<usize, FeedRefused> {
+    let rest = index.since(rt, number)?;
+    Ok(rest.len())
 }
 
 /// The numbers of the base and the present list, and of the slots how many are in use, and all.

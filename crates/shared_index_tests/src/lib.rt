@@ -24,6 +24,8 @@ mod place;
 #[cfg(test)]
 mod receipts;
 #[cfg(test)]
+mod refusals;
+#[cfg(test)]
 mod sharing;
 #[cfg(test)]
 mod tasks;

@@ -1,0 +1,226 @@
+//! A run in which any one allocation may be refused: nothing has changed then, and the same call succeeds.
+
+ghost use Rattle.std.specs.Prelude.{◌≡◌};
+ghost use Rattle.sdd_domain.specs.Tokens.{place_of};
+ghost use Rattle.shared_index.specs.SharedInvariant.{IsUnengaged};
+ghost use Rattle.shared_index_tests.specs.Scenes.{CanBegin};
+
+use crate::calls::{
+    Numbers, audit, based, checkpoint, commit, counted, fed, in_use, made, place, registered,
+};
+use crate::place::{Item, end, member};
+use crate::tasks::{begun, closed, place_for, put, taken};
+use sdd_domain::domain::Domain;
+use sdd_domain::local::Local;
+use sdd_domain::refusal::RegisterRefused;
+use serial_history::{
+    Accepted, Answer, Audit, Cause, CheckpointRefused, Query, Receipt, Refused, Reply,
+};
+use shared_index::{FeedRefused, Naming, NewRefused, Participant, Share};
+use std::alloc::{AllocError, Global};
+use std::marker::Brand;
+use std::process::Abort;
+use std::sync::Wait;
+use std::sync::ledger::Blank;
+use version_views::Write;
+
+const TWICE: &str = "memory was refused twice";
+
+/// A place for two participants and so many items.
+fn place_by_two<R: Abort>(rt: &R, alloc: Global) -> Domain<Item> {
+    match place(alloc, place_for(2, 16)) {
+        Ok(domain) => domain,
+        Err(AllocError) => place(alloc, place_for(2, 16)).expect(rt, TWICE),
+    }
+}
+
+fn member_by_two<R: Abort>(rt: &R, domain: &Domain<Item>) -> Local<Item>
+    ensures { IsUnengaged (place_of domain.now) result }
+{
+    match registered(domain) {
+        Some(local) => local,
+        None => member(rt, domain),
+    }
+}
+
+/// An empty index with one share; nothing is in use where memory was refused.
+fn made_by_two<'d, L: Naming, R: Abort>(
+    rt: &R,
+    alloc: Global,
+    domain: &'d Domain<Item>,
+    local: Local<Item>,
+    blank: Blank,
+) -> (Numbers<'d, L>, Vec<Share<L>>)
+    requires begins { CanBegin L.place L.name L.parts 1 domain.now local blank }
+    requires last { L.last ≡ 18446744073709551615 }
+{
+    let (local, blank) = match made(alloc, domain, local, blank, 1) {
+        Ok(made) => return made,
+        Err((local, blank, NewRefused::Memory)) => (local, blank),
+        Err((_, _, NewRefused::NoSlot)) => panic!(rt; "there is a slot and a cell"),
+    };
+    assert_eq!(rt; in_use(domain), 0);
+    begun(rt, alloc, domain, local, blank, 1)
+}
+
+fn two_writes(alloc: Global) -> Result<Vec<Write<u64, u64>>, AllocError> {
+    let writes = vec![in alloc; Write::Insert(1, 10), Write::Upsert(1, 11)]?;
+    Ok(writes)
+}
+
+/// Commits two writes of one key. Where memory was refused, they are back, and index and share are as before.
+fn commit_by_two<L: Naming, R: Wait + Abort>(
+    rt: &R,
+    alloc: Global,
+    index: &Numbers<'_, L>,
+    share: &mut Share<L>,
+    receipt: &Receipt<u64, u64>,
+) -> Accepted {
+    let before = (counted(rt, index), share.count());
+    let writes = match two_writes(alloc) {
+        Ok(writes) => writes,
+        Err(AllocError) => two_writes(alloc).expect(rt, TWICE),
+    };
+    let Refused { cause, writes } = match commit(rt, index, share, receipt, writes) {
+        Ok(accepted) => return accepted,
+        Err(refused) => refused,
+    };
+    assert!(rt; cause == Cause::Memory);
+    assert!(rt; writes.as_slice() == &[Write::Insert(1, 10), Write::Upsert(1, 11)][..]);
+    assert!(rt; (counted(rt, index), share.count()) == before);
+    match commit(rt, index, share, receipt, writes) {
+        Ok(accepted) => accepted,
+        Err(_) => panic!(rt; "{TWICE}"),
+    }
+}
+
+fn participant_by_two<'i, 'd, L: Naming, R: Abort>(
+    rt: &R,
+    index: &'i Numbers<'d, L>,
+) -> Participant<'i, 'd, L, u64, u64, 2> {
+    match index.participant() {
+        Ok(participant) => return participant,
+        Err(RegisterRefused::Memory) => {}
+        Err(RegisterRefused::Full) => panic!(rt; "a participant is free"),
+    }
+    match index.participant() {
+        Ok(participant) => participant,
+        Err(_) => panic!(rt; "{TWICE}"),
+    }
+}
+
+/// A recorded read of the key, and the receipt, which has this read alone.
+fn read_by_two<L: Naming, R: Abort>(
+    rt: &R,
+    index: &Numbers<'_, L>,
+) -> (Answer<u64, u64>, Receipt<u64, u64>) {
+    let mut participant = participant_by_two(rt, index);
+    let Ok(mut reader) = participant.reading(0) else {
+        panic!(rt; "a session is opened");
+    };
+    let answer = match reader.read(Query::Get(1)) {
+        Ok(answer) => answer,
+        Err(AllocError) => reader.read(Query::Get(1)).expect(rt, TWICE),
+    };
+    (answer, reader.close())
+}
+
+fn audit_by_two<L: Naming, R: Wait + Abort>(
+    rt: &R,
+    index: &Numbers<'_, L>,
+    receipt: &Receipt<u64, u64>,
+) -> Audit {
+    match audit(rt, index, receipt) {
+        Ok(found) => found,
+        Err(AllocError) => audit(rt, index, receipt).expect(rt, TWICE),
+    }
+}
+
+/// How many transactions came behind the first list.
+fn fed_by_two<L: Naming, R: Wait + Abort>(rt: &R, index: &Numbers<'_, L>) -> usize {
+    match fed(rt, index, 1) {
+        Ok(count) => count,
+        Err(why) => {
+            assert!(rt; why == FeedRefused::Memory);
+            fed(rt, index, 1).expect(rt, TWICE)
+        }
+    }
+}
+
+/// Makes the first list the base, and gives its pair. The base is the one before where memory was refused.
+fn base_by_two<L: Naming, R: Wait + Abort>(rt: &R, index: &Numbers<'_, L>) -> Option<(u64, u64)> {
+    if let Err(why) = checkpoint(rt, index, 1) {
+        assert!(rt; why == CheckpointRefused::Memory);
+        assert!(rt; counted(rt, index).0 == (0, 2));
+    }
+    let (told, list) = based(rt, index, 1);
+    assert!(rt; told.is_ok());
+    let list = match list {
+        Ok(list) => list,
+        Err(AllocError) => based(rt, index, 1).1.expect(rt, TWICE),
+    };
+    list.pairs.as_slice().first().copied()
+}
+
+/// What is found: what two commits tell, the answer of a recorded read and how many its receipt has, what an audit of it says
+/// before the first list is the base and afterwards, how many transactions came behind that list, its pair, and the number.
+type Found = (
+    [Accepted; 2],
+    (Answer<u64, u64>, usize),
+    [Audit; 2],
+    usize,
+    Option<(u64, u64)>,
+    u64,
+);
+
+/// An index that is made, written, read, written again, asked about what was read, and based on its first list.
+fn used<L: Naming, R: Wait + Abort>(
+    rt: &R,
+    alloc: Global,
+    domain: &Domain<Item>,
+    local: Local<Item>,
+    blank: Blank,
+) -> Found
+    requires begins { CanBegin L.place L.name L.parts 1 domain.now local blank }
+    requires last { L.last ≡ 18446744073709551615 }
+{
+    let (index, mut shares) = made_by_two::<L, R>(rt, alloc, domain, local, blank);
+    let mut share = taken(rt, &mut shares);
+    let first = commit_by_two(rt, alloc, &index, &mut share, &Receipt::blank(alloc));
+    let (answer, receipt) = read_by_two(rt, &index);
+    let second = commit_by_two(rt, alloc, &index, &mut share, &receipt);
+    let replayed = audit_by_two(rt, &index, &receipt);
+    let rest = fed_by_two(rt, &index);
+    let pair = base_by_two(rt, &index);
+    let kept = audit_by_two(rt, &index, &receipt);
+    put(rt, &mut shares, share);
+    let number = closed(rt, domain, index, shares);
+    let read = (answer, receipt.reads.as_slice().len());
+    ([first, second], read, [replayed, kept], rest, pair, number)
+}
+
+/// Whether a commit tells this.
+fn is_told(accepted: &Accepted, number: u64, replies: [Reply; 2]) -> bool {
+    accepted.number == number && accepted.replies.as_slice() == &replies[..]
+}
+
+/// Whether all was found as it is to be, whatever was refused.
+fn is_right(found: &Found) -> bool {
+    let (commits, read, audits, rest, pair, number) = found;
+    is_told(&commits[0], 1, [Reply::Inserted, Reply::Upserted])
+        && is_told(&commits[1], 2, [Reply::Duplicate, Reply::Upserted])
+        && *read == (Answer::Get(Some(11)), 1)
+        && *audits == [Audit::Yes, Audit::Yes]
+        && (*rest, *pair, *number) == (1, Some((1, 11)), 2)
+}
+
+// (this passes whichever allocation is refused)
+#[test]
+fn a_refusal_of_memory_changes_nothing(rt: HostRuntime) {
+    let alloc = rt.alloc();
+    let domain = place_by_two(&rt, alloc);
+    let local = member_by_two(&rt, &domain);
+    let found = used::<Brand, _>(&rt, alloc, &domain, local, Blank::new(1));
+    end(&rt, domain);
+    assert!(rt; is_right(&found));
+}
