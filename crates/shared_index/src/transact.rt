@@ -48,8 +48,8 @@ impl<'i, 'd, L: Naming, K: Clone + Ord, V: Clone + Eq, const S: usize> Participa
     S,
 > {
     /// Reads, and commits what `plan` makes of the answers: it is given the queries with their answers, in order. Where the commit
-    /// conflicts, all of this is tried again, so often at most, each time by a new session on the present list. The share counts
-    /// it if it is accepted.
+    /// conflicts, all of this is tried again, at most `retries` times, each time by a new session on the present list. The share
+    /// counts it if it is accepted.
     ///
     /// It is refused as `Commit`, with the cause and the writes, where the last try's commit is refused; or where one is refused
     /// for another cause than a conflict, which isn't tried again. It is refused as `Memory` where there is none for what is read, or
