@@ -7,14 +7,14 @@ use Rattle.sdd_homes.specs.declared.Owner.{Owner}
 use Rattle.domain_table.specs.Bags.{IsBag}
 use Rattle.domain_table.specs.Chains.{AllBelow}
 use Rattle.domain_table.specs.declared.board.Acting.{Acting}
-use Rattle.domain_garbage.specs.declared.private.Kept.{Kept}
+use Rattle.domain_garbage.specs.declared.private.NotedChain.{NotedChain}
 
 -- an item in one is told by its slot and its note
 abbrev pub garbage_told : Garbage → ℕ × ℕ
 garbage_told w = (w.slot, w.age)
 
 -- these items are in the bag: they are its chain, and have these notes
-pub record IsKept (n : ℕ) (ws : List Garbage) (k : Kept) : Type 0 where
+pub record IsKept (n : ℕ) (ws : List Garbage) (k : NotedChain) : Type 0 where
   pub chain : IsBag ws k.chain
   pub notes : k.notes ≡ map (λ (w : Garbage). w.age) ws
   pub below : AllBelow n ws

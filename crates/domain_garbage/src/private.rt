@@ -42,17 +42,17 @@ pub struct Noted {
 
 /// What is in a private bag: where its chain begins and ends, and the notes along it.
 #[derive(Drop)]
-pub struct Kept {
+pub struct NotedChain {
     chain: Option<Ends>,
     notes: Notes,
 }
 
-impl Kept {
+impl NotedChain {
     /// Nothing.
-    pub fn new() -> Kept
+    pub fn new() -> NotedChain
         ensures { (n : ℕ) → IsKept n [] result }
     {
-        Kept {
+        NotedChain {
             chain: None,
             notes: Notes::new(),
         }
@@ -135,7 +135,7 @@ pub fn hand_all<T, H: Holding<T>>(
     words: &Words<T, H>,
     place: &mut Place<T>,
     sizes: &Sizes,
-    kept: Kept,
+    kept: NotedChain,
     bags: &mut Bags,
 )
     requires table { FitsSizes words.now.table_id words.now.key.sizes place.old.table_id place.old.me.0.sizes sizes.now }
@@ -157,7 +157,7 @@ pub fn take_due<T, H: Holding<T>>(
     words: &Words<T, H>,
     place: &mut Place<T>,
     sizes: &Sizes,
-    kept: &mut Kept,
+    kept: &mut NotedChain,
     count: u64,
 ) -> Option<usize>
     requires table { FitsSizes words.now.table_id words.now.key.sizes place.old.table_id place.old.me.0.sizes sizes.now }
@@ -184,7 +184,7 @@ fn keep<T, H: Holding<T>>(
     words: &Words<T, H>,
     place: &mut Place<T>,
     sizes: &Sizes,
-    kept: &mut Kept,
+    kept: &mut NotedChain,
     noted: Noted,
 )
     requires table { FitsSizes words.now.table_id words.now.key.sizes place.old.table_id place.old.me.0.sizes sizes.now × (noted.slot < sizes.now.slots) }
@@ -238,7 +238,7 @@ pub fn put_in<T, H: Holding<T>>(
     sizes: &Sizes,
     number: usize,
     rows: &mut VecDeque<Row<T>>,
-    kept: &mut Kept,
+    kept: &mut NotedChain,
     noted: Noted,
     owner: One<Stored<T>>,
 ) -> bool

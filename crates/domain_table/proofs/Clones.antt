@@ -11,7 +11,7 @@ use Rattle.sdd_steps.specs.declared.item.Item.{Item}
 use Rattle.sdd_steps.specs.declared.item.ItemState.TheVariants.{Live, Due}
 use Rattle.sdd_steps.specs.declared.step.Step.TheVariants.{RaiseOwners}
 use Rattle.sdd_steps.specs.State.{Has, with_item, participant_is, item_is}
-use Rattle.sdd_steps.specs.Steps.{Steps, is_ready, is_live}
+use Rattle.sdd_steps.specs.Steps.{LeadsTo, is_ready, is_live}
 use Rattle.sdd_steps.proofs.Enabling.{participant_passes, item_passes, item_read}
 use Rattle.sdd_steps.proofs.CountLemmas.{points_self, points_other}
 use Rattle.sdd_homes.specs.declared.Lease.{Lease}
@@ -63,7 +63,7 @@ module _ (S : Type 0) (IsIn : Content → S → Type 0) (plan : Plan) where
     alive : it.state ≡ Live
     alive = let o = owners_are in (r.kept.0.owned l.item it f.here).is_live (omega arith)
 
-    raises : Steps r.state (RaiseOwners p l.item) (with_item r.state l.item (raised it))
+    raises : LeadsTo r.state (RaiseOwners p l.item) (with_item r.state l.item (raised it))
     raises = let o = owners_are in (
       and_true (participant_is is_ready r.state p) (item_is (λ q. is_live q.state && nat_lt q.owners (2 ^ 32 - 1)) r.state l.item) (participant_passes is_ready r.state p d.known (r.epochs.seats id d at kind).is ready)
           (item_passes (λ q. is_live q.state && nat_lt q.owners (2 ^ 32 - 1)) r.state l.item it f.here (and_true (is_live it.state) (nat_lt it.owners (2 ^ 32 - 1)) (ap is_live alive) (lt-ltb it.owners (2 ^ 32 - 1) (omega arith)))),

@@ -18,7 +18,7 @@ use Rattle.sdd_steps.specs.declared.step.Step.{Step}
 use Rattle.sdd_steps.specs.declared.step.Step.TheVariants.{LoadCell, LoadInHand}
 use Rattle.sdd_steps.specs.State as steps
 use Rattle.sdd_steps.specs.State.{At, Has, item_at, cell_is, participant_is, item_is}
-use Rattle.sdd_steps.specs.Steps.{Steps, is_inside, is_full, is_reachable, is_within, has_loose_owner, stands_alone, loaded_as, count_of, named}
+use Rattle.sdd_steps.specs.Steps.{LeadsTo, is_inside, is_full, is_reachable, is_within, has_loose_owner, stands_alone, loaded_as, count_of, named}
 use Rattle.sdd_steps.specs.Invariant.{names_of}
 use Rattle.sdd_steps.proofs.ListLemmas.{put, put_here, put_else, same_at, set_here, at_inside, at_map, find_at, has_end}
 use Rattle.sdd_steps.proofs.StepLemmas.{named_there}
@@ -56,7 +56,7 @@ abbrev after : steps.State → ℕ → ℕ → Participant → steps.State
 after s p i x = record s { participants = set s.participants p (more (loaded_as s.items i) x) }
 
 -- as what a cell names that stands by itself
-loads_cell : (s : steps.State) (p c i : ℕ) (x : Participant) → At s.participants p x → is_inside x ≡ true → (o : Cell) → At s.cells c o → o.holder ≡ None → o.names ≡ Some i → Steps s (LoadCell p c) (after s p i x)
+loads_cell : (s : steps.State) (p c i : ℕ) (x : Participant) → At s.participants p x → is_inside x ≡ true → (o : Cell) → At s.cells c o → o.holder ≡ None → o.names ≡ Some i → LeadsTo s (LoadCell p c) (after s p i x)
 loads_cell s p c i x at inside o at_c alone names = (
   and_true (participant_is is_inside s p) (cell_is (λ q. is_full q && (is_reachable s q || is_within s p q)) s c) (participant_passes is_inside s p x at inside)
       (cell_passes (λ q. is_full q && (is_reachable s q || is_within s p q)) s c o at_c
@@ -65,7 +65,7 @@ loads_cell s p c i x at inside o at_c alone names = (
 )
 
 -- as that of an owner in hand
-loads_owned : (s : steps.State) (p i : ℕ) (x : Participant) → At s.participants p x → is_inside x ≡ true → (it : Item) → At s.items i it → 0 < it.hand → Steps s (LoadInHand p i) (after s p i x)
+loads_owned : (s : steps.State) (p i : ℕ) (x : Participant) → At s.participants p x → is_inside x ≡ true → (it : Item) → At s.items i it → 0 < it.hand → LeadsTo s (LoadInHand p i) (after s p i x)
 loads_owned s p i x at inside it here loose = (
   and_true (participant_is is_inside s p) (item_is has_loose_owner s i) (participant_passes is_inside s p x at inside) (item_passes has_loose_owner s i it here (lt-ltb 0 it.hand loose)),
   λ j. record s { participants = set s.participants p (more (loaded_as s.items i) (sym (participant_read s p x at) j)) },
@@ -98,7 +98,7 @@ module _ (S : Type 0) (IsIn : Content → S → Type 0) (plan : Plan) where
 
   -- the item i is loaded by the participant of the seat, in a step that may do so
   module _ (s : State S Acting) (r : Shows IsIn plan s) (id i : ℕ) (d : Acting) (at : get_elem? s.views id ≡ some d) (kind : d.kind ≡ 1) (inside : is_inside d.known ≡ true)
-      (there : At r.state.items i (item_at r.state i) × ((item_at r.state i).state ≡ Live)) (st : Step) (runs : Steps r.state st (after r.state d.number i d.known)) where
+      (there : At r.state.items i (item_at r.state i) × ((item_at r.state i).state ≡ Live)) (st : Step) (runs : LeadsTo r.state st (after r.state d.number i d.known)) where
     abbrev p : ℕ
     p = d.number
 

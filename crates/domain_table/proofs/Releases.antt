@@ -12,7 +12,7 @@ use Rattle.sdd_steps.specs.declared.participant.Participant.{Participant}
 use Rattle.sdd_steps.specs.declared.step.Step.TheVariants.{Release, Retire, Collect}
 use Rattle.sdd_steps.specs.State as steps
 use Rattle.sdd_steps.specs.State.{At, Has, with_item, participant_is, item_is}
-use Rattle.sdd_steps.specs.Steps.{Steps, is_ready, is_inside, is_due, has_loose_owner, after_release, noted}
+use Rattle.sdd_steps.specs.Steps.{LeadsTo, is_ready, is_inside, is_due, has_loose_owner, after_release, noted}
 use Rattle.sdd_steps.proofs.Enabling.{participant_read, participant_passes, item_passes, item_read}
 use Rattle.sdd_steps.proofs.CountLemmas.{points_self, points_other}
 use Rattle.sdd_steps.proofs.ListLemmas.{put, put_here, put_else, set_here, same_at}
@@ -67,7 +67,7 @@ puts_away (Some note) s p i x a may at ready there due = taken.one s (Collect p 
 -- the release, and what is done behind it with the last owner
 pub lowers : (to : Option ℕ) (s : steps.State) (p i : ℕ) (x : Participant) (it : Item) → MayNote to x → At s.participants p x → is_ready x ≡ true → At s.items i it → 0 < it.hand → Runs s (with_item s i (lowered p to it))
 lowers to s p i x it may at ready here held = let a : Item = after_release p it in let m = with_item s i a in
-    let released : Steps s (Release p i) m = (
+    let released : LeadsTo s (Release p i) m = (
       and_true (participant_is is_ready s p) (item_is has_loose_owner s i) (participant_passes is_ready s p x at ready) (item_passes has_loose_owner s i it here (lt-ltb 0 it.hand held)),
       λ j. with_item s i (after_release p (sym (item_read s i it here) j)),
     ) in dite (ℕ_discrete (it.owners - 1) 0)

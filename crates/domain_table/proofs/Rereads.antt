@@ -8,7 +8,7 @@ use Rattle.sdd_steps.specs.declared.participant.Phase.TheVariants.{Idle, HasRead
 use Rattle.sdd_steps.specs.declared.participant.Participant.{Participant}
 use Rattle.sdd_steps.specs.declared.step.Step.TheVariants.{Reread}
 use Rattle.sdd_steps.specs.State.{with_participant}
-use Rattle.sdd_steps.specs.Steps.{Steps, is_inside, is_opened_phase, count_of}
+use Rattle.sdd_steps.specs.Steps.{LeadsTo, is_inside, is_opened_phase, count_of}
 use Rattle.sdd_steps.proofs.Enabling.{participant_read, participant_passes}
 use Rattle.sdd_homes.specs.Book.{Content}
 use Rattle.domain_table.specs.Layout.{count_word}
@@ -33,7 +33,7 @@ module _ (S : Type 0) (IsIn : Content → S → Type 0) (plan : Plan) where
   pub rereads : (slots id : ℕ) (me : Me S Acting) → me.0.kind ≡ 1 → is_inside me.0.known ≡ true → Allows (Shows IsIn plan) slots id me count_word (λ k. k) (reread_then (step slots count_word 0 0 none) me)
   rereads slots id me kind inside s r _ at _ = let d = me.0 in let a = r.epochs.seats id d at kind in let x = d.known in let p = d.number in let k : ℕ = get_or s.words 0 0 in
       let x' : Participant = record x { reread = Some r.state.count } in let core = with_participant r.state p x' in let d' : Acting = record d { known = rereading k x } in
-      let taken_now : Steps r.state (Reread p) core = (participant_passes is_inside r.state p x a.is inside, λ j. with_participant r.state p (record (sym (participant_read r.state p x a.is) j) { reread = Some r.state.count })) in (
+      let taken_now : LeadsTo r.state (Reread p) core = (participant_passes is_inside r.state p x a.is inside, λ j. with_participant r.state p (record (sym (participant_read r.state p x a.is) j) { reread = Some r.state.count })) in (
         d',
         keeps,
         tt,

@@ -13,7 +13,7 @@ use Rattle.sdd_steps.specs.declared.item.Cell.{Cell}
 use Rattle.sdd_steps.specs.declared.step.Step.TheVariants.{SwapCell}
 use Rattle.sdd_steps.specs.State as steps
 use Rattle.sdd_steps.specs.State.{At, Has, times, cell_at, cell_is, participant_is}
-use Rattle.sdd_steps.specs.Steps.{Steps, is_ready, is_reachable, is_within, is_offered, has_loose_owner, stands_alone, emptied, filled}
+use Rattle.sdd_steps.specs.Steps.{LeadsTo, is_ready, is_reachable, is_within, is_offered, has_loose_owner, stands_alone, emptied, filled}
 use Rattle.sdd_steps.specs.Invariant.{names_of, points}
 use Rattle.sdd_steps.proofs.Enabling.{participant_passes, cell_passes, item_passes}
 use Rattle.sdd_homes.specs.declared.Owner.{Owner}
@@ -75,7 +75,7 @@ offered s (Some i) h = let t = h i refl in item_passes has_loose_owner s i t.0 t
 
 -- a cell that stands by itself is swapped by a participant that is ready, which has what it brings in hand
 pub swaps_step : (s : steps.State) (p c : ℕ) (new : Option ℕ) (x : Participant) → At s.participants p x → is_ready x ≡ true → (o : Cell) → At s.cells c o → o.holder ≡ None → ((i : ℕ) → new ≡ Some i → (it : Item) × At s.items i it × (0 < it.hand))
-    → Steps s (SwapCell p c new) (swapped_state s c new)
+    → LeadsTo s (SwapCell p c new) (swapped_state s c new)
 swaps_step s p c new x at ready o at_c alone there = (
   and_true (participant_is is_ready s p && cell_is (λ q. is_reachable s q || is_within s p q) s c) (is_offered s new)
       (and_true (participant_is is_ready s p) (cell_is (λ q. is_reachable s q || is_within s p q) s c) (participant_passes is_ready s p x at ready)

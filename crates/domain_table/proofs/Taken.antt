@@ -11,7 +11,7 @@ use Rattle.sdd_steps.specs.declared.item.ItemState.TheVariants.{Live, Due, Retir
 use Rattle.sdd_steps.specs.declared.step.Step.{Step}
 use Rattle.sdd_steps.specs.declared.step.Step.TheVariants.{ReadEpoch, Publish, Rotate, Look, Raise, Close, End, LookShut, Settle}
 use Rattle.sdd_steps.specs.State.{State, At, Has, has, with_participant, participant_at, participant_is}
-use Rattle.sdd_steps.specs.Steps.{Steps, Schedule, is_opened_phase, is_idle, is_reading, is_turning, is_inside, is_shut, is_reading_phase, agrees, count_of, all_looked, older, settled_by, left_by, is_due, none_due}
+use Rattle.sdd_steps.specs.Steps.{LeadsTo, Schedule, is_opened_phase, is_idle, is_reading, is_turning, is_inside, is_shut, is_reading_phase, agrees, count_of, all_looked, older, settled_by, left_by, is_due, none_due}
 use Rattle.sdd_steps.specs.Invariant.{Inv}
 use Rattle.sdd_steps.proofs.Law.{keeps}
 use Rattle.domain_table.specs.Rule.{Runs}
@@ -72,17 +72,17 @@ module _ (s : State) (p : ℕ) (x : Participant) (at : At s.participants p x) wh
   read : participant_at s p ≡ x
   read = participant_read s p x at
 
-  pub reads : x.phase ≡ Idle → Steps s (ReadEpoch p) (with_participant s p (record x { phase = HasRead s.count }))
+  pub reads : x.phase ≡ Idle → LeadsTo s (ReadEpoch p) (with_participant s p (record x { phase = HasRead s.count }))
   reads is = (participant_passes is_idle s p x at (ap Rattle.sdd_steps.specs.Steps.is_idle_phase is), λ j. with_participant s p (record (sym read j) { phase = HasRead s.count }))
 
-  pub publishes : (e : ℕ) → x.phase ≡ HasRead e → Steps s (Publish p) (with_participant s p (record x { phase = Opened e; reread = None; looked = []; loaded = [] }))
+  pub publishes : (e : ℕ) → x.phase ≡ HasRead e → LeadsTo s (Publish p) (with_participant s p (record x { phase = Opened e; reread = None; looked = []; loaded = [] }))
   publishes e is = (
     participant_passes is_reading s p x at (ap Rattle.sdd_steps.specs.Steps.is_reading_phase is),
     (λ j. with_participant s p (record x { phase = Opened (ap count_of (sym is) j); reread = None; looked = []; loaded = [] }))
         ∙ (λ j. with_participant s p (record (sym read j) { phase = Opened (count_of (sym read j).phase); reread = None; looked = []; loaded = [] })),
   )
 
-  pub rotates : (e : ℕ) → x.phase ≡ Opened e → e ≢ x.found → Steps s (Rotate p) (record s { participants = set s.participants p (record x { found = e }); items = map (older p) s.items })
+  pub rotates : (e : ℕ) → x.phase ≡ Opened e → e ≢ x.found → LeadsTo s (Rotate p) (record s { participants = set s.participants p (record x { found = e }); items = map (older p) s.items })
   rotates e is differs = (
     participant_passes is_turning s p x at (and_true (is_opened_phase x.phase) (not (count_of x.phase == x.found)) (ap is_opened_phase is) (ap not (ne_eqb (count_of x.phase) x.found (λ h. differs (sym (ap count_of is) ∙ h))))),
     (λ j. record s { participants = set s.participants p (record x { found = ap count_of (sym is) j }); items = map (older p) s.items })
@@ -90,7 +90,7 @@ module _ (s : State) (p : ℕ) (x : Participant) (at : At s.participants p x) wh
   )
 
   pub looks : (e q : ℕ) (y : Participant) → x.phase ≡ Opened e → e ≡ x.found → q ≢ p → At s.participants q y → ((m : ℕ) → y.phase ≡ Opened m → m ≡ s.count)
-      → Steps s (Look p q) (with_participant s p (record x { looked = x.looked ++ q ∷ [] }))
+      → LeadsTo s (Look p q) (with_participant s p (record x { looked = x.looked ++ q ∷ [] }))
   looks e q y is found other at_q agree = (
     and_true (participant_is is_inside s p && not (q == p)) (participant_is (agrees s.count) s q)
         (and_true (participant_is is_inside s p) (not (q == p)) (participant_passes is_inside s p x at (inside x e is found)) (ap not (ne_eqb q p other)))
@@ -98,7 +98,7 @@ module _ (s : State) (p : ℕ) (x : Participant) (at : At s.participants p x) wh
     λ j. with_participant s p (record (sym read j) { looked = (sym read j).looked ++ q ∷ [] }),
   )
 
-  pub looks_shut : (e q : ℕ) (y : Participant) → x.phase ≡ HasRead e → q ≢ p → At s.participants q y → ((m : ℕ) → y.phase ≢ Opened m) → Steps s (LookShut p q) (with_participant s p (record x { looked = x.looked ++ q ∷ [] }))
+  pub looks_shut : (e q : ℕ) (y : Participant) → x.phase ≡ HasRead e → q ≢ p → At s.participants q y → ((m : ℕ) → y.phase ≢ Opened m) → LeadsTo s (LookShut p q) (with_participant s p (record x { looked = x.looked ++ q ∷ [] }))
   looks_shut e q y is other at_q none = (
     and_true (participant_is is_reading s p && not (q == p)) (participant_is is_shut s q)
         (and_true (participant_is is_reading s p) (not (q == p)) (participant_passes is_reading s p x at (ap is_reading_phase is)) (ap not (ne_eqb q p other)))
@@ -106,7 +106,7 @@ module _ (s : State) (p : ℕ) (x : Participant) (at : At s.participants p x) wh
     λ j. with_participant s p (record (sym read j) { looked = (sym read j).looked ++ q ∷ [] }),
   )
 
-  pub settles : (e : ℕ) → x.phase ≡ HasRead e → 3 ≤ e → ((q : ℕ) → q < length s.participants → q ≢ p → Has x.looked q) → Steps s (Settle p) (record s { participants = set s.participants p (record x { found = e }); items = map (settled_by p) s.items })
+  pub settles : (e : ℕ) → x.phase ≡ HasRead e → 3 ≤ e → ((q : ℕ) → q < length s.participants → q ≢ p → Has x.looked q) → LeadsTo s (Settle p) (record s { participants = set s.participants p (record x { found = e }); items = map (settled_by p) s.items })
   settles e is three all = (
     participant_passes (λ z. is_reading z && nat_le 3 (count_of z.phase) && all_looked p z.looked (length s.participants)) s p x at
         (and_true (is_reading x && nat_le 3 (count_of x.phase)) (all_looked p x.looked (length s.participants))
@@ -116,7 +116,7 @@ module _ (s : State) (p : ℕ) (x : Participant) (at : At s.participants p x) wh
   )
 
   pub raises : x.phase ≡ Opened s.count → s.count ≡ x.found → ((q : ℕ) → q < length s.participants → q ≢ p → Has x.looked q) → s.count < 2 ^ 64 - 1
-      → Steps s (Raise p) (record s { count = s.count + 1 })
+      → LeadsTo s (Raise p) (record s { count = s.count + 1 })
   raises is found all below = (
     and_true (participant_is (λ z. is_inside z && (count_of z.phase == s.count) && all_looked p z.looked (length s.participants)) s p) (nat_lt s.count (2 ^ 64 - 1))
         (participant_passes (λ z. is_inside z && (count_of z.phase == s.count) && all_looked p z.looked (length s.participants)) s p x at
@@ -125,11 +125,11 @@ module _ (s : State) (p : ℕ) (x : Participant) (at : At s.participants p x) wh
     refl,
   )
 
-  pub closes : (e : ℕ) → x.phase ≡ Opened e → e ≡ x.found → Steps s (Close p) (with_participant s p (record x { phase = Idle; reread = None; looked = []; loaded = [] }))
+  pub closes : (e : ℕ) → x.phase ≡ Opened e → e ≡ x.found → LeadsTo s (Close p) (with_participant s p (record x { phase = Idle; reread = None; looked = []; loaded = [] }))
   closes e is found = (participant_passes is_inside s p x at (inside x e is found), λ j. with_participant s p (record (sym read j) { phase = Idle; reread = None; looked = []; loaded = [] }))
 
   -- nothing is due to it
-  pub ends : x.phase ≡ Idle → ((i : ℕ) (it : Item) → At s.items i it → it.state ≢ Due p) → Steps s (End p) (record s { participants = set s.participants p (record x { found = 0 }); items = map (left_by p) s.items })
+  pub ends : x.phase ≡ Idle → ((i : ℕ) (it : Item) → At s.items i it → it.state ≢ Due p) → LeadsTo s (End p) (record s { participants = set s.participants p (record x { found = 0 }); items = map (left_by p) s.items })
   ends is none = (
     and_true (participant_is is_idle s p) (none_due p s.items) (participant_passes is_idle s p x at (ap Rattle.sdd_steps.specs.Steps.is_idle_phase is)) (none_are_due p s.items none),
     λ j. record s { participants = set s.participants p (record (sym read j) { found = 0 }); items = map (left_by p) s.items },
@@ -140,7 +140,7 @@ chained : (s m t : State) (list later : List Step) → Schedule s list m → Sch
 chained s m t [] later h k = subst (λ z. Schedule z later t) h k
 chained s m t (a ∷ list) later h k = (h.0, h.1, chained h.0 m t list later h.2 k)
 
-pub one : (s : State) (a : Step) (t : State) → Steps s a t → Runs s t
+pub one : (s : State) (a : Step) (t : State) → LeadsTo s a t → Runs s t
 one s a t h = (a ∷ [], (t, h, refl))
 
 pub goes_on : (s m t : State) → Runs s m → Runs m t → Runs s t

@@ -11,7 +11,7 @@ use crate::local::Local;
 use crate::reclaiming::sweep;
 use crate::shared::Shared;
 use domain_garbage::private::{
-    Kept, Noted, flag_waiting, hand_all, new_bag, part_bag, put_in, reread, take_bag,
+    NotedChain, Noted, flag_waiting, hand_all, new_bag, part_bag, put_in, reread, take_bag,
 };
 use domain_table::board::Acting;
 use domain_table::owners::take_in;
@@ -23,7 +23,7 @@ use std::alloc::AllocError;
 /// consumed by `hand_over`: until then nobody else reclaims what is in it, and its place isn't closed.
 pub struct PrivateCollector {
     pub(crate) sizes: Sizes,
-    pub(crate) kept: Kept,
+    pub(crate) kept: NotedChain,
     pub(crate) seat: Calm<Acting>,
     ghost at: { seat.badge.views ≡ gathering (bag_in seat.badge.views) ∷ [] },
     ghost told: { IsKept sizes.slots (bag_in seat.badge.views) kept },
@@ -45,7 +45,7 @@ impl PrivateCollector {
         let seat = new_bag(domain.words());
         Ok(PrivateCollector {
             sizes,
-            kept: Kept::new(),
+            kept: NotedChain::new(),
             seat,
         })
     }

@@ -20,7 +20,7 @@ ghost use Rattle.sdd_domain.specs.Collecting.{CanRelease, GivesUpUnder, IsSweptO
 use crate::board::{Told, Words};
 use crate::held::Held;
 use crate::holds::Holds;
-use domain_garbage::private::{Kept, give_back, take_due};
+use domain_garbage::private::{NotedChain, give_back, take_due};
 use domain_garbage::reclaiming::{reclaim, reclaim_noted};
 use domain_table::aim::Retire;
 use domain_table::bags::Bags;
@@ -141,7 +141,7 @@ pub(crate) fn sweep<T: Holds>(
     number: usize,
     rows: &mut VecDeque<Row<T>>,
     bags: &mut Bags,
-    kept: &mut Kept,
+    kept: &mut NotedChain,
     count: u64,
 )
     requires table { FitsSizes words.now.table_id words.now.key.sizes place.old.table_id place.old.me.0.sizes sizes.now × (number < sizes.now.participants) }

@@ -10,7 +10,7 @@ use Rattle.sdd_steps.specs.declared.item.Cell.{Cell}
 use Rattle.sdd_steps.specs.declared.step.Step.{Step}
 use Rattle.sdd_steps.specs.declared.step.Step.TheVariants.{ReadEpoch, Publish, Rotate, LoadCell, LoadInHand, ReadSegment, SwapCell, Release, Retire, Collect, Look, Raise, Reclaim, GiveUp, GiveUpCell, Close, Place, RaiseOwners, Reread, End, TakeOver, LookShut, Settle}
 use Rattle.sdd_steps.specs.State.{State, At, Has, has, participant_at, cell_at, item_at, participant_is, cell_is, item_is, newcomer, empty_cell, no_item, start}
-use Rattle.sdd_steps.specs.Steps.{enabled, after, Steps, Schedule, is_idle, is_reading, is_turning, is_inside, is_ready, has_loose_owner, is_full, is_live, is_due, is_reclaimed, is_left, is_reclaimable, is_offered, is_reachable, is_within, is_shut, agrees, all_looked, all_have_loose_owners, all_alone, none_due, holder_is, count_of, named, let_go, emptied, filled, seen, with_state}
+use Rattle.sdd_steps.specs.Steps.{enabled, after, LeadsTo, Schedule, is_idle, is_reading, is_turning, is_inside, is_ready, has_loose_owner, is_full, is_live, is_due, is_reclaimed, is_left, is_reclaimable, is_offered, is_reachable, is_within, is_shut, agrees, all_looked, all_have_loose_owners, all_alone, none_due, holder_is, count_of, named, let_go, emptied, filled, seen, with_state}
 use Rattle.sdd_steps.specs.Invariant.{AllOwnersCounted, Facts, Guarded, Standing, Inv, Safe, names_of}
 use Rattle.sdd_steps.specs.Snapshots.{CanAge, HasRoom}
 use Rattle.sdd_steps.proofs.ListLemmas.{both, at_inside, at_mapped, at_replicate, find_at, get_at, has_map, read_or}
@@ -92,7 +92,7 @@ module _ (s : State) (i : Inv s) where
       let u = both (is_reading x && nat_le 3 (count_of x.phase)) all t.1 in let v = both (is_reading x) (nat_le 3 (count_of x.phase)) u.0 in
       settles s k b n f p (count_of x.phase) x t.0 (reading_is x.phase v.0) (leb-true 3 (count_of x.phase) v.1) (looked_is p x.looked (length s.participants) u.1)
 
-pub keeps : (s : State) (a : Step) (t : State) → Steps s a t → Inv s → Inv t
+pub keeps : (s : State) (a : Step) (t : State) → LeadsTo s a t → Inv s → Inv t
 keeps s a t h i = subst Inv (sym h.1) (kept_after s i a h.0)
 
 pub starts : (participants cells : ℕ) → Inv (start participants cells)

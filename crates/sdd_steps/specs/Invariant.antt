@@ -11,7 +11,7 @@ use Rattle.sdd_steps.specs.declared.item.Item.{Item}
 use Rattle.sdd_steps.specs.declared.item.Cell.{Cell}
 use Rattle.sdd_steps.specs.declared.step.Step.{Step}
 use Rattle.sdd_steps.specs.State.{State, At, Has, one_if_same, times, start}
-use Rattle.sdd_steps.specs.Steps.{Steps, Schedule, seen}
+use Rattle.sdd_steps.specs.Steps.{LeadsTo, Schedule, seen}
 
 -- How often cells name the item i, and how often items hold it, half reclaimed ones with what they still hold
 abbrev pub points : ℕ → Option ℕ → ℕ
@@ -99,7 +99,7 @@ Safe s = (p : ℕ) (x : Participant) (e : ℕ) (h : Loaded) → At s.participant
 
 -- What the laws say
 abbrev pub StepsKeep : Type 0
-StepsKeep = (s : State) (a : Step) (t : State) → Steps s a t → Inv s → Inv t
+StepsKeep = (s : State) (a : Step) (t : State) → LeadsTo s a t → Inv s → Inv t
 
 abbrev pub StartKeeps : Type 0
 StartKeeps = (participants cells : ℕ) → Inv (start participants cells)

@@ -318,10 +318,10 @@ after s (LookShut p q) = with_participant s p (record (participant_at s p) { loo
 after s (Settle p) = record s { participants = set s.participants p (record (participant_at s p) { found = count_of (participant_at s p).phase }); items = map (settled_by p) s.items }
 
 -- the step a leads from s to t
-abbrev pub Steps : State → Step → State → Type 0
-Steps s a t = (enabled s a ≡ true) × (t ≡ after s a)
+abbrev pub LeadsTo : State → Step → State → Type 0
+LeadsTo s a t = (enabled s a ≡ true) × (t ≡ after s a)
 
 -- the steps of a list, one after the other, lead from s to t
 abbrev pub Schedule : State → List Step → State → Type 0
 Schedule s [] t = t ≡ s
-Schedule s (a ∷ later) t = (m : State) × Steps s a m × Schedule m later t
+Schedule s (a ∷ later) t = (m : State) × LeadsTo s a m × Schedule m later t

@@ -2,7 +2,7 @@
 
 ghost use Rattle.std.specs.Prelude.{◌≡◌, ◌<◌, ◌≤◌, ◌^◌, false, true, length, IfOk, MatchOption};
 ghost use Rattle.sdd_steps.specs.State.{start};
-ghost use Rattle.sdd_steps.specs.Steps.{enabled, Steps};
+ghost use Rattle.sdd_steps.specs.Steps.{enabled, LeadsTo};
 ghost use Rattle.sdd_steps.specs.Invariant.{Safe};
 ghost use Rattle.sdd_steps.specs.Snapshots.{snapshot_state};
 
@@ -114,7 +114,7 @@ impl State {
 /// }
 /// ```
 pub fn apply(alloc: Global, state: &State, step: Step) -> Result<Option<State>, AllocError>
-    ensures { IfOk result (λ o. MatchOption o (enabled state.now step ≡ false) (λ t. Steps state.now step t)) }
+    ensures { IfOk result (λ o. MatchOption o (enabled state.now step ≡ false) (λ t. LeadsTo state.now step t)) }
 {
     if !state.snapshot.is_enabled(&step) {
         return Ok(None);

@@ -184,7 +184,7 @@ fn kept_open<L: Naming, R: Wait + Abort>(
 
 /// A session of the first list, kept open while others commit.
 #[derive(Clone, Copy)]
-enum Kept {
+enum Meanwhile {
     /// A hundred and one commits, of which the first one changes each pair while its walk waits behind the first.
     Waits,
     /// A thousand.
@@ -209,7 +209,7 @@ fn kept_on<L: Naming + Send + Sync, R: Threads + Wait + Abort + Sync>(
     domain: &Domain<Item>,
     local: Local<Item>,
     blank: Blank,
-    how: Kept,
+    how: Meanwhile,
     last: u64,
 ) -> Found
     requires begins { CanBegin L.place L.name L.parts 1 domain.now local blank }
@@ -219,11 +219,11 @@ fn kept_on<L: Naming + Send + Sync, R: Threads + Wait + Abort + Sync>(
     let mut share = taken(rt, &mut shares);
     let mut reader = member(rt, domain);
     let (receipt, is_first) = match how {
-        Kept::Waits => {
+        Meanwhile::Waits => {
             write(rt, alloc, &index, &mut share, inserts(rt, alloc, &THREE));
             walk_and_wait(rt, alloc, &index, &mut reader, &mut share)
         }
-        Kept::Reads => {
+        Meanwhile::Reads => {
             write(rt, alloc, &index, &mut share, inserts(rt, alloc, &TEN));
             kept_open(rt, alloc, &index, &mut reader, &mut share)
         }
@@ -243,7 +243,7 @@ fn in_a_place<R: Threads + Wait + Abort + Sync>(
     rt: &R,
     alloc: Global,
     slots: u16,
-    how: Kept,
+    how: Meanwhile,
     last: u64,
 ) -> Found {
     let domain = place(alloc, place_for(2, usize::from(slots))).expect(rt, ROOM);
@@ -271,7 +271,7 @@ const AFTER_THE_WALK: [(u64, u64); 11] = [
 #[test]
 fn a_walk_that_waits_for_a_commit_goes_on_in_its_list(rt: HostRuntime) {
     // 1 slot for the empty version, 7 for the first commit, 9 for the second, and 3 for each other one
-    let found = in_a_place(&rt, rt.alloc(), 512, Kept::Waits, 102);
+    let found = in_a_place(&rt, rt.alloc(), 512, Meanwhile::Waits, 102);
     let (is_first, read, audit, list, count, number) = found;
     assert!(rt; list == range(&rt, rt.alloc(), AFTER_THE_WALK));
     assert!(rt; is_first && audit == Ok(Audit::Yes));
@@ -295,7 +295,7 @@ const AFTER_A_THOUSAND: [(u64, u64); 10] = [
 #[test]
 fn a_session_is_kept_over_a_thousand_commits(rt: HostRuntime) {
     // 1 slot for the empty version, 21 for the first commit, and 3 for each other one
-    let found = in_a_place(&rt, rt.alloc(), 4096, Kept::Reads, 1001);
+    let found = in_a_place(&rt, rt.alloc(), 4096, Meanwhile::Reads, 1001);
     let (is_first, read, audit, list, count, number) = found;
     assert!(rt; list == range(&rt, rt.alloc(), AFTER_A_THOUSAND));
     assert!(rt; is_first && audit == Ok(Audit::Yes));

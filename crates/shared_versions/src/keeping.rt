@@ -5,7 +5,7 @@ ghost use Rattle.std.specs.List.{All, AllPairs};
 ghost use Rattle.sdd_domain.specs.Tokens.{place_of, home_of, hand_of};
 ghost use Rattle.shared_versions.specs.Placing.{AreApart, IsKeptSegment, IsNewIn, IsStill, IsToKeep, IsWithinKept, moved_from, owner_of, pairs_kept, pairs_kept_at, pairs_to_keep, without};
 
-use crate::kept::{Kept, release_kept};
+use crate::kept::{WriterOwner, release_kept};
 use crate::node::Node;
 use crate::owners::let_go;
 use sdd_domain::domain::Domain;
@@ -26,8 +26,8 @@ pub(crate) enum ToKeep<K: Ord, V> {
 pub(crate) fn keep_all<K: Ord + Drop, V: Drop>(
     domain: &Domain<Node<K, V>>,
     mut to_keep: Vec<ToKeep<K, V>>,
-    kept: &mut Vec<Kept<K, V>>,
-    room: Vec<Kept<K, V>>,
+    kept: &mut Vec<WriterOwner<K, V>>,
+    room: Vec<WriterOwner<K, V>>,
     local: &mut Local<Node<K, V>>,
 )
     requires home { home_of local.old ≡ place_of domain.now }
@@ -50,7 +50,7 @@ pub(crate) fn keep_all<K: Ord + Drop, V: Drop>(
 }
 
 /// The owner to be kept: an older one is moved out of its place.
-fn moved<K: Ord, V>(to_keep: ToKeep<K, V>, older: &mut Vec<Kept<K, V>>) -> Kept<K, V>
+fn moved<K: Ord, V>(to_keep: ToKeep<K, V>, older: &mut Vec<WriterOwner<K, V>>) -> WriterOwner<K, V>
     requires { IsWithinKept (length older.old.items) to_keep }
     ensures owner { result ≡ owner_of older.old.items to_keep }
     ensures left { older.new.items ≡ without to_keep older.old.items }

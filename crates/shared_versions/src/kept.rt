@@ -13,12 +13,12 @@ use sdd_domain::shared::Shared;
 use std::mem;
 
 /// An owner of a segment. It is out while it is being cloned, and once it was moved.
-pub(crate) type Kept<K, V> = Option<Shared<Node<K, V>>>;
+pub(crate) type WriterOwner<K, V> = Option<Shared<Node<K, V>>>;
 
 /// One more owner of the segment at this place; none where it can't have one more, which is a miss.
 pub(crate) fn clone_at<K: Ord + Drop, V: Drop>(
     domain: &Domain<Node<K, V>>,
-    kept: &mut Vec<Kept<K, V>>,
+    kept: &mut Vec<WriterOwner<K, V>>,
     place: usize,
     local: &mut Local<Node<K, V>>,
 ) -> Option<Shared<Node<K, V>>>
@@ -68,7 +68,7 @@ fn clone_segment<K: Ord + Drop, V: Drop>(
 /// Releases the owners of segments that are left.
 pub(crate) fn release_kept<K: Ord + Drop, V: Drop>(
     domain: &Domain<Node<K, V>>,
-    mut kept: Vec<Kept<K, V>>,
+    mut kept: Vec<WriterOwner<K, V>>,
     local: &mut Local<Node<K, V>>,
 )
     requires home { home_of local.old ≡ place_of domain.now }

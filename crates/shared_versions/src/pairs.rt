@@ -10,7 +10,7 @@ ghost use Rattle.shared_versions.specs.Nodes.{OwnsSegment, owned_pairs};
 ghost use Rattle.shared_versions.specs.Placing.{IsKeptSegment, IsSegmentOf, IsStill, IsStillButMisses, IsToKeep, moved_from, pairs_kept, pairs_kept_at, pairs_owned, pairs_to_keep};
 
 use crate::keeping::{ToKeep, release_new};
-use crate::kept::{Kept, clone_at};
+use crate::kept::{WriterOwner, clone_at};
 use crate::node::Node;
 use crate::owners::{let_go, place_two};
 use sdd_domain::domain::Domain;
@@ -52,7 +52,7 @@ fn place_segment<K: Ord + Drop, V: Drop>(
 fn owner_for<K: Ord + Drop, V: Drop>(
     domain: &Domain<Node<K, V>>,
     part: Part<K, V, usize>,
-    kept: &mut Vec<Kept<K, V>>,
+    kept: &mut Vec<WriterOwner<K, V>>,
     local: &mut Local<Node<K, V>>,
 ) -> Option<(Shared<Node<K, V>>, ToKeep<K, V>)>
     requires home { home_of local.old ≡ place_of domain.now }
@@ -90,7 +90,7 @@ pub(crate) fn all_owners<K: Ord + Drop, V: Drop>(
     mut parts: Vec<Part<K, V, usize>>,
     mut owners: Vec<Shared<Node<K, V>>>,
     mut to_keep: Vec<ToKeep<K, V>>,
-    kept: &mut Vec<Kept<K, V>>,
+    kept: &mut Vec<WriterOwner<K, V>>,
     local: &mut Local<Node<K, V>>,
 ) -> Option<(Vec<Shared<Node<K, V>>>, Vec<ToKeep<K, V>>)>
     requires home { home_of local.old ≡ place_of domain.now }

@@ -10,7 +10,7 @@ ghost use Rattle.shared_versions.specs.Readers.{HasWidth};
 
 use crate::building::Draft;
 use crate::keeping::{keep_all, release_new};
-use crate::kept::{Kept, release_kept};
+use crate::kept::{WriterOwner, release_kept};
 use crate::lending::view_of;
 use crate::node::{Node, Version};
 use crate::owners::{let_go, place_two, take_back};
@@ -34,7 +34,7 @@ use version_views::{Directory, VersionView};
 /// Contracts see its place, and the version.
 pub struct Present<K: Ord, V, const S: usize> {
     version: Shared<Node<K, V>>,
-    segments: Vec<Kept<K, V>>,
+    segments: Vec<WriterOwner<K, V>>,
 }
 
 /// Invariant: specs/Placing.antt, IsPresent: the owner owns a version of segments of at most `S` pairs, and the others own its
@@ -179,7 +179,7 @@ impl<K: Ord + Drop, V: Drop, const S: usize> Present<K, V, S> {
 fn place_draft<K: Ord + Drop, V: Drop, const S: usize>(
     domain: &Domain<Node<K, V>>,
     draft: Draft<K, V, S>,
-    segments: &mut Vec<Kept<K, V>>,
+    segments: &mut Vec<WriterOwner<K, V>>,
     local: &mut Local<Node<K, V>>,
 ) -> Option<(Shared<Node<K, V>>, Shared<Node<K, V>>)>
     requires home { home_of local.old ≡ place_of domain.now }

@@ -4,7 +4,7 @@ ghost use Rattle.std.specs.Prelude.{◌≡◌, [], IfOk};
 ghost use Rattle.shared_versions.specs.Drafts.{IsRoomFor};
 
 use crate::keeping::ToKeep;
-use crate::kept::Kept;
+use crate::kept::WriterOwner;
 use crate::node::Node;
 use sdd_domain::held::Held;
 use sdd_domain::shared::Shared;
@@ -16,7 +16,7 @@ pub(crate) struct Room<K: Ord, V> {
     pub(crate) owners: Vec<Shared<Node<K, V>>>,
     pub(crate) to_keep: Vec<ToKeep<K, V>>,
     pub(crate) held: Vec<Held<Node<K, V>>>,
-    pub(crate) kept: Vec<Kept<K, V>>,
+    pub(crate) kept: Vec<WriterOwner<K, V>>,
 }
 
 impl<K: Ord, V> Room<K, V> {

@@ -16,12 +16,12 @@ use tree_index::TreeIndex;
 
 // A version that is kept as a list of trees, whose names are their places.
 #[derive(Drop)]
-struct Kept {
+struct TreeList {
     trees: Vec<TreeIndex<u64, u64>>,
     separators: Vec<u64>,
 }
 
-impl BaseVersion<u64, u64, usize> for Kept {
+impl BaseVersion<u64, u64, usize> for TreeList {
     ghost blocks = { λ k. map (λ t. t.pairs) k.trees.items };
 
     ghost separators = { λ k. k.separators.items };
@@ -55,10 +55,10 @@ impl BaseVersion<u64, u64, usize> for Kept {
 }
 
 // No segment.
-fn none<const S: usize>(alloc: Global) -> Kept
+fn none<const S: usize>(alloc: Global) -> TreeList
     ensures { IsCut nat_cmp S (map (λ t. t.pairs) result.trees.items) result.separators.items }
 {
-    Kept {
+    TreeList {
         trees: Vec::new(alloc),
         separators: Vec::new(alloc),
     }
@@ -67,9 +67,9 @@ fn none<const S: usize>(alloc: Global) -> Kept
 // The segments that a draft made of a version, with clones of those that it takes over.
 fn settled<const S: usize>(
     alloc: Global,
-    old: &Kept,
+    old: &TreeList,
     made: Segments<u64, u64, usize>,
-) -> Result<Kept, AllocError>
+) -> Result<TreeList, AllocError>
     requires { IsCut nat_cmp S (blocks_of_parts (λ n. option_map_or (λ t. t.pairs) (slice_get old.now.trees.items n) []) made.parts.items) made.separators.items }
     ensures { IfOk result (λ k. IsCut nat_cmp S (map (λ t. t.pairs) k.trees.items) k.separators.items) }
 {
@@ -82,13 +82,13 @@ fn settled<const S: usize>(
     for part in parts {
         trees.push(tree_of(alloc, old, part)?)?;
     }
-    Ok(Kept { trees, separators })
+    Ok(TreeList { trees, separators })
 }
 
 // The tree of a part.
 fn tree_of(
     alloc: Global,
-    old: &Kept,
+    old: &TreeList,
     part: Part<u64, u64, usize>,
 ) -> Result<TreeIndex<u64, u64>, AllocError>
     ensures { IfOk result (λ t. t.pairs ≡ part_pairs (λ n. option_map_or (λ t. t.pairs) (slice_get old.now.trees.items n) []) part) }
@@ -125,7 +125,7 @@ fn fresh_in(made: &Segments<u64, u64, usize>) -> usize {
 }
 
 // Whether segments are cut as they should be: by their sizes and by what separates them.
-fn is_cut(kept: &Kept, size: usize) -> bool {
+fn is_cut(kept: &TreeList, size: usize) -> bool {
     let mut before = size;
     for (i, tree) in kept.trees.iter().enumerate() {
         let last = i.saturating_add(1) == kept.trees.len();
@@ -211,7 +211,7 @@ fn agrees<const S: usize>(
     for _ in 0..60u32 {
         seed = following(seed);
         let writes = writes_by(alloc, seed, mask, most)?;
-        let (made, replies) = drafted::<u64, u64, usize, Kept, S>(alloc, &old, writes.as_slice())?;
+        let (made, replies) = drafted::<u64, u64, usize, TreeList, S>(alloc, &old, writes.as_slice())?;
         let (list, told) = plain::applied(alloc, pairs.as_slice(), writes.as_slice())?;
         if made.length != list.len() || replies.as_slice() != told.as_slice() {
             return Ok(false);
@@ -265,9 +265,9 @@ type Row = (
 fn does(alloc: Global, before: &[Write<u64, u64>], row: Row) -> Result<bool, AllocError> {
     let (writes, told, pairs, count) = row;
     let empty = none::<1>(alloc);
-    let (made, _) = drafted::<u64, u64, usize, Kept, 1>(alloc, &empty, before)?;
+    let (made, _) = drafted::<u64, u64, usize, TreeList, 1>(alloc, &empty, before)?;
     let old = settled::<1>(alloc, &empty, made)?;
-    let (made, replies) = drafted::<u64, u64, usize, Kept, 1>(alloc, &old, writes)?;
+    let (made, replies) = drafted::<u64, u64, usize, TreeList, 1>(alloc, &old, writes)?;
     let fresh = fresh_in(&made);
     let next = settled::<1>(alloc, &old, made)?;
     let left = pairs_of(alloc, next.trees.as_slice())?;

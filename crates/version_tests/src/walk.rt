@@ -185,19 +185,19 @@ fn both_ends_go_through_three_pairs(rt: HostRuntime) {
 }
 
 // What is found around a key: which kind of neighbours, the pairs at both ends, and what a step of each end gives.
-type Found = (&'static str, Ends, Steps);
+type Found = (&'static str, Ends, AfterSteps);
 
 // The pairs at the forward end and at the backward one.
 type Ends = (Option<(u64, u64)>, Option<(u64, u64)>);
 
 // A step of the forward end and the pair at it, then those of the backward end.
-type Steps = (Ends, Ends);
+type AfterSteps = (Ends, Ends);
 
 fn ends_of<const S: usize>(ends: &LocalWalk<'_, u64, u64, S>) -> Ends {
     (read(ends.get()), read(ends.get_back()))
 }
 
-fn steps_of<const S: usize>(mut ends: LocalWalk<'_, u64, u64, S>) -> Steps {
+fn steps_of<const S: usize>(mut ends: LocalWalk<'_, u64, u64, S>) -> AfterSteps {
     let next = read(ends.next());
     let at = read(ends.get());
     let next_back = read(ends.next_back());
