@@ -2,7 +2,7 @@ use Rattle.std.proofs.Common.{◌≡◌, ℕ, map, drop, nat_cmp}
 use Rattle.leaf_array.specs.Pairs.{has_key}
 use Rattle.tree_index.specs.declared.index.TreeIndex.{TreeIndex}
 use Rattle.version_views.specs.Cuts.{pairs_in}
-use Rattle.version_tests.proofs.draft.KeptBaseVersionU64U64Usize.contains.Given as goal
+use Rattle.version_tests.proofs.draft.TreeListBaseVersionU64U64Usize.contains.Given as goal
 
 -- the trees that were passed don't have the key
 abbrev pub invariant-loop-tree : goal.invariant-loop-tree

@@ -6,7 +6,7 @@ use Rattle.leaf_array.specs.Pairs.{has_key}
 use Rattle.tree_index.specs.declared.index.TreeIndex.{TreeIndex}
 use Rattle.version_views.specs.Cuts.{pairs_in}
 use Rattle.version_views.proofs.ChangeScanLemmas.{drop_out}
-use Rattle.version_tests.proofs.draft.KeptBaseVersionU64U64Usize.contains.Goals as goal
+use Rattle.version_tests.proofs.draft.TreeListBaseVersionU64U64Usize.contains.Goals as goal
 
 -- whether a key is there, from one of some trees on
 has_from : (key : ℕ) (f : TreeIndex ℕ ℕ → List (ℕ × ℕ)) (xs : List (TreeIndex ℕ ℕ)) (i : ℕ) (x : TreeIndex ℕ ℕ) → i < length xs → x ≡ slice_index_or xs i x
