@@ -21,6 +21,7 @@ use parted::Part;
 use sdd_plain::sizes::Sizes;
 
 /// Takes the parts of participant `at` out of its home, the last one that has some. The home is empty then.
+#[inline(always)]
 fn gather_home<T, H: Holding<T>>(
     words: &Words<T, H>,
     place: &mut Place<T>,

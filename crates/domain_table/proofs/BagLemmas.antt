@@ -1,10 +1,10 @@
 -- a bag as its ends: two that are joined, and one from which the first is taken
-use Rattle.std.proofs.Common.{◌≡◌, ◌≢◌, ◌&&◌, ◌==◌, Bool, true, false, ℕ, suc, List, [], ◌∷◌, ◌++◌, ◌+◌, ◌-◌, ◌≤◌, map, append_assoc, Option, None, Some, sym, refl, ap, ◌∙◌, subst, ⊎_elim, inl, inr, arith, eq-eqb, eqb-true}
+use Rattle.std.proofs.Common.{◌≡◌, ◌≢◌, ◌&&◌, Bool, true, false, ℕ, suc, List, [], ◌∷◌, ◌++◌, ◌-◌, ◌≤◌, append_assoc, Option, None, Some, sym, refl, ap, ◌∙◌, subst, ⊎_elim, inl, inr, arith, eq-eqb, eqb-true}
 use Rattle.sdd_steps.specs.State.{Has}
 use Rattle.sdd_homes.specs.declared.Garbage.{Garbage}
-use Rattle.domain_table.specs.Chains.{oldest_slot, is_threaded, AllBelow}
-use Rattle.domain_table.specs.Plays.{SlotsApart, taken_all}
-use Rattle.domain_table.specs.Bags.{ends_of, IsBag, AreAlike, without_next}
+use Rattle.domain_table.specs.Chains.{oldest_slot, is_threaded}
+use Rattle.domain_table.specs.Plays.{SlotsApart}
+use Rattle.domain_table.specs.Bags.{ends_of, IsBag, AreAlike}
 use Rattle.domain_table.specs.declared.bags.Ends.{Ends}
 
 pub and_left : (a b : Bool) → a && b ≡ true → a ≡ true

@@ -1,5 +1,5 @@
 -- the end of a participant keeps the rule of the table
-use Rattle.std.proofs.Common.{◌≡◌, ◌≢◌, ℕ, suc, ◌+◌, ◌<◌, ◌≤◌, List, [], ◌∷◌, get_or, set, sym, refl, ap, ◌∙◌, subst, ⊎_elim, inl, inr, arith, length-set, get_or-set_other, get_or-set_same}
+use Rattle.std.proofs.Common.{◌≡◌, ◌≢◌, ℕ, suc, ◌+◌, ◌<◌, ◌≤◌, List, [], get_or, set, sym, refl, ap, ◌∙◌, subst, ⊎_elim, inl, inr, arith, length-set, get_or-set_other, get_or-set_same}
 use mathlib.Core.Logic.{dite}
 use mathlib.Core.Option as maybe
 use mathlib.Core.Option.{some, none}
@@ -20,7 +20,7 @@ use Rattle.sdd_homes.proofs.LyingLemmas.{gives_high}
 use Rattle.sdd_plain.specs.declared.sizes.Sizes.{Sizes}
 use Rattle.domain_table.specs.Views.{IsBare, spent, rested}
 use Rattle.domain_table.specs.Items.{Grip, Rests, Carries, Items}
-use Rattle.domain_table.specs.Layout.{state_word, claim_word, epoch_words, all_homes, all_spares, shown}
+use Rattle.domain_table.specs.Layout.{state_word, claim_word, epoch_words, all_homes, all_spares}
 use Rattle.domain_table.specs.Rule.{Acts, Shows}
 use Rattle.domain_table.specs.Plays.{HasSpare, end_then}
 use Rattle.domain_table.specs.declared.board.Acting.{Acting}

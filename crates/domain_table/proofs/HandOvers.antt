@@ -1,10 +1,9 @@
 -- a participant retires what is in the private bag that is at its seat
-use Rattle.std.proofs.Common.{◌≡◌, ◌≢◌, true, ℕ, zero, suc, List, length, [], ◌∷◌, ◌++◌, get_or, set, sym, refl, ap, ◌∙◌, subst, ⊎_elim, inl, inr, arith}
+use Rattle.std.proofs.Common.{◌≡◌, ◌≢◌, true, ℕ, zero, suc, List, length, [], ◌∷◌, ◌++◌, get_or, set, sym, refl, ap, ◌∙◌, subst, ⊎_elim, inl, inr}
 use mathlib.Core.Option.{some, none}
 use lib.ListN.{get_elem?}
 use lib.Seq.{set-get_or}
 use Rattle.atomic_table.specs.Table.{State, Me, step, keeps, Allows}
-use Rattle.sdd_plain.specs.declared.sizes.Sizes.{Sizes}
 use Rattle.sdd_steps.specs.declared.item.Item.{Item}
 use Rattle.sdd_steps.specs.declared.item.ItemState.{ItemState}
 use Rattle.sdd_steps.specs.declared.item.ItemState.TheVariants.{Retired, Collected, Waiting, Reclaimed}

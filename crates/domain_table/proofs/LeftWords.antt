@@ -1,5 +1,5 @@
 -- the words that tell what was left, where another word is written
-use Rattle.std.proofs.Common.{◌≡◌, ◌≢◌, ℕ, ◌<◌, ◌≤◌, List, get_or, set, refl, ◌∙◌, arith, get_or-set_other}
+use Rattle.std.proofs.Common.{◌≢◌, ℕ, ◌<◌, ◌≤◌, List, set, ◌∙◌, arith, get_or-set_other}
 use Rattle.sdd_homes.specs.declared.Garbage.{Garbage}
 use Rattle.domain_table.specs.Layout.{left_word, epoch_words}
 use Rattle.domain_table.specs.Rule.{Lefts}

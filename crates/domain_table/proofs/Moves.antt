@@ -25,7 +25,7 @@ use Rattle.domain_table.specs.Items.{Grasps, Grip, IsWaiting, IsLeftover, IsNote
 use Rattle.domain_table.proofs.Stirred.{Stirred, stirred_none, still_left, grip_set, loads_others, seated}
 use Rattle.domain_table.proofs.Stirred as items
 use Rattle.domain_table.proofs.Privates.{private_set}
-use Rattle.domain_table.proofs.LeftWords.{lefts_else, lefts_behind}
+use Rattle.domain_table.proofs.LeftWords.{lefts_else}
 use Rattle.domain_table.specs.Rule.{Acts, Bounded, Runs, beginning, Shows, Lefts}
 use Rattle.domain_table.proofs.Bounds.{changes}
 use Rattle.domain_table.proofs.Taken.{goes_on, run_keeps}

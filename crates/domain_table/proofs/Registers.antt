@@ -8,7 +8,7 @@ use lib.ListN.{get_elem?}
 use Rattle.atomic_table.specs.Table.{State, Me, step, keeps, takes, Allows}
 use Rattle.domain_table.specs.declared.board.Plan.{Plan}
 use Rattle.sdd_steps.specs.State.{At}
-use Rattle.sdd_steps.proofs.ListLemmas.{put, put_here, put_else, set_all, set_else, find_at}
+use Rattle.sdd_steps.proofs.ListLemmas.{put, put_here, put_else, set_all, find_at}
 use Rattle.sdd_homes.specs.Reasons.{Loads}
 use Rattle.domain_table.specs.Views.{registered}
 use Rattle.domain_table.specs.Items.{Grip, Rests, Items}

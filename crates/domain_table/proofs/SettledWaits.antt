@@ -1,5 +1,5 @@
 -- what waits where all of it is due: one bag has it
-use Rattle.std.proofs.Common.{◌≡◌, ◌==◌, ◌&&◌, ℕ, suc, ◌+◌, ◌<◌, List, [], ◌∷◌, ◌++◌, Option, None, Some, sym, refl, ap, ◌∙◌, subst, ⊎_elim, inl, inr}
+use Rattle.std.proofs.Common.{◌≡◌, ◌==◌, ◌&&◌, ℕ, suc, ◌<◌, List, [], ◌∷◌, Option, None, Some, sym, refl, ap, ◌∙◌, subst, ⊎_elim, inl, inr}
 use Rattle.sdd_steps.specs.State.{Has}
 use Rattle.sdd_homes.specs.declared.Garbage.{Garbage}
 use Rattle.domain_table.specs.Views.{settled_waits}
@@ -7,7 +7,6 @@ use Rattle.domain_table.specs.Chains.{oldest_slot, is_threaded, AllBelow}
 use Rattle.domain_table.specs.Bags.{ends_of, IsBag}
 use Rattle.domain_table.specs.Ledgers.{WaitsIn}
 use Rattle.domain_table.specs.declared.bags.Ends.{Ends}
-use Rattle.domain_table.specs.declared.bags.Bags.{Bags}
 use Rattle.domain_table.proofs.WaitLemmas.{AllAged, waits_of}
 
 oldest_settled : (ws : List Garbage) → oldest_slot (settled_waits ws) ≡ oldest_slot ws

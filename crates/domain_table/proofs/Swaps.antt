@@ -22,7 +22,7 @@ use Rattle.sdd_homes.specs.Book.{Content, away, part}
 use Rattle.sdd_homes.specs.Hands.{items_of, owned}
 use Rattle.sdd_homes.proofs.SwapLemmas.{long_swapped}
 use Rattle.sdd_steps.specs.Invariant.{Inv}
-use Rattle.sdd_steps.proofs.ListLemmas.{put, put_else, set_all, at_set, at_inside, at_map, same_at}
+use Rattle.sdd_steps.proofs.ListLemmas.{put, set_all, at_set, at_inside, at_map, same_at}
 use Rattle.sdd_homes.specs.declared.Lease.{Lease}
 use Rattle.sdd_homes.specs.Book.{Book}
 use Rattle.sdd_homes.specs.Reasons.{Loads, Why}

@@ -1,5 +1,5 @@
 -- a participant takes over what another one left when it ended, or it itself, by one step on the word that tells it
-use Rattle.std.proofs.Common.{◌≡◌, ◌≢◌, ◌⊎◌, ◌&&◌, true, ℕ, ◌<◌, List, [], ◌∷◌, ◌++◌, zero, suc, length, get_or, set, sym, refl, ap, ◌∙◌, subst, ⊎_elim, inl, inr, arith, length-set, get_or-set_other, get_or-set_same}
+use Rattle.std.proofs.Common.{◌≡◌, ◌≢◌, ◌⊎◌, true, ℕ, ◌<◌, List, [], ◌∷◌, ◌++◌, zero, suc, length, get_or, set, sym, refl, ap, ◌∙◌, subst, ⊎_elim, inl, inr, arith, length-set, get_or-set_other, get_or-set_same}
 use mathlib.Core.Logic.{dite}
 use mathlib.Core.Option.{some, none}
 use native.Mathlib.Decide.{ℕ_discrete}
@@ -14,13 +14,13 @@ use Rattle.sdd_steps.specs.State as steps
 use Rattle.sdd_steps.specs.State.{At, Has, item_is, participant_is}
 use Rattle.sdd_steps.specs.Steps.{is_ready, is_left}
 use Rattle.sdd_steps.proofs.Enabling.{participant_passes, item_passes, item_read}
-use Rattle.sdd_steps.proofs.ListLemmas.{put, put_here, put_else, put_all, at_inside, at_set, set_all, set_here, set_else, same_at}
+use Rattle.sdd_steps.proofs.ListLemmas.{put, put_here, put_else, put_all, at_set, set_all, set_here, set_else, same_at}
 use Rattle.sdd_homes.specs.declared.Garbage.{Garbage}
 use Rattle.sdd_homes.specs.Book.{Content, Book}
 use Rattle.sdd_homes.specs.Reasons.{Loads}
 use Rattle.sdd_homes.proofs.HandLemmas.{owned_set}
 use Rattle.domain_table.specs.Chains.{is_threaded, left_code}
-use Rattle.domain_table.specs.Layout.{claim_word, left_word, state_word, epoch_words, shown}
+use Rattle.domain_table.specs.Layout.{claim_word, left_word, state_word, shown}
 use Rattle.domain_table.specs.Items.{owners_in_hand, Grip, Owns, HasState, IsWaiting, IsLeftover, Leftovers, Distinct, IsLinked, Carries, Items}
 use Rattle.domain_table.specs.Rule.{Runs, Shows, Lefts}
 use Rattle.domain_table.specs.Plays.{taken_all, take_left_then, take_own_then}

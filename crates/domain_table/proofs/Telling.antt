@@ -1,5 +1,5 @@
 -- what a seat tells of its steps is no matter of the rule
-use Rattle.std.proofs.Common.{◌≡◌, ℕ, List, [], get_or, set, sym, refl, subst, inl, inr}
+use Rattle.std.proofs.Common.{◌≡◌, ℕ, List, [], get_or, set, sym, refl, subst, inr}
 use mathlib.Core.Option.{some}
 use lib.ListN.{get_elem?}
 use lib.Seq.{set-get_or, set-set}

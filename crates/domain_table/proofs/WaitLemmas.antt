@@ -1,5 +1,5 @@
 -- what waits in the bags of a participant, as four lists: turned, with more in the current bag, and without what has waited the longest
-use Rattle.std.proofs.Common.{◌≡◌, ◌≢◌, ◌==◌, ◌&&◌, Bool, cond, true, false, ℕ, suc, ◌+◌, ◌<◌, List, [], ◌∷◌, ◌++◌, map, length, nat_lt, append_assoc, Option, None, Some, IfSome, sym, refl, ap, ◌∙◌, subst, ⊎_elim, inl, inr, arith, eqb-true, eq-eqb, ne_eqb, lt-ltb, length-append}
+use Rattle.std.proofs.Common.{◌≡◌, ◌≢◌, ◌==◌, ◌&&◌, cond, true, false, ℕ, suc, ◌+◌, ◌<◌, List, [], ◌∷◌, ◌++◌, length, append_assoc, Option, None, Some, IfSome, sym, refl, ap, ◌∙◌, subst, ⊎_elim, inl, inr, arith, eqb-true, eq-eqb, ne_eqb, lt-ltb, length-append}
 use Rattle.sdd_steps.specs.State.{Has}
 use Rattle.sdd_homes.specs.declared.Garbage.{Garbage}
 use Rattle.domain_table.specs.Views.{older_waits}
@@ -7,7 +7,7 @@ use Rattle.domain_table.specs.Contents.{garbage_slots}
 use Rattle.domain_table.specs.Leases.{all_below}
 use Rattle.domain_table.specs.Chains.{oldest_slot, is_threaded, AllBelow}
 use Rattle.domain_table.specs.Plays.{taken_all}
-use Rattle.domain_table.specs.Bags.{ends_of, IsBag, aged, by_age, AreAlike, without_next}
+use Rattle.domain_table.specs.Bags.{ends_of, IsBag, aged, AreAlike, without_next}
 use Rattle.domain_table.specs.Ledgers.{WaitsIn}
 use Rattle.domain_table.specs.declared.bags.Ends.{Ends}
 use Rattle.domain_table.specs.declared.bags.Bags.{Bags}

@@ -1,5 +1,5 @@
 -- what lies in a slot of the table, by its content
-use Rattle.std.specs.Prelude.{◌≡◌, Bool, true, false, ℕ, ◌<◌, ◌≤◌, ◌++◌, List, [], map, length, replicate, cond, nat_lt, vec_capacity, IsSome, IsSomeAnd, Option}
+use Rattle.std.specs.Prelude.{◌≡◌, Bool, true, false, ℕ, ◌<◌, ◌++◌, List, map, length, replicate, cond, nat_lt, IsSome, IsSomeAnd, Option}
 use Rattle.std.specs.Mem.{manually_drop_value}
 use Rattle.core.specs.declared.mem.manually_drop.ManuallyDrop.{ManuallyDrop}
 use Rattle.parted.specs.declared.part.Part as parted

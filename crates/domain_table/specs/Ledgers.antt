@@ -1,5 +1,5 @@
 -- what waits in the bags of a participant, and the ledger of one that has just registered
-use Rattle.std.specs.Prelude.{◌≡◌, true, ℕ, ◌≤◌, ◌++◌, ◌∷◌, List, [], length}
+use Rattle.std.specs.Prelude.{◌≡◌, true, ℕ, ◌≤◌, List, [], length}
 use Rattle.atomic_table.specs.Table.{Me}
 use Rattle.std.specs.VecDeque.{deque_capacity}
 use Rattle.sdd_homes.specs.declared.Garbage.{Garbage}

@@ -19,7 +19,6 @@ use Rattle.domain_table.specs.Layout.{state_word, claim_word, slot_word, link_wo
 use Rattle.domain_table.specs.Chains.{is_threaded, left_code, AllBelow}
 use Rattle.domain_table.specs.Owners.{slot_code, part_of, besides}
 use Rattle.domain_table.specs.declared.board.Acting.{Acting}
-use Rattle.domain_table.specs.declared.board.CellStep.{CellStep}
 
 -- the seat's step is told: on which word it was, what it found there, and what it left
 abbrev pub with_step : {S : Type 0} → ℕ → ℕ → ℕ → Me S Acting → Me S Acting

@@ -1,6 +1,6 @@
 //! Placing an item: a free slot is claimed, the homes of the participants get their parts, and the item is in the slot.
 
-ghost use Rattle.std.specs.Prelude.{◌≡◌, ℕ, ◌+◌, ◌-◌, ◌^◌, ◌<◌, ◌≤◌, map, true, None, Some, IsSome, IsSomeAnd, IfSome, IfNone, OnSome, IfOk, IfErr, OnOk, OnErr};
+ghost use Rattle.std.specs.Prelude.{◌≡◌, ℕ, ◌+◌, ◌-◌, ◌*◌, ◌^◌, ◌<◌, ◌≤◌, map, true, None, Some, IsSome, IsSomeAnd, IfSome, IfNone, OnSome, IfOk, IfErr, OnOk, OnErr};
 ghost use Rattle.std.specs.Mem.{manually_drop_value};
 ghost use Rattle.atomic_table.specs.Table.{rest};
 ghost use Rattle.sdd_steps.specs.Steps.{is_ready};
@@ -20,17 +20,17 @@ use parted::{One, Part, Tally};
 use sdd_plain::refusal::NoSlot;
 use sdd_plain::sizes::Sizes;
 
-/// How many of `left` parts one of `rest` participants gets, so that as many are left as the others need, and one more.
-fn share_of(left: u64, rest: u64) -> u64
-    requires { (0 < rest) × (rest < left) }
+/// How many parts each participant but the last gets of an item's `2^63`: all shares alike, they leave one part over at least.
+fn share_of(participants: u64) -> u64
+    requires { (0 < participants) × (participants < 2 ^ 63) }
     ensures some { 0 < result }
-    ensures others { rest + result ≤ left }
-    ensures last { rest ≡ 1 → result + 1 ≡ left }
+    ensures fits { participants * result < 2 ^ 63 }
 {
-    (left - 1) / rest
+    ((1 << 63) - 1) / participants
 }
 
 /// Fills the home of participant `at`, the next one, with `count` of the parts in hand.
+#[inline(always)]
 fn fill_home<T, H: Holding<T>>(
     words: &Words<T, H>,
     place: &mut Place<T>,
@@ -53,7 +53,8 @@ fn fill_home<T, H: Holding<T>>(
     slots::give_next(words, place);
 }
 
-/// Fills the homes of all participants of the slot that was claimed. One part stays in hand.
+/// Fills the homes of all participants of the slot that was claimed. One part stays in hand. The last participant gets what
+/// the others leave, so that one division is enough.
 fn fill_homes<T, H: Holding<T>>(
     words: &Words<T, H>,
     place: &mut Place<T>,
@@ -68,12 +69,14 @@ fn fill_homes<T, H: Holding<T>>(
     ensures filled { FillsAll place.old.me slot sizes.now.participants all.old.life.id place.new.me }
     ensures rest { (all.new.seen ≡ all.old.seen) × (all.new.life ≡ record all.old.life { count = 1 }) }
 {
+    let each = share_of(sizes.participants as u64);
+    let last = sizes.participants - 1;
     let mut left = 1 << 63;
-    for at in 0..sizes.participants {
-        let count = share_of(left, (sizes.participants - at) as u64);
-        fill_home(words, place, sizes, slot, at, all, count);
-        left -= count;
+    for at in 0..last {
+        fill_home(words, place, sizes, slot, at, all, each);
+        left -= each;
     }
+    fill_home(words, place, sizes, slot, last, all, left - 1);
 }
 
 /// Places an item in the slot that was claimed, which holds the owners in hand. Its one owner is in hand then, and the owner's part is the answer.

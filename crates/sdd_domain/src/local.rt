@@ -62,14 +62,16 @@ pub struct Local<T> {
     ghost waits: { WaitsIn place.me.0.sizes.slots place.me.0.waits bags × (bags.due ≡ None) },
 }
 
-/// Turns the bags by one, and reclaims what is due then. Where nothing waits there is nothing to turn.
+/// Turns the bags by one, and reclaims what is due then: whether anything waits still. It is compiled by itself, since few
+/// openings find that something waits.
+#[inline(never)]
 fn rotate_and_reclaim<T: Holds>(
     words: &Words<T>,
     place: &mut Place<T>,
     sizes: &Sizes,
     number: usize,
     bags: &mut Bags,
-)
+) -> bool
     requires table { FitsSizes words.now.table_id words.now.key.sizes place.old.table_id place.old.me.0.sizes sizes.now × (number < sizes.now.participants) }
     requires ready { IsAtRest number place.old.me.0 × (place.old.me.0.filling ≡ None) }
     requires waits { (ws : List Garbage) × (place.old.me.0.waits ≡ older_waits ws) × WaitsIn sizes.now.slots ws bags.old }
@@ -78,15 +80,40 @@ fn rotate_and_reclaim<T: Holds>(
     ensures reclaimed { (k : ℕ) × (ws : List Garbage) × (place.new.me ≡ (record place.old.me.0 { slot = k; waits = ws }, place.old.me.1)) }
     ensures waits { WaitsIn sizes.now.slots place.new.me.0.waits bags.new }
     ensures bags { bags.new.due ≡ None }
+    ensures some { result ≡ nat_lt 0 (length place.new.me.0.waits) }
 {
-    if !bags.has_some() {
-        return;
-    }
     bags.rotate();
     reclaim_due(words, place, sizes, number, bags);
+    bags.has_some()
+}
+
+/// The same where nothing may wait: then there is nothing to turn.
+#[inline(always)]
+fn turn_bags<T: Holds>(
+    words: &Words<T>,
+    place: &mut Place<T>,
+    sizes: &Sizes,
+    number: usize,
+    bags: &mut Bags,
+) -> bool
+    requires table { FitsSizes words.now.table_id words.now.key.sizes place.old.table_id place.old.me.0.sizes sizes.now × (number < sizes.now.participants) }
+    requires ready { IsAtRest number place.old.me.0 × (place.old.me.0.filling ≡ None) }
+    requires waits { (ws : List Garbage) × (place.old.me.0.waits ≡ older_waits ws) × WaitsIn sizes.now.slots ws bags.old }
+    requires done { bags.old.due ≡ None }
+    ensures seat { (place.new.table_id ≡ place.old.table_id) × (place.new.id ≡ place.old.id) }
+    ensures reclaimed { (k : ℕ) × (ws : List Garbage) × (place.new.me ≡ (record place.old.me.0 { slot = k; waits = ws }, place.old.me.1)) }
+    ensures waits { WaitsIn sizes.now.slots place.new.me.0.waits bags.new }
+    ensures bags { bags.new.due ≡ None }
+    ensures some { result ≡ nat_lt 0 (length place.new.me.0.waits) }
+{
+    if !bags.has_some() {
+        return false;
+    }
+    rotate_and_reclaim(words, place, sizes, number, bags)
 }
 
 /// Behind a publication: turns the bags if the count isn't the one that was found before, and reclaims what is due then.
+#[inline(always)]
 pub(crate) fn turn<T: Holds>(
     words: &Words<T>,
     place: &mut Place<T>,
@@ -112,8 +139,7 @@ pub(crate) fn turn<T: Holds>(
     if own.previous == epoch {
         return;
     }
-    rotate_and_reclaim(words, place, sizes, number, bags);
-    own.garbage = bags.has_some();
+    own.garbage = turn_bags(words, place, sizes, number, bags);
     own.published = epoch;
     own.previous = epoch;
 }

@@ -11,7 +11,7 @@ use crate::local::Local;
 use crate::reclaiming::sweep;
 use crate::shared::Shared;
 use domain_garbage::private::{
-    NotedChain, Noted, flag_waiting, hand_all, new_bag, part_bag, put_in, reread, take_bag,
+    Noted, NotedChain, flag_waiting, hand_all, new_bag, part_bag, put_in, reread, take_bag,
 };
 use domain_table::board::Acting;
 use domain_table::owners::take_in;

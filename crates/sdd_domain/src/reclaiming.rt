@@ -80,9 +80,7 @@ fn give_up<T: Holds>(
     item.end();
 }
 
-/// Reclaims all that is due, of what the participant retired, and releases what these items held. It is compiled by itself,
-/// since few openings rotate.
-#[inline(never)]
+/// Reclaims all that is due, of what the participant retired, and releases what these items held.
 pub(crate) fn reclaim_due<T: Holds>(
     words: &Words<T>,
     place: &mut Place<T>,

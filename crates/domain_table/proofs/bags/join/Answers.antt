@@ -1,4 +1,4 @@
-use Rattle.std.proofs.Common.{◌≡◌, ◌++◌, ◌∷◌, [], ◌∙◌, ◌<◌, ◌+◌, List, suc, Some, subst, sym, ap, refl, inl, inr, map, arith}
+use Rattle.std.proofs.Common.{◌++◌, ◌∷◌, ◌∙◌, ◌<◌, ◌+◌, List, Some, subst, sym, ap, refl, inl, map, arith}
 use Rattle.sdd_steps.specs.State.{Has}
 use Rattle.sdd_homes.specs.declared.Garbage.{Garbage}
 use Rattle.domain_table.specs.Bags.{IsBag, without_next}

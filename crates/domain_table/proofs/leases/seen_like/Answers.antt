@@ -1,4 +1,4 @@
-use Rattle.std.proofs.Common.{◌≡◌, ℕ, sym, ap, ◌∙◌, arith}
+use Rattle.std.proofs.Common.{ℕ, ap, ◌∙◌, arith}
 use Rattle.domain_table.specs.declared.row.Row.{Row}
 use Rattle.domain_table.proofs.Rows.{row_at}
 use Rattle.domain_table.proofs.leases.seen_like.Goals as goal

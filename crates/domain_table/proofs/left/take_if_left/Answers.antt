@@ -1,4 +1,4 @@
-use Rattle.std.proofs.Common.{◌≡◌, ◌∙◌, ap}
+use Rattle.std.proofs.Common.{◌∙◌, ap}
 use Rattle.atomic_table.specs.Table.{Me}
 use Rattle.domain_table.specs.declared.board.Acting.{Acting}
 use Rattle.domain_table.proofs.left.take_if_left.Goals as goal

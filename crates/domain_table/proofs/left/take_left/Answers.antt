@@ -1,4 +1,4 @@
-use Rattle.std.proofs.Common.{◌≡◌, ◌<◌, ◌≤◌, rules, arith, ap, sym, subst}
+use Rattle.std.proofs.Common.{◌<◌, arith, ap, sym, subst}
 use Rattle.sdd_plain.specs.declared.sizes.Sizes.{Sizes}
 use Rattle.domain_table.specs.Chains.{AllBelow}
 use Rattle.domain_table.proofs.Takeovers.{takes_left}

@@ -1,4 +1,4 @@
-use Rattle.std.proofs.Common.{◌≡◌, ◌<◌, rules, arith}
+use Rattle.std.proofs.Common.{arith}
 use Rattle.domain_table.proofs.Leavings.{leaves_at}
 use Rattle.domain_table.proofs.LeftCodes.{ends_low}
 use Rattle.domain_table.proofs.left.tell.Goals as goal

@@ -1,8 +1,7 @@
-use Rattle.std.proofs.Common.{◌≡◌, ◌<◌, ℕ, List, ◌∷◌, length, sym, ap, ◌∙◌, subst, arith}
+use Rattle.std.proofs.Common.{◌≡◌, ℕ, ◌∷◌, sym, ap, ◌∙◌, subst, arith}
 use Rattle.domain_table.specs.Contents.{IsIn}
-use Rattle.sdd_homes.specs.declared.Lease.{Lease}
 use Rattle.sdd_homes.specs.declared.Owner.{Owner}
-use Rattle.domain_table.specs.Plays.{HasLeasedAt, HasRound}
+use Rattle.domain_table.specs.Plays.{HasLeasedAt}
 use Rattle.domain_table.specs.declared.board.Acting.{Acting}
 use Rattle.domain_table.specs.declared.row.Row.{Row}
 use Rattle.domain_table.proofs.Rows.{row_at}

@@ -5,8 +5,6 @@ pub loop-at-init : goal.loop-at-init
 loop-at-init g c = let q = c.requires.filling in let f = q.0 in let m = c.args.place.now.me in let t = c.requires.table in let p = c.requires.parts in record {
   seat = (refl, refl);
   filled = (f, q.1, q.2, q.3, q.4, inl refl, λ j. (record m.0 { slot = t.5 j; filling = q.1 j }, m.1));
-  more = let few = t.4.1 in omega arith;
-  most = omega arith;
-  last = λ e. let some = t.4.0 in let bad = e in absurd (omega arith);
+  shared = omega arith;
   all = (refl, λ j. record c.args.all.now.life { count = p.0 j });
 }

@@ -1,4 +1,4 @@
-use Rattle.std.proofs.Common.{◌≡◌, ◌⊎◌, ◌-◌, ◌<◌, ◌≤◌, ◌^◌, Some}
+use Rattle.std.proofs.Common.{◌≡◌, ◌⊎◌, ◌+◌, ◌*◌, ◌^◌, Some}
 use Rattle.sdd_homes.specs.declared.Filling.{Filling}
 use Rattle.domain_table.specs.Plays.{filling_at}
 use Rattle.domain_table.proofs.placing.fill_homes.Given as goal
@@ -7,8 +7,6 @@ abbrev pub invariant-loop-at : goal.invariant-loop-at
 invariant-loop-at g l = record {
   seat : (l.place.table_id ≡ l.initial.place.table_id) × (l.place.id ≡ l.initial.place.id);
   filled : (f : Filling) × (l.place.me.0.filling ≡ Some f) × (f.filled ≡ l.at) × (f.out ≡ l.sizes.participants) × (f.left ≡ l.left) × ((l.at ≡ 0) ⊎ (l.all.life.id ≡ f.round)) × (l.place.me ≡ (filling_at l.slot f l.initial.place.me.0, l.initial.place.me.1));
-  more : l.sizes.participants - l.at < l.left;
-  most : l.left ≤ 2 ^ 63;
-  last : l.at ≡ l.sizes.participants → l.left ≡ 1;
+  shared : l.left + l.at * l.each ≡ 2 ^ 63;
   all : (l.all.seen ≡ l.initial.all.seen) × (l.all.life ≡ record l.initial.all.life { count = l.left });
 }

@@ -1,8 +1,7 @@
-use Rattle.std.proofs.Common.{◌≡◌, ◌≢◌, ◌++◌, ◌∷◌, [], ◌∙◌, ◌<◌, List, subst, sym, ap, refl, inl, inr, arith}
+use Rattle.std.proofs.Common.{◌++◌, ◌∷◌, ◌∙◌, ◌<◌, List, subst, sym, ap, inr}
 use Rattle.sdd_steps.specs.State.{Has}
 use Rattle.sdd_homes.specs.declared.Garbage.{Garbage}
 use Rattle.domain_table.specs.Plays.{SlotsApart}
-use Rattle.domain_table.specs.Bags.{IsBag}
 use Rattle.domain_table.proofs.BagLemmas.{newest, has_oldest, has_right, apart_right, takes}
 use Rattle.domain_table.proofs.private_chains.take_noted.Goals as goal
 

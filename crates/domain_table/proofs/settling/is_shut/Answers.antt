@@ -1,4 +1,4 @@
-use Rattle.std.proofs.Common.{◌≡◌, ◌≢◌, ◌∙◌, rules, refl, sym, eq-eqb}
+use Rattle.std.proofs.Common.{◌∙◌, rules, refl, sym, eq-eqb}
 use Rattle.std.proofs.lemmas.Bool.{false≢true}
 use Rattle.domain_table.proofs.Settles.{looks_shut}
 use Rattle.domain_table.proofs.settling.is_shut.Goals as goal

@@ -1,6 +1,6 @@
-use Rattle.std.proofs.Common.{◌≡◌, ◌++◌, ◌∷◌, [], ◌∙◌, ◌<◌, ℕ, List, None, subst, sym, ap, refl, append_assoc}
+use Rattle.std.proofs.Common.{◌≡◌, ◌++◌, ◌∙◌, ℕ, List, None, subst, sym, ap, append_assoc}
 use Rattle.sdd_homes.specs.declared.Garbage.{Garbage}
-use Rattle.domain_table.specs.Bags.{IsBag, AreAlike}
+use Rattle.domain_table.specs.Bags.{AreAlike}
 use Rattle.domain_table.specs.Chains.{AllBelow}
 use Rattle.domain_table.specs.declared.bags.Bags.{Bags}
 use Rattle.domain_table.proofs.BagLemmas.{none_in, has_left, has_right}

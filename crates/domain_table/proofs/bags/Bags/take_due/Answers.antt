@@ -1,4 +1,4 @@
-use Rattle.std.proofs.Common.{◌≡◌, ◌++◌}
+use Rattle.std.proofs.Common.{◌++◌}
 use Rattle.domain_table.proofs.WaitLemmas.{lists_of, due_behind, due_taken}
 use Rattle.domain_table.proofs.bags.Bags.take_due.Goals as goal
 

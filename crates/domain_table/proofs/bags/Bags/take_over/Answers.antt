@@ -1,5 +1,4 @@
-use Rattle.std.proofs.Common.{◌≡◌, ◌++◌, ◌∷◌, [], ◌∙◌, List, subst, sym, ap, refl, length}
-use Rattle.sdd_homes.specs.declared.Garbage.{Garbage}
+use Rattle.std.proofs.Common.{◌++◌, [], ◌∙◌, subst, sym, ap, length}
 use Rattle.domain_table.specs.Chains.{AllBelow}
 use Rattle.domain_table.specs.Plays.{taken_all}
 use Rattle.domain_table.proofs.WaitLemmas.{lists_of, below_parts, taken_front, taken_new, taken_below, taken_bag, vs, more_wait, as_long}
