@@ -9,10 +9,12 @@
 //! and closes; one of `load` does so under a guard that stays open; one of `swaps` places a number, swaps it into a cell,
 //! releases what comes out, and reclaims as one of `items` does; one of `swap` swaps two owners; each thread has a cell of
 //! its own. A round of `clones` makes one more owner of an item, reads the item by it, and gives it back. A round of `stack`
-//! or `queue` pushes a number on one that all threads share, and pops one. With `memory` nothing is done in a place with so
-//! many slots. Without arguments there isn't even a place.
+//! or `queue` pushes a number on one that all threads share, and pops one. With `memory` nothing is done in a place of
+//! `ROUNDS` slots. `alone`, `alone-items` and `alone-memory` are `accelerated`, `items` and `memory` in a place of one thread.
+//! Without arguments there isn't even a place.
 #![tactic(auto)]
 
+mod alone;
 mod containers;
 
 ghost use Rattle.std.specs.Prelude.{◌≡◌, ◌<◌, ◌≤◌, IfSome, []};
@@ -20,6 +22,7 @@ ghost use Rattle.sdd_domain.specs.Layout.{IsSized};
 ghost use Rattle.sdd_domain.specs.Cells.{cell_number};
 ghost use Rattle.sdd_domain.specs.Tokens.{place_of, home_of, hand_of, own_of, cell_count, nest_in, IsSame, IsSameButMisses};
 
+use crate::alone::{Round, rounds_alone};
 use crate::containers::rounds_of_all;
 use sdd_domain::atomic_shared::AtomicShared;
 use sdd_domain::domain::Domain;
@@ -46,6 +49,7 @@ enum Kind {
     Stack,
     Queue,
     Memory,
+    Alone(Round),
 }
 
 /// The threads, the kind and the rounds that three arguments name, if they do.
@@ -65,6 +69,9 @@ fn task_of(threads: &str, kind: &str, rounds: &str) -> Option<(u8, Kind, u32)>
         "stack" => Kind::Stack,
         "queue" => Kind::Queue,
         "memory" => Kind::Memory,
+        "alone" => Kind::Alone(Round::Guard),
+        "alone-items" => Kind::Alone(Round::Item),
+        "alone-memory" => Kind::Alone(Round::Nothing),
         _ => return None,
     };
     let threads = threads.parse::<u8>().ok()?;
@@ -383,6 +390,10 @@ fn main(rt: HostRuntime) -> io::Result<()> {
             .max(threads),
         None => threads,
     };
+    if let Kind::Alone(round) = kind {
+        let sum = rounds_alone(&rt, rt.alloc(), participants, round, rounds)?;
+        return println!(rt; "{sum}");
+    }
     let domain = Domain::new(rt.alloc(), sizes_of(kind, participants, rounds))?;
     let sums = match kind {
         Kind::Stack => rounds_of_all(&rt, rt.alloc(), &domain, threads, true, rounds),
