@@ -6,7 +6,7 @@ ghost use Rattle.leaf_array.specs.Values.{ClonesAreSame};
 ghost use Rattle.sdd_domain.specs.Cells.{cell_number};
 ghost use Rattle.sdd_domain.specs.Tokens.{place_of, home_of, hand_of, misses_of, cell_count};
 ghost use Rattle.shared_versions.specs.Drafts.{list_of};
-ghost use Rattle.shared_versions.specs.Placing.{IsOwnedIn, IsStillButMisses};
+ghost use Rattle.shared_versions.specs.Placing.{HasPublished, IsOwnedIn, IsStillButMisses};
 ghost use Rattle.shared_index.specs.Books.{misses_told, misses_without};
 ghost use Rattle.version_views.specs.Writes.{after_writes, replies_to};
 
@@ -42,6 +42,7 @@ pub(crate) fn install<K: Clone + Ord, V: Clone, const S: usize>(
     ensures number { OnOk result (present.new.version.number ≡ present.old.version.number + 1) }
     ensures list { OnOk result (list_of present.new.version ≡ after_writes K.cmp writes.now (list_of present.old.version)) }
     ensures told { IfOk result (λ told. told.items ≡ replies_to K.cmp writes.now (list_of present.old.version)) }
+    ensures published { OnOk result (HasPublished local.old (cell_number root.now) present.new.version local.new) }
     ensures refused { OnErr result (present.new ≡ present.old) }
     ensures hand { hand_of local.new ≡ [] }
     ensures hit { OnOk result (misses_of local.new ≡ misses_of local.old) }

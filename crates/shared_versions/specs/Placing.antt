@@ -2,8 +2,10 @@
 use Rattle.std.specs.List.{All}
 use Rattle.std.specs.Mem.{manually_drop_value}
 use Rattle.std.specs.Option.{option_map}
-use Rattle.std.specs.Prelude.{◌≡◌, ◌≢◌, ℕ, ◌<◌, List, [], map, set, get_or, Option, None, Some}
+use Rattle.std.specs.Prelude.{◌≡◌, ◌≢◌, ℕ, ◌<◌, List, [], ◌∷◌, ◌++◌, map, set, get_or, Option, None, Some}
 use Rattle.atomic_table.specs.Seated.{TableId}
+use Rattle.sdd_domain.specs.CellSteps.{CellStep, HasStored, NamesWith, cell_steps_of, step_on}
+use Rattle.sdd_domain.specs.Comparing.{owner_code}
 use Rattle.sdd_domain.specs.Sharing.{kept_in}
 use Rattle.sdd_domain.specs.Tokens.{home_of, misses_of, nest_in, number_of, own_of}
 use Rattle.sdd_domain.specs.declared.local.Local.{Local}
@@ -24,6 +26,10 @@ item_owned s = option_map manually_drop_value s.part.part.seen.value
 abbrev pub IsOwnedIn : {T : Type 0} → TableId → Shared T → Type 0
 IsOwnedIn place s = kept_in s ≡ place
 
+-- its one step on a cell put this owner into that cell, without a tag
+abbrev pub HasPut : {T : Type 0} → Local T → ℕ → Shared T → Local T → Type 0
+HasPut old cell s new = (w : ℕ) × HasStored old cell w 0 (owner_code (Some s)) new
+
 -- the same participant of the same place, with the same guards open; its misses may differ
 abbrev pub IsStillButMisses : {T : Type 0} → Local T → Local T → Type 0
 IsStillButMisses old new = (home_of new ≡ home_of old) × (number_of new ≡ number_of old) × (nest_in new ≡ nest_in old) × ((own_of new).nesting ≡ (own_of old).nesting)
@@ -36,6 +42,10 @@ module _ {K V : Type 0} where
   -- the version that an owner owns
   abbrev pub version_owned : Shared (Node K V) → Option (Sight K V)
   version_owned s = version_in (item_owned s)
+
+  -- its last step on a cell put an owner of this version into that cell of its place
+  abbrev pub HasPublished : Local (Node K V) → ℕ → Sight K V → Local (Node K V) → Type 0
+  HasPublished old cell version new = (s : Shared (Node K V)) × (version_owned s ≡ Some version) × (zs : List CellStep) × (w : ℕ) × (v : ℕ) × NamesWith v 0 (owner_code (Some s)) × (cell_steps_of new ≡ zs ++ step_on old cell w v ∷ [])
 
   -- the pairs of the segment that it owns
   abbrev pub pairs_owned : Shared (Node K V) → List (K × V)

@@ -1,6 +1,7 @@
 //! Items that are placed with two owners, items that aren't placed, and owners that are released.
 
 ghost use Rattle.std.specs.Prelude.{◌≡◌, ◌+◌, [], IfOk, IfErr, IfSome, MatchOption, OnOk, OnErr};
+ghost use Rattle.sdd_domain.specs.CellSteps.{StepsOnNoCell};
 ghost use Rattle.sdd_domain.specs.Sharing.{IsOwnerOf};
 ghost use Rattle.sdd_domain.specs.Tokens.{place_of, home_of, hand_of, misses_of};
 ghost use Rattle.shared_versions.specs.Placing.{IsOwnedIn, IsStill, IsStillButMisses};
@@ -65,6 +66,7 @@ pub(crate) fn let_go<K: Ord + Drop, V: Drop>(
     requires mine { IsOwnedIn (place_of domain.now).0 owner }
     ensures hand { hand_of local.new ≡ hand_of local.old }
     ensures same { IsStill local.old local.new }
+    ensures cells { StepsOnNoCell local.old local.new }
 {
     let _last = owner.release(domain, local);
 }

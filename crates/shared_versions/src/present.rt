@@ -4,7 +4,7 @@ ghost use Rattle.std.specs.Prelude.{◌≡◌, ◌<◌, ◌+◌, [], IfNone, IfO
 ghost use Rattle.std.specs.List.{All};
 ghost use Rattle.sdd_domain.specs.Cells.{cell_number};
 ghost use Rattle.sdd_domain.specs.Tokens.{place_of, home_of, hand_of, cell_count, misses_of};
-ghost use Rattle.shared_versions.specs.Placing.{IsKeptSegment, IsPlanned, IsPresent, IsOwnedIn, IsStill, IsStillButMisses, item_owned, pairs_kept, sight_in, sight_kept, version_owned};
+ghost use Rattle.shared_versions.specs.Placing.{HasPut, IsKeptSegment, IsPlanned, IsPresent, IsOwnedIn, IsStill, IsStillButMisses, item_owned, pairs_kept, sight_in, sight_kept, version_owned};
 ghost use Rattle.shared_versions.specs.Drafts.{IsPlaceable, nothing};
 ghost use Rattle.shared_versions.specs.Readers.{HasWidth};
 
@@ -265,6 +265,7 @@ pub fn publish<K: Ord + Drop, V: Drop>(
     requires home { home_of local.old ≡ place_of domain.now }
     requires inside { cell_number root.now < cell_count domain.now }
     requires mine { IsOwnedIn (place_of domain.now).0 new }
+    ensures put { HasPut local.old (cell_number root.now) new local.new }
     ensures hand { hand_of local.new ≡ hand_of local.old }
     ensures same { IsStill local.old local.new }
 {
