@@ -12,7 +12,7 @@ ghost use Rattle.serial_history.specs.RemainingPairs.{IsStart};
 use crate::base::Base;
 use crate::ordered_view::{OrderedView, around};
 use crate::query::{Near, Part};
-use crate::scan::{Steps, collect, copied_pair, matches, next};
+use crate::scan::{PairCursor, collect, copied_pair, matches, next};
 use crate::transaction::Transaction;
 use crate::version_view::walk_all;
 use std::alloc::{AllocError, Global};
@@ -127,7 +127,7 @@ fn tree_of_pairs<K: Clone + Ord, V: Clone>(
 }
 
 /// Copies of the pairs of a cursor without bounds.
-fn gathered<'t, K: Clone + Ord + 't, V: Clone + 't, C: Steps<'t, K, V>>(
+fn gathered<'t, K: Clone + Ord + 't, V: Clone + 't, C: PairCursor<'t, K, V>>(
     alloc: Global,
     cursor: C,
 ) -> Result<TreeIndex<K, V>, AllocError>

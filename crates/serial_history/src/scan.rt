@@ -14,7 +14,7 @@ use std::alloc::{AllocError, Global};
 use tree_index::Range;
 
 /// A cursor over pairs by rising keys.
-pub(crate) trait Steps<'t, K: Ord, V>: Drop {
+pub(crate) trait PairCursor<'t, K: Ord, V>: Drop {
     ghost cursor: { Self → Cursor K V };
 
     /// Moves on to the next pair.
@@ -26,7 +26,7 @@ pub(crate) trait Steps<'t, K: Ord, V>: Drop {
         ensures { GoesBack K.cmp (cursor self.old) result (cursor self.new) };
 }
 
-impl<'t, K: Ord, V> Steps<'t, K, V> for Range<'t, K, V> {
+impl<'t, K: Ord, V> PairCursor<'t, K, V> for Range<'t, K, V> {
     ghost cursor = { λ c. c };
 
     fn step(&mut self) -> Option<(&'t K, &'t V)> {
@@ -39,7 +39,7 @@ impl<'t, K: Ord, V> Steps<'t, K, V> for Range<'t, K, V> {
 }
 
 /// Whether these are that part of the pairs that a cursor gives.
-pub(crate) fn matches<'t, K: Ord + 't, V: Eq + 't, C: Steps<'t, K, V>>(
+pub(crate) fn matches<'t, K: Ord + 't, V: Eq + 't, C: PairCursor<'t, K, V>>(
     cursor: C,
     part: Part,
     told: &[(K, V)],
@@ -63,7 +63,7 @@ pub(crate) fn matches<'t, K: Ord + 't, V: Eq + 't, C: Steps<'t, K, V>>(
 }
 
 /// Whether the next pairs that a cursor gives are these.
-fn gives<'t, K: Ord + 't, V: Eq + 't, C: Steps<'t, K, V>>(
+fn gives<'t, K: Ord + 't, V: Eq + 't, C: PairCursor<'t, K, V>>(
     cursor: &mut C,
     part: Part,
     told: &[(K, V)],
@@ -85,7 +85,7 @@ fn gives<'t, K: Ord + 't, V: Eq + 't, C: Steps<'t, K, V>>(
 }
 
 /// Copies of that part of the pairs that a cursor gives.
-pub(crate) fn collect<'t, K: Clone + Ord + 't, V: Clone + 't, C: Steps<'t, K, V>>(
+pub(crate) fn collect<'t, K: Clone + Ord + 't, V: Clone + 't, C: PairCursor<'t, K, V>>(
     alloc: Global,
     cursor: C,
     part: Part,
@@ -103,7 +103,7 @@ pub(crate) fn collect<'t, K: Clone + Ord + 't, V: Clone + 't, C: Steps<'t, K, V>
 }
 
 /// Copies of that part, in the order in which the cursor gives it.
-fn given<'t, K: Clone + Ord + 't, V: Clone + 't, C: Steps<'t, K, V>>(
+fn given<'t, K: Clone + Ord + 't, V: Clone + 't, C: PairCursor<'t, K, V>>(
     alloc: Global,
     cursor: C,
     part: Part,
@@ -134,7 +134,7 @@ pub(crate) fn copied_pair<K: Clone, V: Clone>(key: &K, value: &V) -> Result<(K, 
 }
 
 /// The next pair that a cursor is yet to give, for a part of them.
-fn give<'t, K: Ord + 't, V: 't, C: Steps<'t, K, V>>(
+fn give<'t, K: Ord + 't, V: 't, C: PairCursor<'t, K, V>>(
     cursor: &mut C,
     part: Part,
 ) -> Option<(&'t K, &'t V)>
@@ -150,7 +150,9 @@ fn give<'t, K: Ord + 't, V: 't, C: Steps<'t, K, V>>(
 }
 
 /// The last pair that a cursor is yet to give.
-fn next_back<'t, K: Ord + 't, V: 't, C: Steps<'t, K, V>>(cursor: &mut C) -> Option<(&'t K, &'t V)>
+fn next_back<'t, K: Ord + 't, V: 't, C: PairCursor<'t, K, V>>(
+    cursor: &mut C,
+) -> Option<(&'t K, &'t V)>
     requires { (C.cursor cursor.old).forward ≡ Unopened }
     ensures alone { (C.cursor cursor.new).forward ≡ Unopened }
     ensures first { deref_pair result ≡ slice_get (remaining_back K.cmp (C.cursor cursor.old)) 0 }
@@ -160,7 +162,7 @@ fn next_back<'t, K: Ord + 't, V: 't, C: Steps<'t, K, V>>(cursor: &mut C) -> Opti
 }
 
 /// The next pair that a cursor is yet to give.
-pub(crate) fn next<'t, K: Ord + 't, V: 't, C: Steps<'t, K, V>>(
+pub(crate) fn next<'t, K: Ord + 't, V: 't, C: PairCursor<'t, K, V>>(
     cursor: &mut C,
 ) -> Option<(&'t K, &'t V)>
     requires { (C.cursor cursor.old).backward ≡ Unopened }

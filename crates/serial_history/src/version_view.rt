@@ -10,9 +10,10 @@ ghost use Rattle.serial_history.specs.RemainingPairs.{IsStart};
 
 use crate::ordered_view::{OrderedView, around};
 use crate::query::{Near, Part};
-use crate::scan::{Steps, collect, matches};
+use crate::scan::{PairCursor, collect, matches};
 use std::alloc::{AllocError, Global};
 use std::ops::Bound;
+use tree_index::Steps;
 use version_views::{LocalNearby, LocalWalk, Trees, VersionView};
 
 /// A cursor over the list of a session, within two bounds or without any.
@@ -21,7 +22,7 @@ pub type Walk<'a, K, V, const S: usize> = LocalWalk<'a, K, V, S>;
 /// Where a key stands in the list of a session, with a cursor there.
 pub type Nearby<'a, K, V, const S: usize> = LocalNearby<'a, K, V, S>;
 
-impl<'t, K: Ord, V, W: Trees<K, V>> Steps<'t, K, V> for version_views::Walk<'t, K, V, W> {
+impl<'t, K: Ord, V, W: Trees<K, V>> PairCursor<'t, K, V> for version_views::Walk<'t, K, V, W> {
     ghost cursor = { λ c. c };
 
     fn step(&mut self) -> Option<(&'t K, &'t V)> {
@@ -40,7 +41,7 @@ pub fn value_in<'w, K: Ord, V, W: Trees<K, V>>(
 ) -> Option<&'w V>
     ensures { option_copied result ≡ value_of_key K.cmp key.now (pairs_in version.now) }
 {
-    let mut steps = tree_index::Steps::new();
+    let mut steps = Steps::new();
     value_in_counted(version, key, &mut steps)
 }
 
@@ -49,7 +50,7 @@ pub fn value_in<'w, K: Ord, V, W: Trees<K, V>>(
 pub fn value_in_counted<'w, K: Ord, V, W: Trees<K, V>>(
     version: &VersionView<'w, K, V, W>,
     key: &K,
-    steps: &mut tree_index::Steps,
+    steps: &mut Steps,
 ) -> Option<&'w V>
     ensures value { option_copied result ≡ value_of_key K.cmp key.now (pairs_in version.now) }
     ensures cost { (digits : ℕ) → length version.now < 2 ^ digits → steps.new.count ≤ steps.old.count + 30 + digits }

@@ -9,14 +9,14 @@ use Rattle.serial_history.proofs.replay.gathered.Goals as goal
 pub gathering-init : goal.gathering-init
 gathering-init g c = record {
   alone = c.requires.start.backward;
-  given = rw c.new-list.ensures.empty (left_whole g.K.Ord.cmp (g.C.Steps.cursor c.args.cursor) c.requires.start c.requires.lower c.requires.upper);
+  given = rw c.new-list.ensures.empty (left_whole g.K.Ord.cmp (g.C.PairCursor.cursor c.args.cursor) c.requires.start c.requires.lower c.requires.upper);
 }
 
 pub gathering-preserved : goal.gathering-preserved
 gathering-preserved g c =
     let i = c.gathering.invariant in
     let pair = c.in_ok-key.ensures in
-    let more = gathered_more g.met.K.Ord.total c.gathering.list.pairs (remaining_pairs g.K.Ord.cmp (g.C.Steps.cursor c.gathering.cursor)) _ (c.in-Some.key.now, c.in-Some.value.now) i.given c.requires.start.rising (sym c.in-Some.ensures.first) in
+    let more = gathered_more g.met.K.Ord.total c.gathering.list.pairs (remaining_pairs g.K.Ord.cmp (g.C.PairCursor.cursor c.gathering.cursor)) _ (c.in-Some.key.now, c.in-Some.value.now) i.given c.requires.start.rising (sym c.in-Some.ensures.first) in
     record {
       alone = c.next.ensures.alone;
       given = rw (c.in-Ok.ensures.upserted, ap (λ (p : _ × _). p.0) pair, ap (λ (p : _ × _). p.1) pair, c.in-Some.ensures.left refl) more;
@@ -24,10 +24,10 @@ gathering-preserved g c =
 
 pub returns : goal.returns
 returns g c =
-    let first : slice_get (remaining_pairs g.K.Ord.cmp (g.C.Steps.cursor c.gathering.cursor)) 0 ≡ None = sym c.in_default.ensures.first in
-    done_all c.gathering.list.pairs (remaining_pairs g.K.Ord.cmp (g.C.Steps.cursor c.gathering.cursor)) _ c.gathering.invariant.given first
+    let first : slice_get (remaining_pairs g.K.Ord.cmp (g.C.PairCursor.cursor c.gathering.cursor)) 0 ≡ None = sym c.in_default.ensures.first in
+    done_all c.gathering.list.pairs (remaining_pairs g.K.Ord.cmp (g.C.PairCursor.cursor c.gathering.cursor)) _ c.gathering.invariant.given first
 
 pub gathering-smaller : goal.gathering-smaller
 gathering-smaller g c =
-    let left = remaining_pairs g.K.Ord.cmp (g.C.Steps.cursor c.gathering.cursor) in
+    let left = remaining_pairs g.K.Ord.cmp (g.C.PairCursor.cursor c.gathering.cursor) in
     fewer_left left _ (c.in-Some.key.now, c.in-Some.value.now) c.in-Some.ensures.first (c.in-Some.ensures.left refl)

@@ -6,9 +6,9 @@ use Rattle.serial_history.proofs.replay.gathered.Given as goal
 -- what was given so far is in the list, and the rest is yet to be given
 abbrev pub invariant-gathering : goal.invariant-gathering
 invariant-gathering g l = record {
-  alone : (g.C.Steps.cursor l.cursor).backward ≡ Unopened;
-  given : l.list.pairs ++ remaining_pairs g.K.Ord.cmp (g.C.Steps.cursor l.cursor) ≡ (g.C.Steps.cursor l.fn.cursor).pairs;
+  alone : (g.C.PairCursor.cursor l.cursor).backward ≡ Unopened;
+  given : l.list.pairs ++ remaining_pairs g.K.Ord.cmp (g.C.PairCursor.cursor l.cursor) ≡ (g.C.PairCursor.cursor l.fn.cursor).pairs;
 }
 
 abbrev pub decreases-gathering : goal.decreases-gathering
-decreases-gathering g l = length (remaining_pairs g.K.Ord.cmp (g.C.Steps.cursor l.cursor))
+decreases-gathering g l = length (remaining_pairs g.K.Ord.cmp (g.C.PairCursor.cursor l.cursor))
