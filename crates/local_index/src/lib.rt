@@ -30,9 +30,9 @@ pub use reading::Reading;
 pub use refused::DeskRefused;
 pub use scoped::ScopedIndex;
 pub use serial_history::{
-    Accepted, Answer, Audit, Cause, CheckpointRefused, Near, Nearby, Query, Receipt, Recorded,
-    Refused, Reply, Seq, SinceRefused, Transaction, Walk, Write, clones_of_lists, equals_of_lists,
-    ordered_view, replay, transaction, version_view,
+    Accepted, Answer, Audit, Cause, CheckpointRefused, Near, Nearby, Query, Reads, Receipt,
+    Recorded, Refused, Reply, Seq, SinceRefused, Transaction, Walk, Write, clones_of_lists,
+    equals_of_lists, ordered_view, replay, transaction, version_view,
 };
 pub use session::Session;
 pub use text::Text;

@@ -76,11 +76,11 @@
 pub use local_index::{
     Accepted, Answer, Audit, BaseCause, BaseRefused, Cause, CheckpointRefused, Desk, DeskCall,
     DeskRefused, DeskReply, LocalIndex, Near, Nearby, NoPlace, PastRefused, Query, ReadSet,
-    Reading, Receipt, Recorded, Refused, Reply, ScopedIndex, Seq, Session, SinceRefused, Text,
-    Transaction, Walk, Write, a_changed_range_is_a_conflict, a_feed_leads_to_the_present_list,
-    clones_of_lists, equals_of_lists, ordered_view, own_receipts_audit_yes,
-    pairs_beyond_a_part_are_no_conflict, play_all, play_one, reads_that_hold_are_no_conflict,
-    replay, transaction, version_view,
+    Reading, Reads, Receipt, Recorded, Refused, Reply, ScopedIndex, Seq, Session, SinceRefused,
+    Text, Transaction, Walk, Write, a_changed_range_is_a_conflict,
+    a_feed_leads_to_the_present_list, clones_of_lists, equals_of_lists, ordered_view,
+    own_receipts_audit_yes, pairs_beyond_a_part_are_no_conflict, play_all, play_one,
+    reads_that_hold_are_no_conflict, replay, transaction, version_view,
 };
 pub use sdd_domain::atomic_shared::AtomicShared;
 pub use sdd_domain::domain::Domain;

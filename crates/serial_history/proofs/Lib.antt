@@ -7,3 +7,4 @@ pub mod NearbyLemmas
 pub mod ReplayLemmas
 pub mod StepLemmas
 pub mod BaseLemmas
+pub mod GhostWalkLemmas

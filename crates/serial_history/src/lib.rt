@@ -10,15 +10,17 @@
 //! let mut receipt = Receipt::blank(alloc);
 //! receipt.note(Query::Get(1), &Answer::Get(Some(10)))?;              // a read is recorded
 //! first_conflict(&list, receipt.reads.as_slice());                     // Some(0), where `list` has no 10 at 1
-//! let prepared = prepare(alloc, receipt.reads.as_slice(), 2)?;         // the memory of a commit of two writes
+//! let prepared = prepare(alloc, receipt.reads.as_slice(), 2)?;         // its reads, and room for two replies
 //! let list = replay(alloc, &version, &history[4..9])?;                  // the list of number 9, from the version of number 4
 //! ```
 #![tactic(auto)]
 
 pub mod base;
 mod commit;
+mod ghost_items;
 pub mod ordered_view;
 mod query;
+mod reads;
 pub mod replay;
 mod scan;
 mod seq;
@@ -28,6 +30,7 @@ pub mod version_view;
 pub use base::Base;
 pub use commit::{Accepted, Cause, CheckpointRefused, Refused, SinceRefused};
 pub use query::{Answer, Near, Part, Query};
+pub use reads::Reads;
 pub use seq::{Seq, clones_of_lists, equals_of_lists};
 pub use transaction::{Audit, Receipt, Recorded, Transaction};
 pub use version_view::{Nearby, Walk};

@@ -4,6 +4,7 @@ ghost use Rattle.std.specs.Prelude.{◌≡◌, ◌≤◌, ◌∷◌, ◌++◌, [
 ghost use Rattle.leaf_array.specs.Values.{ClonesAreSame};
 
 use crate::query::{Answer, Query};
+use crate::reads::Reads;
 use crate::seq::Seq;
 use std::alloc::{AllocError, Global};
 use version_views::{Reply, Write};
@@ -82,8 +83,8 @@ pub enum Audit {
 /// What an accepted commit read, wrote and was told: an entry of the history.
 #[derive(Clone, Debug, PartialEq, Eq, Drop)]
 pub struct Transaction<K, V> {
-    /// The reads that it rested on.
-    pub reads: Seq<Recorded<K, V>>,
+    /// The reads that it rested on, which contracts alone see.
+    pub reads: Reads<K, V>,
     /// Its writes, in order.
     pub writes: Seq<Write<K, V>>,
     /// What each write was told.
@@ -93,52 +94,26 @@ pub struct Transaction<K, V> {
 /// What a commit adds to the history, but for its writes: its reads, and room for what its writes are told.
 #[derive(Drop)]
 pub struct Prepared<K, V> {
-    /// Copies of the reads that it rests on.
-    pub reads: Seq<Recorded<K, V>>,
+    /// The reads that it rests on, which contracts alone see.
+    pub reads: Reads<K, V>,
     /// Nothing yet, with room.
     pub replies: Vec<Reply>,
 }
 
-/// Copies of a commit's reads, and room for what so many writes are told. Fails only if an allocation fails.
-pub fn prepare<K: Clone, V: Clone>(
+/// A commit's reads, of which nothing is copied, and room for what so many writes are told. Fails only if an allocation fails.
+pub fn prepare<K, V>(
     alloc: Global,
     reads: &[Recorded<K, V>],
     writes: usize,
 ) -> Result<Prepared<K, V>, AllocError>
-    requires keys { ClonesAreSame K.is_clone }
-    requires values { ClonesAreSame V.is_clone }
     ensures reads { IfOk result (λ p. p.reads ≡ reads.now) }
     ensures empty { IfOk result (λ p. p.replies.items ≡ []) }
     ensures room { IfOk result (λ p. writes ≤ vec_capacity p.replies) }
 {
     Ok(Prepared {
-        reads: copied_reads(alloc, reads)?,
+        reads: Reads::of(reads),
         replies: Vec::with_capacity(alloc, writes)?,
     })
-}
-
-/// A copy of recorded reads.
-fn copied_reads<K: Clone, V: Clone>(
-    alloc: Global,
-    reads: &[Recorded<K, V>],
-) -> Result<Seq<Recorded<K, V>>, AllocError>
-    requires keys { ClonesAreSame K.is_clone }
-    requires values { ClonesAreSame V.is_clone }
-    ensures { IfOk result (λ copy. copy ≡ reads.now) }
-{
-    let mut copy = Vec::with_capacity(alloc, reads.len())?;
-    for read in reads {
-        copy.push((copied_query(&read.0)?, copied_answer(&read.1)?))?;
-    }
-    Ok(Seq::from_vec(copy))
-}
-
-/// A copy of a query.
-fn copied_query<K: Clone>(query: &Query<K>) -> Result<Query<K>, AllocError>
-    requires { ClonesAreSame K.is_clone }
-    ensures { IfOk result (λ copy. copy ≡ query.now) }
-{
-    query.clone()
 }
 
 /// A copy of an answer.

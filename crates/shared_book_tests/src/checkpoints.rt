@@ -145,31 +145,23 @@ const FED: &[(Call, Told)] = &[
     (
         Since(0),
         Fed(&[
-            (&[], &[Insert(1, 10)], &[Inserted]),
-            (
-                &[Got(1, Some(10)), Got(2, None)],
-                &[Upsert(1, 11), Remove(1)],
-                &[Upserted, Removed],
-            ),
-            (&[], &[], &[]),
+            (&[Insert(1, 10)], &[Inserted]),
+            (&[Upsert(1, 11), Remove(1)], &[Upserted, Removed]),
+            (&[], &[]),
         ]),
     ),
     (
         Since(1),
         Fed(&[
-            (
-                &[Got(1, Some(10)), Got(2, None)],
-                &[Upsert(1, 11), Remove(1)],
-                &[Upserted, Removed],
-            ),
-            (&[], &[], &[]),
+            (&[Upsert(1, 11), Remove(1)], &[Upserted, Removed]),
+            (&[], &[]),
         ]),
     ),
     (Since(3), Fed(&[])),
     (Since(4), Unfed(FeedRefused::Ahead(3))),
     (Checkpoint(2), Done),
     (Since(1), Unfed(FeedRefused::TooOld(2))),
-    (Since(2), Fed(&[(&[], &[], &[])])),
+    (Since(2), Fed(&[(&[], &[])])),
     (Since(3), Fed(&[])),
     (Counts, Counted(3, 0, 3)),
 ];

@@ -50,12 +50,8 @@ pub(crate) enum Call {
     Rounds(u64),
 }
 
-/// What a transaction read, wrote and was told.
-pub(crate) type Entry = (
-    &'static [Claim],
-    &'static [Write<u64, u64>],
-    &'static [Reply],
-);
+/// What a transaction wrote and was told. What it read, contracts alone see.
+pub(crate) type Entry = (&'static [Write<u64, u64>], &'static [Reply]);
 
 /// What a call answers.
 #[derive(Clone, Copy)]
@@ -130,23 +126,13 @@ fn commits<L: Naming, R: Abort, const S: usize>(
     }
 }
 
-/// Whether a transaction read, wrote and was told this.
-fn is_entry<R: Abort>(
-    rt: &R,
-    alloc: Global,
-    transaction: &Transaction<u64, u64>,
-    entry: Entry,
-) -> bool {
-    let claimed = receipt(alloc, 0, entry.0).expect(rt, ROOM);
-    transaction.reads.as_slice() == claimed.reads.as_slice()
-        && transaction.writes.as_slice() == entry.1
-        && transaction.replies.as_slice() == entry.2
+/// Whether a transaction wrote and was told this.
+fn is_entry(transaction: &Transaction<u64, u64>, entry: Entry) -> bool {
+    transaction.writes.as_slice() == entry.0 && transaction.replies.as_slice() == entry.1
 }
 
 /// Whether these are the transactions behind a number.
-fn is_fed<L: Naming, R: Abort, const S: usize>(
-    rt: &R,
-    alloc: Global,
+fn is_fed<L: Naming, const S: usize>(
     scene: &Scene<'_, L, S>,
     number: u64,
     entries: &[Entry],
@@ -156,7 +142,7 @@ fn is_fed<L: Naming, R: Abort, const S: usize>(
     };
     let mut alike = fed.len() == entries.len();
     for (transaction, entry) in fed.iter().zip(entries) {
-        alike = is_entry(rt, alloc, transaction, *entry) && alike;
+        alike = is_entry(transaction, *entry) && alike;
     }
     alike
 }
@@ -181,7 +167,7 @@ fn answers<L: Naming, R: Abort, const S: usize>(
         (Call::Checkpoint(upto), Told::Kept(why)) => scene.checkpoint(upto) == Err(why),
         (Call::Checkpoint(upto), Told::Done) => scene.checkpoint(upto) == Ok(()),
         (Call::Base, Told::Based(number, pairs)) => scene.base() == (number, pairs),
-        (Call::Since(number), Told::Fed(entries)) => is_fed(rt, alloc, scene, number, entries),
+        (Call::Since(number), Told::Fed(entries)) => is_fed(scene, number, entries),
         (Call::Since(number), Told::Unfed(why)) => scene.since(number).err() == Some(why),
         (Call::Counts, Told::Counted(number, pairs, count)) => {
             scene.counts() == (number, pairs, count)

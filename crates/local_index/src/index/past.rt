@@ -106,7 +106,8 @@ impl<K: Clone + Ord, V: Clone + Eq, const S: usize> LocalIndex<K, V, S> {
         (self.base.number(), self.base.pairs())
     }
 
-    /// The transactions behind a number, in order: those that lead from its list to the present one. It takes no memory.
+    /// The transactions behind a number, in order: those that lead from its list to the present one, with their writes and
+    /// replies. What they read, contracts alone see. It takes no memory.
     ///
     /// It is refused as `TooOld` where the number is below the base's, since some of them are gone, and as `Ahead` where it is
     /// above the present one. Whoever keeps a copy of the list asks for what came since, by the number of its copy.

@@ -7,7 +7,7 @@ ghost use Rattle.shared_index.specs.SharedFeeds.{RefusesFeed};
 
 use crate::book::Book;
 use crate::naming::Naming;
-use serial_history::transaction::{Prepared, copied_replies, prepare};
+use serial_history::transaction::copied_replies;
 use serial_history::{Seq, Transaction};
 use std::alloc::{AllocError, Global};
 use thiserror::Error;
@@ -28,7 +28,8 @@ pub enum FeedRefused {
 }
 
 impl<L: Naming, K: Clone + Ord, V: Clone + Eq, const S: usize> Book<L, K, V, S> {
-    /// Copies of the transactions behind a number, in order: those that lead from its list to the present one.
+    /// Copies of the transactions behind a number, in order: those that lead from its list to the present one, with their writes
+    /// and replies. What they read, contracts alone see.
     ///
     /// The causes are decided in this order: `TooOld`, with the base's number, where that is above the one asked for, since some
     /// of them are gone; `Ahead`, with the present number, where that is below it; `Memory`. The first two take none.
@@ -80,11 +81,11 @@ fn copied<K: Clone, V: Clone>(
     ensures { IfOk result (λ copy. copy ≡ transaction.now) }
 {
     let told = transaction.replies.as_slice();
-    let Prepared { reads, replies } = prepare(alloc, transaction.reads.as_slice(), told.len())?;
-    let replies = copied_replies(replies, told);
+    let room = Vec::with_capacity(alloc, told.len())?;
+    let replies = copied_replies(room, told);
     let writes = copied_writes(alloc, transaction.writes.as_slice())?;
     Ok(Transaction {
-        reads,
+        reads: transaction.reads.again(),
         writes: Seq::from_vec(writes),
         replies: Seq::from_vec(replies),
     })

@@ -34,9 +34,6 @@ returns-in-Err-clause-commits g c =
 pub next_number-number-requires : goal.next_number-number-requires
 next_number-number-requires g c = (lit< tt, c.in_default.ensures.none.not_last)
 
-pub prepare-requires : goal.prepare-requires
-prepare-requires g c = record { keys = c.requires.keys; values = c.requires.values }
-
 pub install-requires : goal.install-requires
 install-requires g c =
     let accepted = subst (λ (rs : List _). MayAccept g.K.Ord.cmp c.args.self.now rs) (sym c.in-Ok.ensures.reads) c.in_default.ensures.none in
