@@ -2,7 +2,7 @@
 use Rattle.std.specs.Prelude.{ℕ, ◌+◌, ◌%◌, ◌^◌, List, [], ◌∷◌}
 use Rattle.std.specs.Option.{unwrap_or}
 use Rattle.std.specs.Ordering.{nat_cmp}
-use Rattle.leaf_array.specs.Pairs.{value_of_key}
+use Rattle.tree_index.specs.Pairs.{value_of_key}
 
 -- the sum of the values that a list of pairs has at some keys, and a number, without carry
 abbrev pub sum_found : List (ℕ × ℕ) → List ℕ → ℕ → ℕ

@@ -9,7 +9,7 @@
 ghost use Rattle.std.specs.Prelude.{◌≡◌};
 ghost use Rattle.std.specs.Option.{unwrap_or};
 ghost use Rattle.std.specs.Ordering.{nat_cmp};
-ghost use Rattle.leaf_array.specs.Pairs.{value_of_key};
+ghost use Rattle.tree_index.specs.Pairs.{value_of_key};
 ghost use Rattle.index_bench.specs.Sums.{sum_found};
 
 use std::alloc::Global;

@@ -13,3 +13,8 @@ pub use Rattle.tree_nodes.specs.Reads
 pub use Rattle.leaf_array.specs.Pairs
 pub use Rattle.leaf_array.specs.Edits
 pub use Rattle.leaf_array.specs.Values
+pub use Rattle.leaf_array.specs.Arrays
+pub use Rattle.leaf_array.specs.Results
+pub use Rattle.leaf_array.specs.Words
+pub use Rattle.leaf_array.specs.Calls
+pub use Rattle.leaf_array.specs.Lookups

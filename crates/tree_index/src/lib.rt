@@ -33,7 +33,9 @@ mod take;
 pub use index::{InsertRefused, TreeIndex};
 pub use iter::Iter;
 pub use laws::done_stays_at_none;
-pub use leaf_array::Steps;
+pub use leaf_array::{
+    Array, ArrayIter, ArrayRevIter, DIMENSION, Dimension, InsertResult, RemoveResult, Steps,
+};
 pub use proximity::Proximity;
 pub use range::Range;
 pub use take::Take;
