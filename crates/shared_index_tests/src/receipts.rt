@@ -4,7 +4,7 @@ ghost use Rattle.std.specs.Prelude.{◌≡◌, ◌≤◌};
 ghost use Rattle.sdd_domain.specs.Tokens.{home_of, own_of, IsSame};
 ghost use Rattle.shared_index_tests.specs.Scenes.{CanBegin};
 
-use self::Ask::{Get, Has, List, Near};
+use self::Ask::{First, Get, Has, Last, List, Near};
 use self::Step::{Commit, Reclaim, Session};
 use crate::calls::{self, Index, asked, audit, bounded, commit, ended, leave, place, tried};
 use crate::place::{Item, ROOM, end, member};
@@ -29,6 +29,8 @@ enum Ask {
     Has(u64),
     List(Bound<u64>, Bound<u64>),
     Near(u64),
+    First(Bound<u64>, Bound<u64>, usize),
+    Last(Bound<u64>, Bound<u64>, usize),
 }
 
 /// What is done with an index.
@@ -53,6 +55,8 @@ fn query(ask: Ask) -> Query<u64> {
         Has(key) => Query::Contains(key),
         List(lower, upper) => Query::Range(lower, upper),
         Near(key) => Query::Locate(key),
+        First(lower, upper, most) => Query::First(lower, upper, most),
+        Last(lower, upper, most) => Query::Last(lower, upper, most),
     }
 }
 
@@ -335,6 +339,77 @@ const EACH_READ: Table = Table {
     number: 18,
 };
 
+/// The first and the last pairs of a range: accepted where what was written lies beyond them, a conflict where it is among them.
+const ENDS: Table = Table {
+    is_by_ones: false,
+    slots: 512,
+    last: u64::MAX,
+    rows: &[
+        (
+            Commit(&[Insert(2, 20), Insert(4, 40), Insert(6, 60), Insert(8, 80)]),
+            ("accepted", 1),
+        ),
+        (
+            Session(
+                1,
+                &[First(Unbounded, Unbounded, 2)],
+                &[Upsert(6, 61)],
+                &[Upsert(8, 81)],
+            ),
+            ("accepted", 3),
+        ),
+        (
+            Session(
+                3,
+                &[First(Unbounded, Unbounded, 2)],
+                &[Insert(3, 30)],
+                &[Write::Clear],
+            ),
+            ("conflict", 0),
+        ),
+        (
+            Session(
+                4,
+                &[First(Included(3), Unbounded, 1)],
+                &[Remove(3)],
+                &[Write::Clear],
+            ),
+            ("conflict", 0),
+        ),
+        (
+            Session(
+                5,
+                &[Last(Unbounded, Excluded(8), 2)],
+                &[Upsert(2, 21)],
+                &[Upsert(8, 82)],
+            ),
+            ("accepted", 7),
+        ),
+        (
+            Session(
+                7,
+                &[Last(Unbounded, Excluded(8), 2)],
+                &[Insert(5, 50)],
+                &[Write::Clear],
+            ),
+            ("conflict", 0),
+        ),
+        (
+            Session(
+                8,
+                &[
+                    Last(Unbounded, Unbounded, 1),
+                    First(Unbounded, Unbounded, 1),
+                ],
+                &[Upsert(2, 22)],
+                &[],
+            ),
+            ("conflict", 1),
+        ),
+    ],
+    number: 9,
+};
+
 /// Several reads: the first that doesn't hold is told. What was changed and changed back holds.
 const SEVERAL_READS: Table = Table {
     is_by_ones: false,
@@ -447,6 +522,7 @@ const FEW_SLOTS: Table = Table {
 #[test]
 fn a_commit_rests_on_what_its_session_read(rt: HostRuntime) {
     plays(&rt, rt.alloc(), &EACH_READ);
+    plays(&rt, rt.alloc(), &ENDS);
     plays(&rt, rt.alloc(), &SEVERAL_READS);
 }
 
