@@ -18,52 +18,77 @@ struct Scene<'a> {
     ghost made: { IsQueueOf queue.now domain.now × AreLinksOf links.now domain.now },
 }
 
-// Pushes the numbers from 1 to 100: how many were taken.
-fn produced(scene: &Scene) -> u64 {
-    let Ok(mut local) = scene.domain.register() else {
-        return 0;
-    };
-    let mut taken = 0u64;
-    for number in 1..=100u64 {
-        match scene
-            .queue
-            .push(scene.domain, number, scene.links, &mut local)
-        {
-            Ok(()) => taken = taken.saturating_add(1),
-            Err(refused) => {
-                let _value = refused.end(scene.domain, &mut local);
-            }
+// A participant of a scene, at rest between its calls.
+struct Worker<'a> {
+    scene: &'a Scene<'a>,
+    local: Local<u64>,
+    ghost ready: { IsReady local scene.now.domain.now },
+}
+
+// One of its participants, if one is free.
+fn worker_of<'a>(scene: &'a Scene<'a>) -> Option<Worker<'a>> {
+    match scene.domain.register() {
+        Ok(local) => Some(Worker { scene, local }),
+        Err(_) => None,
+    }
+}
+
+// Ends a participant.
+fn leave(worker: Worker) {
+    let Worker { scene, local } = worker;
+    local.end(scene.domain);
+}
+
+// Pushes a number: whether it was taken.
+fn pushed(worker: &mut Worker, number: u64) -> bool {
+    let Worker { scene, local } = worker;
+    match scene.queue.push(scene.domain, number, scene.links, local) {
+        Ok(()) => true,
+        Err(refused) => {
+            let _value = refused.end(scene.domain, local);
+            false
         }
     }
-    local.end(scene.domain);
-    taken
 }
 
 // Pops once: the value, if there was one.
-fn popped(scene: &Scene, local: &mut Local<u64>) -> Option<u64>
-    requires { IsReady local.old scene.now.domain.now }
-    ensures { IsAsBefore local.old local.new }
-{
+fn popped(worker: &mut Worker) -> Option<u64> {
+    let Worker { scene, local } = worker;
     let owner = scene.queue.pop(scene.domain, scene.links, local)?;
     let value = *owner.as_ref();
     let _last = owner.release(scene.domain, local);
     Some(value)
 }
 
+// Pushes the numbers from 1 to 100: how many were taken.
+fn produced(scene: &Scene) -> u64 {
+    let Some(mut worker) = worker_of(scene) else {
+        return 0;
+    };
+    let mut taken = 0u64;
+    for number in 1..=100u64 {
+        if pushed(&mut worker, number) {
+            taken = taken.saturating_add(1);
+        }
+    }
+    leave(worker);
+    taken
+}
+
 // Pops a thousand times: how many there were, and their sum.
 fn consumed(scene: &Scene) -> (u64, u64) {
-    let Ok(mut local) = scene.domain.register() else {
+    let Some(mut worker) = worker_of(scene) else {
         return (0, 0);
     };
     let mut count = 0u64;
     let mut sum = 0u64;
     for _turn in 0..1000u32 {
-        if let Some(value) = popped(scene, &mut local) {
+        if let Some(value) = popped(&mut worker) {
             count = count.saturating_add(1);
             sum = sum.saturating_add(value);
         }
     }
-    local.end(scene.domain);
+    leave(worker);
     (count, sum)
 }
 
