@@ -1,8 +1,8 @@
 //! What an index is asked and what it tells, as values: cloned, compared and printed.
 
 use local_index::{
-    Accepted, Answer, Audit, Cause, DeskCall, DeskReply, Near, Query, ReadSet, Receipt, Recorded,
-    Refused, Reply, Seq, Write,
+    Accepted, Answer, Audit, Cause, DeskCall, DeskReply, Near, Query, ReadSet, Reads, Receipt,
+    Recorded, Refused, Reply, Seq, Transaction, Write,
 };
 use std::alloc::{AllocError, Global};
 use std::fmt;
@@ -52,6 +52,28 @@ fn refused(alloc: Global) -> Result<bool, AllocError> {
     is_value(alloc, &Refused { cause, writes }, wanted)
 }
 
+// A transaction of one upsert that rested on these reads.
+fn transaction(
+    alloc: Global,
+    receipt: &Receipt<u64, u64>,
+) -> Result<Transaction<u64, u64>, AllocError> {
+    let writes: Vec<Write<u64, u64>> = vec![in alloc; Write::Upsert(1, 11)]?;
+    let replies: Vec<Reply> = vec![in alloc; Reply::Upserted]?;
+    Ok(Transaction {
+        reads: Reads::of(receipt.reads.as_slice()),
+        writes: Seq::from_vec(writes),
+        replies: Seq::from_vec(replies),
+    })
+}
+
+// What was read is neither compared nor printed.
+fn transactions(alloc: Global) -> Result<bool, AllocError> {
+    let rested = transaction(alloc, &receipt(alloc)?)?;
+    let free = transaction(alloc, &Receipt::blank(alloc))?;
+    let wanted = "Transaction { reads: Reads(..), writes: [Upsert(1, 11)], replies: [Upserted] }";
+    Ok(rested == free && is_value(alloc, &rested, wanted)?)
+}
+
 fn answers(alloc: Global) -> Result<bool, AllocError> {
     let near: Near<u64, u64> = Near::Between(1, 10, 3, 30);
     let printed = prints(alloc, &near, "Between(1, 10, 3, 30)")?;
@@ -84,9 +106,10 @@ fn what_is_asked_and_told_are_values(rt: HostRuntime) {
         receipts(alloc),
         accepted(alloc),
         refused(alloc),
+        transactions(alloc),
         answers(alloc),
         calls(alloc),
         replies(alloc),
     ];
-    assert!(rt; found == [Ok(true); 6]);
+    assert!(rt; found == [Ok(true); 7]);
 }
