@@ -160,6 +160,7 @@ impl<'r, R: Abort, J: Deferred> Stage<'r, R, J> {
             Step::IsNullShared(at)
             | Step::TagOfShared(at)
             | Step::TagSharedIfFull(at, _)
+            | Step::ClaimKept(at, _)
             | Step::CloneCell(at, _) => at,
             Step::SwapShared(at, owner, tag) => return self.swap_shared(at, owner, tag),
             Step::LoadShared(at, to) => return self.load_shared(at, to),
@@ -175,26 +176,33 @@ impl<'r, R: Abort, J: Deferred> Stage<'r, R, J> {
                 let full = |seen: Ptr<'_, u64>| !seen.is_null();
                 told(world::atomic_shared::update_tag_if(&mut self.w, &cell, tag, full))
             }
-            Step::CloneCell(_, to) => self.clone_cell(&cell, to),
+            Step::CloneCell(_, to) => self.share_further(&cell, to, true),
+            Step::ClaimKept(_, to) => self.share_further(&cell, to, false),
             _ => Found::Nothing,
         };
         self.put(at, Thing::SharedCell(cell));
         found
     }
 
-    fn clone_cell(&mut self, cell: &AtomicShared<u64>, to: usize) -> Found
+    /// One more cell, or one more owner, of what a cell keeps.
+    fn share_further(&mut self, cell: &AtomicShared<u64>, to: usize, by_a_cell: bool) -> Found
         requires { IsSharedCell self.old.w (shared_cell cell.now) }
     {
         let guard = self.guard(G);
-        let copy = world::atomic_shared::clone(&mut self.w, cell, &guard);
-        self.put(G, Thing::Guard(guard));
-        match copy {
-            Ok(copy) => {
-                self.put(to, Thing::SharedCell(copy));
-                Found::Done
+        let (thing, found) = if by_a_cell {
+            match world::atomic_shared::clone(&mut self.w, cell, &guard) {
+                Ok(copy) => (Thing::SharedCell(copy), Found::Done),
+                Err(_) => (Thing::Nothing, Found::NoSlot),
             }
-            Err(_) => Found::NoSlot,
-        }
+        } else {
+            match world::atomic_shared::get_shared(&mut self.w, cell, &guard) {
+                Some(owner) => (Thing::Shared(owner), Found::Done),
+                None => (Thing::Nothing, Found::No),
+            }
+        };
+        self.put(G, Thing::Guard(guard));
+        self.put(to, thing);
+        found
     }
 
     fn swap_shared(&mut self, at: usize, owner: usize, tag: Tag) -> Found {

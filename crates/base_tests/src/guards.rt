@@ -94,7 +94,8 @@ impl<'r, R: Abort, J: Deferred> Stage<'r, R, J> {
         let rt = self.rt;
         let at = match step {
             Step::Look(at) | Step::Retag(at, _) => at,
-            Step::Claim(at, to) => return self.claim(at, to),
+            Step::Claim(at, to) => return self.claim(at, to, false),
+            Step::TryClaim(at, to) => return self.claim(at, to, true),
             Step::See(owner, guard, to) => return self.see(owner, guard, to),
             _ => return self.of_collectors(step),
         };
@@ -114,14 +115,25 @@ impl<'r, R: Abort, J: Deferred> Stage<'r, R, J> {
         found
     }
 
-    /// One more owner of what is seen, which isn't seen any more.
-    fn claim(&mut self, at: usize, to: usize) -> Found {
+    /// One more owner of what is seen, which isn't seen any more unless the call hands it back.
+    fn claim(&mut self, at: usize, to: usize, hands_back: bool) -> Found {
         let rt = self.rt;
         let seen = match self.take(at) {
             Thing::Seen(seen) => seen,
             _ => panic!(rt; "something is seen"),
         };
-        match world::ptr::get_shared(&mut self.w, seen) {
+        let (owner, back) = if hands_back {
+            match world::shared::try_from(&mut self.w, seen) {
+                Ok(owner) => (Some(owner), None),
+                Err(back) => (None, Some(back)),
+            }
+        } else {
+            (world::ptr::get_shared(&mut self.w, seen), None)
+        };
+        if let Some(back) = back {
+            self.put(at, Thing::Seen(back));
+        }
+        match owner {
             Some(owner) => {
                 self.put(to, Thing::Shared(owner));
                 Found::Done

@@ -4,12 +4,12 @@ use crate::play::plays;
 use crate::steps::Found::{self, Done, Is, No, NoSlot, Null, Tagged, Yes};
 use crate::steps::Part::Once;
 use crate::steps::Step::{
-    Claim, CloneCell, Close, EndCell, ExchangeRaw, FromRaw, IntoRaw, IsNullOwned, IsNullRaw,
-    IsNullShared, IsOut, KeepOwned, KeepShared, Link, LinkNull, LoadOwned, LoadRaw, LoadShared,
-    NullRawCell, NullSharedCell, Open, Own, OwnedCell, ReadOwned, ReadShared, Release, Retag,
-    Retire, See, Share, SharedCell, Slots, StoreRaw, SwapOwned, SwapRaw, TagIfFull, TagIfMarked,
-    TagOfOwned, TagOfRaw, TagOfShared, TagSharedIfFull, TakeOwned, TakeOwnedWeakly, TakeShared,
-    TakeSharedWeakly, Untag, UpdateRaw,
+    Claim, ClaimKept, CloneCell, Close, EndCell, ExchangeRaw, FromRaw, IntoRaw, IsNullOwned,
+    IsNullRaw, IsNullShared, IsOut, KeepOwned, KeepShared, Link, LinkNull, LoadOwned, LoadRaw,
+    LoadShared, Look, NullRawCell, NullSharedCell, Open, Own, OwnedCell, ReadOwned, ReadShared,
+    Release, Retag, Retire, See, Share, SharedCell, Slots, StoreRaw, SwapOwned, SwapRaw, TagIfFull,
+    TagIfMarked, TagOfOwned, TagOfRaw, TagOfShared, TagSharedIfFull, TakeOwned, TakeOwnedWeakly,
+    TakeShared, TakeSharedWeakly, TryClaim, Untag, UpdateRaw,
 };
 use crate::steps::{A, B, C, D, G, Point, Table};
 use sdd_world::{Job, Tag};
@@ -133,14 +133,39 @@ const NOTHING_TO_SHARE: Table = Table {
     parts: &[Once(&[
         (Open(G, 0), Done),
         (NullSharedCell(A), Done),
+        (ClaimKept(A, B), No),
+        (IsNullShared(A), Yes),
         (LoadShared(A, D), Done),
+        (TryClaim(D, B), No),
+        // it came back
         (Claim(D, B), No),
         (Own(C, 5), Done),
         (See(C, G, D), Done),
+        (TryClaim(D, B), No),
+        (Look(D), Is(5)),
         (Claim(D, B), No),
         (ReadOwned(C), Is(5)),
+        (Slots, Is(1)),
         (Retire(C, 0), Done),
         (EndCell(A, 0), Done),
+        (Close(G), Done),
+    ])],
+};
+
+const SHARED_FURTHER: Table = Table {
+    about: "what a cell keeps has further owners",
+    sizes: [2, 1, 1, 0],
+    parts: &[Once(&[
+        (Open(G, 0), Done),
+        (SharedCell(A, 6), Done),
+        (ClaimKept(A, B), Done),
+        (LoadShared(A, D), Done),
+        (TryClaim(D, C), Done),
+        (ReadShared(B), Is(6)),
+        (ReadShared(C), Is(6)),
+        (EndCell(A, 0), Done),
+        (Release(B, 0), No),
+        (Release(C, 0), Yes),
         (Close(G), Done),
     ])],
 };
@@ -214,6 +239,7 @@ const TABLES: &[Table] = &[
     SHARED_IS_COMPARED,
     NO_CELL,
     NOTHING_TO_SHARE,
+    SHARED_FURTHER,
     LINKED,
     OUT_ONCE,
     OF_RAW_POINTERS,

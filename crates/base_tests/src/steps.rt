@@ -74,6 +74,9 @@ pub(crate) enum Step {
     /// What is seen has another tag. One more owner of it is at the second place, and it isn't seen any more.
     Retag(usize, Tag),
     Claim(usize, usize),
+    /// The same by the call that hands back what is seen, and of what the cell at the first place keeps.
+    TryClaim(usize, usize),
+    ClaimKept(usize, usize),
     /// A collector. The owner at the second place is collected under the guard at the third one: whether it was the last.
     /// It is handed over to a participant.
     Collector(usize),
