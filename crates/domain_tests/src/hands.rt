@@ -13,6 +13,7 @@ use sdd_domain::guard::Guard;
 use sdd_domain::local::Local;
 use sdd_domain::pointer::Ptr;
 use sdd_domain::shared::Shared;
+use sdd_plain::refusal::NoSlot;
 use sdd_plain::tag::Tag;
 
 /// An owner, or none.
@@ -327,6 +328,40 @@ pub(crate) fn share(
     let owner = pointer.get_shared(domain, local);
     let found = told(owner.is_some());
     (owner, found)
+}
+
+/// The same, where the pointer is back if there is none.
+pub(crate) fn try_share(
+    domain: &Domain<u64>,
+    local: &mut Local<u64>,
+    pointer: Ptr<u64>,
+) -> (Hand, Found)
+    requires home { IsHome domain.now local.old }
+    ensures ours { IsOurs domain.now result.0 }
+    ensures stays { Stays local.old local.new }
+{
+    match Shared::try_from(domain, pointer, local) {
+        Ok(owner) => (Some(owner), Found::Yes),
+        Err(back) if back == pointer => (None, Found::No),
+        Err(_) => (None, Found::Nothing),
+    }
+}
+
+/// An owner of an item that a closure gives, or whether the closure is called where no slot is free.
+pub(crate) fn place_with(domain: &Domain<u64>, local: &mut Local<u64>, item: u64) -> (Hand, Found)
+    requires home { IsHome domain.now local.old }
+    ensures ours { IsOurs domain.now result.0 }
+    ensures stays { Stays local.old local.new }
+{
+    let mut is_called = false;
+    let give = || {
+        is_called = true;
+        item
+    };
+    match Shared::new_with(domain, give, local) {
+        Ok(owner) => (Some(owner), Found::Nothing),
+        Err(NoSlot) => (None, told(is_called)),
+    }
 }
 
 /// One more owner of what the cell owns.

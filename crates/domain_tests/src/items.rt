@@ -7,9 +7,9 @@ ghost use Rattle.sdd_domain.specs.Tokens.{place_of, home_of, hand_of, own_of, Is
 use crate::guard::pass;
 use crate::hands::told;
 use crate::steps::Act::{
-    Alternate, Join, Leave, Passes, Place, Read, Release, Second, Slots, Sum, Third,
+    Alternate, Join, Leave, Passes, Place, PlaceWith, Read, Release, Second, Slots, Sum, Third,
 };
-use crate::steps::Found::{Is, Nothing, Yes};
+use crate::steps::Found::{Is, No, Nothing, Yes};
 use crate::steps::Part::{Apart, Crowd, Renew};
 use crate::steps::{Found, Table, Task};
 use sdd_domain::domain::Domain;
@@ -83,11 +83,13 @@ pub(crate) const FULL: Table = Table {
     parts: &[Apart(&[
         (Place(1), Nothing),
         (Second, Nothing),
-        (Place(2), Nothing),
+        (PlaceWith(2), Nothing),
         (Third, Nothing),
         (Place(3), Nothing),
         (Place(4), Is(4)),
+        (PlaceWith(4), No),
         (Read, Is(3)),
+        (Slots, Is(3)),
         (Second, Nothing),
         (Read, Is(1)),
         (Third, Nothing),

@@ -68,12 +68,30 @@ fn makes_and_ends<R: Abort>(rt: &R, alloc: Global) -> bool {
     met || again || third
 }
 
+/// Whether an allocation was refused while a place was made whose count of raises begins at 62, which its first guard sees.
+fn begins_late<R: Abort>(rt: &R, alloc: Global) -> bool {
+    let (domain, met) = match Domain::with_count(alloc, sized(1, 1), 62) {
+        Ok(domain) => (domain, false),
+        Err(AllocError) => (
+            Domain::with_count(alloc, sized(1, 1), 62).expect(rt, "memory was refused twice"),
+            true,
+        ),
+    };
+    let (mut local, again) = registered(rt, &domain);
+    let seen = pass(&domain, &mut local, true);
+    local.end(&domain);
+    end(rt, domain);
+    assert!(rt; seen == 62);
+    met || again
+}
+
 #[test]
 fn a_refusal_of_memory_leaves_no_place(rt: HostRuntime) {
     let _met = makes_and_ends(&rt, rt.alloc());
+    let _met = begins_late(&rt, rt.alloc());
 }
 
 #[test]
 fn no_memory_is_refused(rt: HostRuntime) {
-    assert!(rt; !makes_and_ends(&rt, rt.alloc()));
+    assert!(rt; !makes_and_ends(&rt, rt.alloc()) && !begins_late(&rt, rt.alloc()));
 }

@@ -12,7 +12,7 @@ use crate::steps::Act::{
 use crate::steps::Found::{Is, No, Nothing, Tagged, Yes};
 use crate::steps::Part::{Apart, Crowd, Renew, Under};
 use crate::steps::View::{
-    Beside, CloneCell, Do, Item, Lend, LendItem, Lent, Load, Share, ShareCell,
+    Beside, CloneCell, Do, Item, Lend, LendItem, Lent, Load, Share, ShareCell, TryShare,
 };
 use crate::steps::{Found, Table, Task};
 use sdd_domain::atomic_shared::AtomicShared;
@@ -70,7 +70,7 @@ pub(crate) const OUTLIVES: Table = Table {
     first: 0,
     parts: &[
         Apart(&[(Place(7), Nothing), (Own, Yes)]),
-        Under(&[(Load, Is(7)), (Share, Yes)]),
+        Under(&[(Load, Is(7)), (Share, Yes), (TryShare, Yes)]),
         Apart(&[
             (Retire, No),
             (Passes(true, 6), Nothing),
@@ -97,6 +97,7 @@ pub(crate) const NO_MORE: Table = Table {
             (Do(Read), Is(7)),
             (Do(Release), Yes),
             (Share, No),
+            (TryShare, No),
             (ShareCell, No),
             (Item, Is(7)),
         ]),

@@ -156,6 +156,16 @@ impl<'d> Stage<'d> {
         }
     }
 
+    fn place_with(&mut self, item: u64) -> Found
+        ensures stays { Stays self.old.here self.new.here }
+    {
+        let (placed, found) = hands::place_with(self.domain, &mut self.here, item);
+        if let Some(owner) = placed {
+            self.put(Some(owner));
+        }
+        found
+    }
+
     /// Makes two owners of the one in hand: whether there are parts. One that was in the second place is released.
     fn clone(&mut self) -> Found
         ensures stays { Stays self.old.here self.new.here }
@@ -207,6 +217,7 @@ impl<'d> Stage<'d> {
     {
         match act {
             Act::Place(item) => self.place(item),
+            Act::PlaceWith(item) => self.place_with(item),
             Act::Read => hands::read(&self.hand),
             Act::Clone => self.clone(),
             Act::Second => self.second(),

@@ -20,6 +20,8 @@ pub(crate) enum Found {
 pub(crate) enum Act {
     /// Places an item, whose owner is in hand: or the item is back, where no slot is free.
     Place(u64),
+    /// The same by the call that asks a closure for the item: or whether the closure is called, where no slot is free.
+    PlaceWith(u64),
     /// The item of the owner in hand.
     Read,
     /// Releases the owner in hand: whether it was the last one.
@@ -149,6 +151,8 @@ pub(crate) enum View {
     /// Whether there is one more owner of the pointer's item, which is in hand; and of the cell's.
     Share,
     ShareCell,
+    /// The same of the pointer's item by the call that hands the pointer back: nothing is told where another one is back.
+    TryShare,
     /// Whether there is one more cell that owns what the cell does, which is the second one.
     CloneCell,
     /// Makes the pointer one to the item in hand; and reads that for as long as the guard is open.

@@ -178,6 +178,7 @@ impl<'d> Stage<'d> {
                 &mut self.here,
                 cell,
             ),
+            (_, View::TryShare) => hands::try_share(self.domain, &mut self.here, pointer),
             _ => hands::share(self.domain, &mut self.here, pointer),
         };
         self.put(hand);
@@ -249,7 +250,7 @@ impl<'d> Stage<'d> {
             View::IsSame => told(pointer == self.load(guard)),
             View::Exchange(_) | View::ExchangeWeak(_) => self.exchanging(guard, pointer, step),
             View::Retag(before, after) => self.retag(guard, before, after),
-            View::Share | View::ShareCell => self.sharing(guard, pointer, step),
+            View::Share | View::TryShare | View::ShareCell => self.sharing(guard, pointer, step),
             View::CloneCell => self.clone_cell(guard),
             _ => pointed(seen, step),
         };
