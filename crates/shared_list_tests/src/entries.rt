@@ -98,10 +98,19 @@ fn first_wrong<'g>(
 
 #[test]
 fn an_entry_is_marked_unmarked_and_deleted(rt: HostRuntime) -> Result<(), Fail> {
-    let domain = Domain::new(rt.alloc(), sized(1, 2))?;
+    let domain = Domain::new(rt.alloc(), sized(1, 1))?;
     let mut local = member(&rt, &domain);
     let links = links(&rt, rt.alloc(), &domain, &mut local);
     let owner = entry(&rt, &domain, 7, &links, &mut local);
+    // the one slot is taken
+    let back = match LinkedEntry::new(&domain, 8, &links, &mut local) {
+        Ok(more) => {
+            more.release(&domain, &mut local);
+            None
+        }
+        Err(back) => Some(back),
+    };
+    let value = *owner.as_ref();
     let Ok(guard) = Guard::new(&domain, &mut local) else {
         unreachable!();
     };
@@ -111,7 +120,7 @@ fn an_entry_is_marked_unmarked_and_deleted(rt: HostRuntime) -> Result<(), Fail> 
     links.end(&domain, &mut local);
     local.end(&domain);
     end(&rt, domain);
-    assert_eq!(rt; wrong, None);
+    assert_eq!(rt; (wrong, back, value), (None, Some(8), 7));
     Ok(())
 }
 
