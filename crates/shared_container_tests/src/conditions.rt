@@ -15,7 +15,7 @@ use std::test::Fail;
 
 /// Pushes a value where the newest item is this one. What is back of one that is refused on the condition, or for want of a
 /// slot, and that it was the condition.
-fn push_behind(
+pub(crate) fn push_behind(
     scene: &Scene,
     local: &mut Local<u64>,
     value: u64,
@@ -112,7 +112,7 @@ fn pointed_at(scene: &Scene, guard: &Guard, local: &mut Local<u64>) -> Option<u6
 }
 
 /// The values in the order of a walk, as the digits of a number, and how many there are.
-fn walks(scene: &Scene, local: &mut Local<u64>) -> (u64, usize)
+pub(crate) fn walks(scene: &Scene, local: &mut Local<u64>) -> (u64, usize)
     requires home { (home_of local.old ≡ place_of scene.now.domain.now) × (hand_of local.old ≡ []) }
     requires closed { (own_of local.old).nesting ≡ 0 }
     ensures same { IsAsBefore local.old local.new }

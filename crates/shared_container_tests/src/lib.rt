@@ -11,6 +11,8 @@ mod lists;
 #[cfg(test)]
 mod making;
 #[cfg(test)]
+mod refusals;
+#[cfg(test)]
 mod scene;
 #[cfg(test)]
 mod threads;

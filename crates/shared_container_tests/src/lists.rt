@@ -133,7 +133,7 @@ fn under_an_open_guard_others_are_pushed_and_popped_and_what_was_popped_is_read(
 }
 
 /// What comes out of a stack in front of all others, which is ended.
-fn last_two(
+pub(crate) fn last_two(
     domain: &Domain<u64>,
     stack: Stack<u64>,
     links: &Links<u64>,

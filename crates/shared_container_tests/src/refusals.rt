@@ -1,0 +1,104 @@
+//! Calls that want a slot or a cell where none is free. What they would have changed is looked at behind them.
+
+ghost use Rattle.std.specs.Prelude.{◌≡◌, []};
+ghost use Rattle.sdd_domain.specs.Tokens.{place_of, home_of, hand_of, own_of};
+
+use crate::conditions::{push_behind, walks};
+use crate::lists::last_two;
+use crate::scene::{Kind, Made, end, member, sized};
+use sdd_domain::domain::Domain;
+use shared_containers::Links;
+use shared_containers::queue::Queue;
+use shared_containers::stack::Stack;
+use std::alloc::Global;
+use std::process::Abort;
+use std::test::Fail;
+
+/// What is refused where one cell is free beside links and a stack of 1: a queue, one more stack behind another, and a
+/// stack of all items. And what the stack has then.
+fn refused_cells<R: Abort>(
+    rt: &R,
+    alloc: Global,
+    domain: &Domain<u64>,
+) -> ([bool; 4], [Option<u64>; 3]) {
+    let mut local = member(rt, domain);
+    let Ok(links) = Links::new(alloc, domain, &mut local) else {
+        panic!(rt; "memory is ample, and a cell is free");
+    };
+    let Some(stack) = Stack::new(domain, &mut local) else {
+        panic!(rt; "two cells are free");
+    };
+    let is_pushed = match stack.push(domain, 1, &links, &mut local) {
+        Ok(()) => true,
+        Err(refused) => refused.end(domain, &mut local).is_none(),
+    };
+    let queue = match Queue::new(domain, &mut local) {
+        Some(queue) => {
+            queue.end(domain, &links, &mut local);
+            false
+        }
+        None => true,
+    };
+    let Some(other) = Stack::new(domain, &mut local) else {
+        panic!(rt; "the cell is free still");
+    };
+    let third = match Stack::new(domain, &mut local) {
+        Some(third) => {
+            third.end(domain, &links, &mut local);
+            false
+        }
+        None => true,
+    };
+    let all = match stack.pop_all(domain, &mut local) {
+        Some(all) => {
+            all.end(domain, &links, &mut local);
+            false
+        }
+        None => true,
+    };
+    let left = last_two(domain, stack, &links, &mut local);
+    other.end(domain, &links, &mut local);
+    links.end(domain, &mut local);
+    local.end(domain);
+    ([is_pushed, queue, third, all], left)
+}
+
+#[test]
+fn stacks_want_a_cell_each_and_queues_two(rt: HostRuntime) -> Result<(), Fail> {
+    let domain = Domain::new(rt.alloc(), sized(1, 1, 3))?;
+    let found = refused_cells(&rt, rt.alloc(), &domain);
+    end(&rt, domain);
+    assert!(rt; found == ([true; 4], [Some(1), None, None]));
+    Ok(())
+}
+
+/// What comes back of 1 and 2, whose conditions hold, in a place of one slot; and the digits and the count of what is in.
+type Found = ([Option<(u64, bool)>; 2], (u64, usize));
+
+fn pushes_two<R: Abort>(rt: &R, alloc: Global, domain: &Domain<u64>, kind: Kind) -> Found {
+    let mut local = member(rt, domain);
+    let made = Made::new(rt, alloc, domain, &mut local);
+    let scene = made.scene(domain, kind);
+    let pushed = [
+        push_behind(&scene, &mut local, 1, None),
+        push_behind(&scene, &mut local, 2, Some(1)),
+    ];
+    let left = walks(&scene, &mut local);
+    made.end(domain, &mut local);
+    local.end(domain);
+    (pushed, left)
+}
+
+#[test]
+fn what_a_condition_lets_in_wants_a_slot(rt: HostRuntime) -> Result<(), Fail> {
+    let domain = Domain::new(rt.alloc(), sized(1, 1, 9))?;
+    let stack = pushes_two(&rt, rt.alloc(), &domain, Kind::Stack);
+    end(&rt, domain);
+    let domain = Domain::new(rt.alloc(), sized(1, 1, 9))?;
+    let queue = pushes_two(&rt, rt.alloc(), &domain, Kind::Queue);
+    end(&rt, domain);
+    // it isn't the condition
+    let one = ([None, Some((2, false))], (1, 1));
+    assert!(rt; stack == one && queue == one);
+    Ok(())
+}
