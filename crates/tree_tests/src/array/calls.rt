@@ -10,6 +10,9 @@ use std::ops::Bound;
 pub(super) enum Call {
     Insert(u64, u64),
     Upsert(u64, u64),
+    /// The same by the call by which an upsert takes no place.
+    Put(u64, u64),
+    PutOver(u64, u64),
     /// A removal on a condition that holds, and one on a condition that doesn't.
     Remove(u64),
     Spare(u64),
@@ -167,6 +170,8 @@ pub(super) fn make(array: &mut Array<u64, u64>, call: Call) -> Told {
     match call {
         Call::Insert(key, val) => inserted(array.insert::<false>(key, val)),
         Call::Upsert(key, val) => inserted(array.insert::<true>(key, val)),
+        Call::Put(key, val) => inserted(array.put::<false>(key, val)),
+        Call::PutOver(key, val) => inserted(array.put::<true>(key, val)),
         Call::Remove(key) => Told::Removed(array.remove_if(&key, always)),
         Call::Spare(key) => Told::Removed(array.remove_if(&key, |_| false)),
         Call::RemoveRange(low, high) => {
@@ -210,6 +215,7 @@ const TABLES: &[Table] = &[
     edit::WITH_A_TOMBSTONE,
     edit::REMOVED_LAST,
     edit::UPSERTED,
+    edit::PUT,
     edit::RETIRED,
     edit::FROZEN,
     edit::BETWEEN,

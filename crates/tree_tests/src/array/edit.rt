@@ -3,8 +3,8 @@
 use super::ASCENDING;
 use super::calls::Call::{
     Bury, Freeze, Insert, IsEmpty, IsFrozen, IsFull, IsRetired, LastRemoved, Len, LowerBound,
-    LowerPair, Metadata, MinGreaterEqual, MinWord, NewFrozen, Pack, Pair, PushLast, Remove,
-    SearchVal, Unfreeze, Upsert,
+    LowerPair, Metadata, MinGreaterEqual, MinWord, NewFrozen, Pack, Pair, PushLast, Put, PutOver,
+    Remove, SearchVal, Unfreeze, Upsert,
 };
 use super::calls::Told::{Done, Duplicate, Full, Is, Number, Part, Removed};
 use super::calls::{Table, Told, copied, make};
@@ -55,6 +55,27 @@ pub(super) const UPSERTED: Table = (
     ],
 );
 
+/// What is put over a pair takes no place, and what isn't put changes nothing.
+pub(super) const PUT: Table = (
+    &[0, 1, 2, 3, 4, 5, 6, 7, 8, 9, 10, 11, 12, 13],
+    &[
+        (Put(3, 9), Duplicate(3, 9)),
+        (SearchVal(3), Part(Some(3))),
+        (PutOver(3, 9), Done),
+        (SearchVal(3), Part(Some(9))),
+        (IsFull, Is(false)),
+        (Put(14, 14), Done),
+        (IsFull, Is(true)),
+        (Put(20, 20), Full(20, 20)),
+        (PutOver(20, 20), Full(20, 20)),
+        (Put(3, 7), Duplicate(3, 7)),
+        (PutOver(3, 7), Done),
+        (Len, Number(15)),
+        (SearchVal(3), Part(Some(7))),
+        (SearchVal(20), Part(None)),
+    ],
+);
+
 /// An array without its last pair retires.
 pub(super) const RETIRED: Table = (
     &[5],
@@ -65,6 +86,8 @@ pub(super) const RETIRED: Table = (
         (IsEmpty, Is(true)),
         (IsFull, Is(true)),
         (Insert(5, 5), Full(5, 5)),
+        (Put(5, 5), Full(5, 5)),
+        (PutOver(5, 5), Full(5, 5)),
         (Metadata, Number(0x4000000000000000)),
         (Pack, Done),
         (Insert(5, 5), Done),
@@ -82,6 +105,11 @@ pub(super) const FROZEN: Table = (
         (Remove(1), Removed(RemoveResult::Frozen)),
         (Insert(1, 7), Full(1, 7)),
         (Upsert(3, 7), Full(3, 7)),
+        (Put(1, 7), Full(1, 7)),
+        (PutOver(1, 7), Full(1, 7)),
+        (PutOver(3, 7), Full(3, 7)),
+        (Metadata, Number(0x8000000000000210)),
+        (SearchVal(1), Part(Some(1))),
         (Unfreeze, Done),
         (Insert(3, 7), Done),
         (Remove(1), REMOVED),

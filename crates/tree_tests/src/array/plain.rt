@@ -70,11 +70,40 @@ fn first_other(alloc: Global) -> Option<usize> {
     None
 }
 
+/// What a write of each row meets: whether memory was refused to it, and whether it left the list that it had to, by a second
+/// try then.
+fn written_again(alloc: Global) -> (bool, bool) {
+    let mut is_refused = false;
+    let mut as_said = true;
+    for row in WRITES {
+        let (list, write, wanted) = *row;
+        let same = match written(alloc, list, write) {
+            Ok(made) => made.as_slice() == wanted,
+            Err(AllocError) => {
+                is_refused = true;
+                makes(alloc, list, write, wanted)
+            }
+        };
+        as_said = same && as_said;
+    }
+    (is_refused, as_said)
+}
+
 /// Whether keys are found where they are, and nowhere else.
 fn are_found() -> bool {
     let first = find_value(&[(1u64, 10u64)], &1).copied() == Some(10);
     let (five, three) = (contains_key(LEFT, &5), contains_key(LEFT, &3));
     first && five && !three && find_value(LEFT, &3).is_none()
+}
+
+#[test]
+fn a_refusal_of_memory_makes_no_list(rt: HostRuntime) {
+    assert!(rt; written_again(rt.alloc()).1);
+}
+
+#[test]
+fn no_memory_is_refused_to_a_write_of_a_list(rt: HostRuntime) {
+    assert!(rt; written_again(rt.alloc()) == (false, true));
 }
 
 #[test]

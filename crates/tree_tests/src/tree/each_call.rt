@@ -1,8 +1,7 @@
 //! Each call of a tree of numbers that tests make by itself, once: the proof of a call of generic code takes seconds
 //! wherever it stands, so tests call these functions.
 
-ghost use Rattle.std.specs.Prelude.{◌≡◌, ◌++◌, ◌∷◌, [], IsTrue};
-ghost use Rattle.std.specs.Bool.{OnFalse};
+ghost use Rattle.std.specs.Prelude.{◌≡◌, ◌++◌, ◌∷◌, [], IfOk, OnErr, OnOk};
 ghost use Rattle.std.specs.Ordering.{nat_cmp};
 ghost use Rattle.tree_index.specs.Depth.{IsAbove};
 
@@ -59,13 +58,20 @@ pub(super) fn upsert(tree: &mut Tree, key: u64, val: u64) -> bool {
     tree.upsert_sync(key, val).is_ok()
 }
 
-/// Puts a pair behind all others, and tells whether it was taken.
-pub(super) fn push(tree: &mut Tree, key: u64, val: u64) -> bool
-    requires { IsAbove nat_cmp key tree.old.pairs }
-    ensures pushed { IsTrue result → tree.new.pairs ≡ tree.old.pairs ++ (key, val) ∷ [] }
-    ensures refused { OnFalse result (tree.new ≡ tree.old) }
+/// A tree with room for so many pairs, if there is memory.
+pub(super) fn roomy(alloc: Global, pairs: usize) -> Result<Tree, AllocError>
+    ensures { IfOk result (λ tree. tree.pairs ≡ []) }
 {
-    tree.push_last(key, val).is_ok()
+    TreeIndex::with_capacity(alloc, pairs)
+}
+
+/// Puts a pair behind all others, or has it back.
+pub(super) fn push(tree: &mut Tree, key: u64, val: u64) -> Result<(), (u64, u64)>
+    requires { IsAbove nat_cmp key tree.old.pairs }
+    ensures pushed { OnOk result (tree.new.pairs ≡ tree.old.pairs ++ (key, val) ∷ []) }
+    ensures refused { OnErr result (tree.new ≡ tree.old) }
+{
+    tree.push_last(key, val)
 }
 
 /// Removes a key, and tells whether it was there.

@@ -2,12 +2,12 @@
 //! refused, nothing has changed, and the same call then succeeds.
 
 use super::Tree;
-use super::calls::Call::Insert;
+use super::calls::Call::{self, Insert, Upsert};
 use super::calls::Told::{Done, Duplicate, Is, NoMemory};
 use super::calls::{EACH, equal, holds, make};
-use super::each_call::{copy_of, depth_of, empty, len_of, upsert, val_of};
+use super::each_call::{copy_of, depth_of, empty, first_of, len_of, push, roomy, upsert, val_of};
 use crate::numbers::stirred;
-use std::alloc::Global;
+use std::alloc::{AllocError, Global};
 
 /// What a run met: whether memory was refused, and whether all was as it has to be.
 #[derive(Clone, Copy)]
@@ -18,8 +18,13 @@ struct Met {
 
 /// Inserts a pair, again where memory was refused: nothing had changed then.
 fn insert(tree: &mut Tree, key: u64, met: &mut Met) {
+    take(tree, Insert(key, !key), key, met);
+}
+
+/// Makes a call that puts in the pair of a key, again where memory was refused.
+fn take(tree: &mut Tree, call: Call, key: u64, met: &mut Met) {
     let before = (depth_of(tree), len_of(tree));
-    let told = make(tree, Insert(key, !key));
+    let told = make(tree, call);
     if told != Done {
         let kept = (depth_of(tree), len_of(tree)) == before && val_of(tree, key).is_none();
         let again = upsert(tree, key, !key);
@@ -54,6 +59,39 @@ fn grows(alloc: Global) -> Met {
         insert(&mut tree, key, &mut met);
     }
     met.as_said = len_of(&tree) == 700 && has_all(&tree, 700) && met.as_said;
+    met
+}
+
+/// What a tree meets whose pairs are upserted.
+fn upserts(alloc: Global) -> Met {
+    let mut met = NOTHING;
+    let mut tree = empty(alloc);
+    let mut key = 1u64;
+    for _ in 0..300u32 {
+        key = stirred(key);
+        take(&mut tree, Upsert(key, !key), key, &mut met);
+    }
+    met.as_said = len_of(&tree) == 300 && has_all(&tree, 300) && met.as_said;
+    met
+}
+
+/// What is met where a tree with room is made, and a pair is put into a tree without.
+fn pushes(alloc: Global) -> Met {
+    let mut met = NOTHING;
+    let made = match roomy(alloc, 3) {
+        Ok(tree) => len_of(&tree),
+        Err(AllocError) => {
+            met.refusal = true;
+            roomy(alloc, 3).map_or(1, |tree| len_of(&tree))
+        },
+    };
+    let mut tree = empty(alloc);
+    if let Err(back) = push(&mut tree, 5, 50) {
+        let kept = (depth_of(&tree), len_of(&tree)) == (0, 0);
+        met.refusal = true;
+        met.as_said = back == (5, 50) && kept && push(&mut tree, 5, 50).is_ok();
+    }
+    met.as_said = (made, first_of(&tree)) == (0, Some((5, 50))) && met.as_said;
     met
 }
 
@@ -115,6 +153,16 @@ fn a_refusal_of_memory_changes_nothing(rt: HostRuntime) {
 }
 
 #[test]
+fn a_refusal_of_memory_to_an_upsert_changes_nothing(rt: HostRuntime) {
+    assert!(rt; upserts(rt.alloc()).as_said);
+}
+
+#[test]
+fn a_refusal_of_memory_hands_the_last_pair_back(rt: HostRuntime) {
+    assert!(rt; pushes(rt.alloc()).as_said);
+}
+
+#[test]
 fn a_refusal_of_memory_to_a_clone_leaves_the_tree(rt: HostRuntime) {
     assert!(rt; clones(rt.alloc()).as_said);
 }
@@ -122,6 +170,18 @@ fn a_refusal_of_memory_to_a_clone_leaves_the_tree(rt: HostRuntime) {
 #[test]
 fn no_memory_is_refused_to_a_clone(rt: HostRuntime) {
     let met = clones(rt.alloc());
+    assert!(rt; met.as_said && !met.refusal);
+}
+
+#[test]
+fn no_memory_is_refused_to_upserts(rt: HostRuntime) {
+    let met = upserts(rt.alloc());
+    assert!(rt; met.as_said && !met.refusal);
+}
+
+#[test]
+fn no_memory_is_refused_to_a_pushed_pair(rt: HostRuntime) {
+    let met = pushes(rt.alloc());
     assert!(rt; met.as_said && !met.refusal);
 }
 
