@@ -141,13 +141,20 @@ const NO_SESSION: &str = "the label has no session; the index is as it was";
 fn refusals_of_a_desk_say_what_stands_after_them(rt: HostRuntime) {
     let mut scene = Scene::<2>::new(&rt, rt.alloc(), 1, 16, 0);
     let unknown = refusal(&rt, &mut scene, DeskCall::Len(7));
+    let before = scene.desk.session(7).is_some();
     let opened = refusal(&rt, &mut scene, DeskCall::Open(7));
+    let sessions = [
+        before,
+        scene.desk.session(7).is_some(),
+        scene.desk.session(8).is_some(),
+    ];
     let busy = refusal(&rt, &mut scene, DeskCall::Open(7));
     let full = refusal(&rt, &mut scene, DeskCall::Open(8));
     let writes = Vec::new(rt.alloc());
     let commit = refusal(&rt, &mut scene, DeskCall::Commit(ReadSet::Empty, writes));
     scene.end(&rt);
     assert_eq!(rt; (unknown.as_str(), opened.as_str()), (NO_SESSION, ""));
+    assert_eq!(rt; sessions, [false, true, false]);
     assert_eq!(rt; (busy.as_str(), full.as_str()), (BUSY, NO_PLACE));
     assert_eq!(rt; commit.as_str(), REFUSED);
 }

@@ -31,6 +31,8 @@ mod play;
 #[cfg(test)]
 mod random_calls;
 #[cfg(test)]
+mod reader_refusals;
+#[cfg(test)]
 mod reading;
 #[cfg(test)]
 mod reads;

@@ -8,11 +8,11 @@ use std::process::Abort;
 use tree_index::TreeIndex;
 
 // An index of numbers, with two pairs in a segment.
-type Numbers = LocalIndex<u64, u64, 2>;
+pub(crate) type Numbers = LocalIndex<u64, u64, 2>;
 
-type Scope = ScopedIndex<u64, u64, 2>;
+pub(crate) type Scope = ScopedIndex<u64, u64, 2>;
 
-fn empty<R: Abort>(rt: &R, alloc: Global, met: &mut bool) -> Scope {
+pub(crate) fn empty<R: Abort>(rt: &R, alloc: Global, met: &mut bool) -> Scope {
     match Scope::new(alloc, 1, 256) {
         Ok(scope) => scope,
         Err(AllocError) => {
@@ -26,7 +26,12 @@ fn empty<R: Abort>(rt: &R, alloc: Global, met: &mut bool) -> Scope {
 }
 
 // The write that gives the key 1 a value.
-fn one<R: Abort>(rt: &R, alloc: Global, value: u64, met: &mut bool) -> Vec<Write<u64, u64>> {
+pub(crate) fn one<R: Abort>(
+    rt: &R,
+    alloc: Global,
+    value: u64,
+    met: &mut bool,
+) -> Vec<Write<u64, u64>> {
     match Vec::from_clones(alloc, &[Write::Upsert(1, value)]) {
         Ok(writes) => writes,
         Err(AllocError) => {
@@ -40,7 +45,13 @@ fn one<R: Abort>(rt: &R, alloc: Global, value: u64, met: &mut bool) -> Vec<Write
 }
 
 // Gives the key 1 the value, by a commit of the same number.
-fn put<R: Abort>(rt: &R, alloc: Global, index: &mut Numbers, value: u64, met: &mut bool) {
+pub(crate) fn put<R: Abort>(
+    rt: &R,
+    alloc: Global,
+    index: &mut Numbers,
+    value: u64,
+    met: &mut bool,
+) {
     let writes = one(rt, alloc, value, met);
     let none = Receipt::blank(alloc);
     match index.commit(&none, writes) {
