@@ -202,8 +202,9 @@ pub fn within<R: Abort>(
         && [numbers.0, numbers.1, inner.number, outer.number] == [1, 2, 2, 1]
 }
 
-/// A guard loads the first version, from which no session for at least the number 2 is made, and then the second, from which
-/// one is: whether that was why, the session reads the second version, and its receipt has the number of that.
+/// A guard loads the first version, from which no session of wider segments is made, nor one for at least the number 2; and
+/// then the second, from which one is: whether those were the causes, the session reads the second version, and its receipt
+/// has the number of that.
 pub fn of_loaded<R: Abort>(
     rt: &R,
     alloc: Global,
@@ -221,6 +222,11 @@ pub fn of_loaded<R: Abort>(
         unreachable!();
     };
     let loaded = cell.loaded(domain, &guard, local);
+    let (guard, wider) = match SharedSession::<u64, u64, 3>::of_loaded(guard, loaded, alloc, 0) {
+        Err(back) => back,
+        Ok(_) => panic!(rt; "its segments have two pairs at most"),
+    };
+    let loaded = cell.loaded(domain, &guard, local);
     renew(rt, alloc, domain, cell, local, 2, (11, 21, 51));
     let (guard, refused) = match Twos::of_loaded(guard, loaded, alloc, 2) {
         Err(back) => back,
@@ -233,5 +239,6 @@ pub fn of_loaded<R: Abort>(
     };
     let value = value(&session, 1);
     let number = ended(domain, session, local).number;
-    refused == OpenRefused::Earlier(1) && value == Some(11) && number == 2
+    let causes = wider == OpenRefused::NoVersion && refused == OpenRefused::Earlier(1);
+    causes && value == Some(11) && number == 2
 }
