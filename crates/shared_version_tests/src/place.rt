@@ -12,7 +12,7 @@ use sdd_domain::guard::Guard;
 use sdd_domain::local::Local;
 use sdd_domain::shared::Shared;
 use sdd_plain::sizes::Sizes;
-use shared_versions::{Node, Session, reclaim};
+use shared_versions::{Node, Reader, Session, reclaim};
 use std::alloc::{AllocError, Global};
 use std::process::Abort;
 
@@ -127,6 +127,30 @@ pub(crate) fn opened<const S: usize>(
             None
         }
     }
+}
+
+/// Whether what the cell names is back where a reader of this width is made of it, and one of the other width is made then.
+pub(crate) fn is_back<const S: usize, const T: usize>(
+    domain: &Domain<Item>,
+    local: &mut Local<Item>,
+    root: &AtomicShared<Item>,
+) -> bool
+    requires home { (home_of local.old ≡ place_of domain.now) × (hand_of local.old ≡ []) }
+    requires closed { (own_of local.old).nesting ≡ 0 }
+    requires inside { cell_number root.now < cell_count domain.now }
+    ensures same { IsSame local.old local.new }
+    ensures closed { (own_of local.new).nesting ≡ 0 }
+{
+    let Ok(guard) = Guard::new(domain, local) else {
+        unreachable!();
+    };
+    let loaded = root.loaded(domain, &guard, local);
+    let is_read = match Reader::<u64, u64, S>::open(&guard, loaded) {
+        Ok(_) => false,
+        Err(back) => Reader::<u64, u64, T>::open(&guard, back).is_ok(),
+    };
+    close(domain, guard, local);
+    is_read
 }
 
 /// Closes the guard of a session, which is the only one.

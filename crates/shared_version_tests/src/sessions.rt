@@ -4,7 +4,7 @@ ghost use Rattle.std.specs.Prelude.{◌≡◌, ◌<◌, []};
 ghost use Rattle.sdd_domain.specs.Cells.{cell_number};
 ghost use Rattle.sdd_domain.specs.Tokens.{place_of, home_of, hand_of, own_of, cell_count, IsSame};
 
-use crate::place::{Item, cell_of, close, end, leave, member, opened, place, retire};
+use crate::place::{Item, cell_of, close, end, is_back, leave, member, opened, place, retire};
 use sdd_domain::atomic_shared::AtomicShared;
 use sdd_domain::domain::Domain;
 use sdd_domain::local::Local;
@@ -68,9 +68,13 @@ fn a_session_reads_the_version_that_it_loaded(rt: HostRuntime) -> Result<(), Fai
     let cell = cell_with_empty(&rt, rt.alloc(), &domain, &mut local);
     let of_four = read::<4>(&domain, &mut local, &cell);
     let of_eight = read::<8>(&domain, &mut local, &cell);
+    let is_back = is_back::<8, 4>(&domain, &mut local, &cell);
     let last = retire(&domain, cell, &mut local);
     leave(&domain, local);
     end(&rt, domain);
-    assert_eq!(rt; (of_four, of_eight, last), (Some(0), None, true));
+    assert_eq!(rt;
+        (of_four, of_eight, is_back, last),
+        (Some(0), None, true, true)
+    );
     Ok(())
 }
