@@ -29,7 +29,7 @@ fn write(entry: &mut LinkedEntry<u64>, value: u64)
 }
 
 /// Gives an entry to the place, which ends it.
-pub(crate) fn retire<R: Abort>(rt: &R, w: &mut World<LinkedEntry<u64>>, entry: LinkedEntry<u64>)
+pub(crate) fn retire<R: Abort, T>(rt: &R, w: &mut World<LinkedEntry<T>>, entry: LinkedEntry<T>)
     requires { 0 < length w.old.participants }
     ensures { 0 < length w.new.participants }
 {

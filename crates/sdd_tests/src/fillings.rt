@@ -7,6 +7,7 @@ ghost use Rattle.world_containers.specs.Entries.{entry_link};
 ghost use Rattle.world_containers.specs.Stacks.{IsSomeStack, stack_cell};
 ghost use Rattle.world_containers.specs.Queues.{IsSomeQueue, oldest_cell, newest_cell};
 
+use crate::entries::retire;
 use crate::filled::{Lack, lacking, queue_of, some_bag, some_queue, some_stack, stack_of};
 use crate::places::{close, end, guarded, place_of, sizes};
 use crate::queues::{append, take};
@@ -299,9 +300,17 @@ fn a_refused_clone_of_a_value_ends_a_clone(rt: HostRuntime) {
     };
     let len = world::queue::len(&w, &copy);
     world::queue::retire(&mut w, copy, 0);
+    let Ok(entry) = world::linked_entry::new(&mut w, Rare { number: 3 }) else {
+        panic!(rt; "a cell is free");
+    };
+    let refused = match world::linked_entry::clone(&mut w, &entry) {
+        Ok(_) => panic!(rt; "the third one isn't cloned"),
+        Err(refused) => refused,
+    };
+    retire(&rt, &mut w, entry);
     match w.close() {
         Ok(()) => {}
         Err(_) => panic!(rt; "something is left"),
     }
-    assert!(rt; len == 2);
+    assert!(rt; len == 2 && refused == NotMade::Memory);
 }

@@ -20,6 +20,8 @@ mod queues;
 #[cfg(test)]
 mod random_calls;
 #[cfg(test)]
+mod refusals;
+#[cfg(test)]
 mod replies;
 #[cfg(test)]
 mod stacks;

@@ -8,6 +8,8 @@ use world_containers::linked_entry::LinkedEntry;
 pub(crate) enum Reply {
     Done,
     Back(u64),
+    /// The value is back since no slot or no cell is free.
+    Full(u64),
     Value(Option<u64>),
     Listed(Option<u64>, Option<u64>, Option<u64>),
     Is(bool),

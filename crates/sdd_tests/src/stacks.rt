@@ -5,7 +5,7 @@ ghost use Rattle.sdd_world.specs.Place.{IsOpen};
 ghost use Rattle.world_containers.specs.Stacks.{IsSomeStack, stack_cell};
 
 use crate::places::{close, end, give, guarded, new_stack, place_of};
-use crate::replies::Reply::{Back, Count, Done, Is, Listed, Value};
+use crate::replies::Reply::{Back, Count, Done, Full, Is, Listed, Value};
 use crate::replies::{Reply, told, value_of};
 use crate::stacks::Call::{
     Front, IsClear, IsDeleted, IsEmpty, IsMarked, Len, Make, Pop, Push, PushFirst, RefusedPop,
@@ -19,6 +19,7 @@ use sdd_world::world::World;
 use std::alloc::Global;
 use std::process::Abort;
 use world_containers::linked_entry::LinkedEntry;
+use world_containers::refusal::PushRefused;
 use world_containers::stack::Stack;
 use world_containers::world;
 
@@ -152,7 +153,7 @@ fn is_tagged(
 }
 
 /// Puts a value in front if there is none yet, and gives the owner back.
-fn push_first(w: &mut World<LinkedEntry<u64>>, stack: &Stack<u64>, value: u64) -> bool
+fn push_first(w: &mut World<LinkedEntry<u64>>, stack: &Stack<u64>, value: u64) -> Reply
     requires participant { 0 < length w.old.participants }
     requires list { IsSomeStack w.old (stack_cell stack.now) }
     ensures participant { 0 < length w.new.participants }
@@ -163,9 +164,10 @@ fn push_first(w: &mut World<LinkedEntry<u64>>, stack: &Stack<u64>, value: u64) -
     match world::stack::push_if(w, stack, value, none) {
         Ok(entry) => {
             place::shared::release(w, entry, 0);
-            true
+            Done
         }
-        Err(_) => false,
+        Err(PushRefused::Condition(value)) => Back(value),
+        Err(PushRefused::NoSlot(value)) => Full(value),
     }
 }
 
@@ -250,7 +252,7 @@ fn make(
 {
     match call {
         Push(value) => told(push(w, stack, value)),
-        PushFirst(value) => Is(push_first(w, stack, value)),
+        PushFirst(value) => push_first(w, stack, value),
         Pop => Value(pop(w, stack)),
         RefusedPop => Value(refused(w, stack)),
         Make(change) => Is(change_first(w, stack, guard, change)),
@@ -405,13 +407,17 @@ fn a_value_is_pushed_on_a_condition(rt: HostRuntime) {
         rt.alloc(),
         (2, 3),
         &[
-            (PushFirst(5), Is(true)),
-            (PushFirst(6), Is(false)),
+            (PushFirst(5), Done),
+            (PushFirst(6), Back(6)),
             (Len, Count(1)),
             (Pop, Value(Some(5))),
-            (PushFirst(7), Is(true)),
+            (PushFirst(7), Done),
         ],
     );
+    let full = &[(PushFirst(8), Full(8)), (IsEmpty, Is(true))];
+    // no slot is free, and then no cell
+    on_a_stack(&rt, rt.alloc(), (0, 2), full);
+    on_a_stack(&rt, rt.alloc(), (1, 1), full);
 }
 
 #[test]
