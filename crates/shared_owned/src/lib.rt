@@ -14,4 +14,6 @@ pub mod pointer;
 pub mod raw_items;
 pub mod raw_ptr;
 #[cfg(test)]
+mod refusals;
+#[cfg(test)]
 mod tests;

@@ -25,7 +25,7 @@ use std::process::Abort;
 use std::test::Fail;
 use std::thread::{Threads, join};
 
-fn sized(participants: u8, slots: u16, cells: u16) -> Sizes
+pub(crate) fn sized(participants: u8, slots: u16, cells: u16) -> Sizes
     requires { 1 ≤ participants }
     ensures { IsSized result }
 {
@@ -37,7 +37,7 @@ fn sized(participants: u8, slots: u16, cells: u16) -> Sizes
     }
 }
 
-fn member<R: Abort>(rt: &R, domain: &Domain<u64>) -> Local<u64>
+pub(crate) fn member<R: Abort>(rt: &R, domain: &Domain<u64>) -> Local<u64>
     ensures home { (home_of result ≡ place_of domain.now) × (hand_of result ≡ []) }
     ensures closed { (own_of result).nesting ≡ 0 }
 {
@@ -48,14 +48,19 @@ fn member<R: Abort>(rt: &R, domain: &Domain<u64>) -> Local<u64>
 }
 
 /// Ends a place in which nobody is registered.
-fn end<R: Abort>(rt: &R, domain: Domain<u64>) {
+pub(crate) fn end<R: Abort>(rt: &R, domain: Domain<u64>) {
     match domain.close() {
         Ok(()) => {}
         Err(_) => panic!(rt; "nobody is registered, and nothing has an owner"),
     }
 }
 
-fn owned<R: Abort>(rt: &R, domain: &Domain<u64>, value: u64, local: &mut Local<u64>) -> Owned<u64>
+pub(crate) fn owned<R: Abort>(
+    rt: &R,
+    domain: &Domain<u64>,
+    value: u64,
+    local: &mut Local<u64>,
+) -> Owned<u64>
     requires home { (home_of local.old ≡ place_of domain.now) × (hand_of local.old ≡ []) }
     ensures home { place_in result ≡ (place_of domain.now).0 }
     ensures same { IsSameButMisses local.old local.new × (own_of local.new ≡ own_of local.old) × (nest_in local.new ≡ nest_in local.old) }
@@ -92,7 +97,7 @@ fn four(domain: &Domain<u64>, local: &mut Local<u64>)
 }
 
 /// The value that an owner reads, which is retired.
-fn last_value(
+pub(crate) fn last_value(
     domain: &Domain<u64>,
     owner: Option<Owned<u64>>,
     local: &mut Local<u64>,
@@ -390,8 +395,14 @@ fn an_exchange_is_taken_where_item_and_tag_are_the_same(rt: HostRuntime) -> Resu
 }
 
 /// Of an item that is out as a raw one: its value by a pointer with the second tag, and that tag; the value of the owner that
-/// is had back, and of the one had back once more; whether a pointer to nothing gives one to nothing.
-type Raw = (Option<(u64, Tag)>, Option<u64>, Option<u64>, bool);
+/// is had back, and of the one had back once more; whether a pointer to nothing gives one to nothing; its value and tag then.
+type Raw = (
+    Option<(u64, Tag)>,
+    Option<u64>,
+    Option<u64>,
+    bool,
+    Option<(u64, Tag)>,
+);
 
 fn goes_out<R: Abort>(
     rt: &R,
@@ -405,10 +416,11 @@ fn goes_out<R: Abort>(
     ensures same { IsAsBefore local.old local.new }
 {
     let pointer = sent_out(rt, domain, 7, raws, local).with_tag(Tag::Second);
-    let (seen, is_nothing) = seen(domain, raws, pointer, local);
+    let (is_seen, is_nothing) = seen(domain, raws, pointer, local);
     let back = had_back(domain, raws, pointer, local);
     let again = had_back(domain, raws, pointer, local);
-    (seen, back, again, is_nothing)
+    let (gone, _) = seen(domain, raws, pointer, local);
+    (is_seen, back, again, is_nothing, gone)
 }
 
 /// A raw pointer to a new item.
@@ -491,7 +503,7 @@ fn an_item_that_is_out_as_a_raw_one_is_had_back_once(rt: HostRuntime) -> Result<
     raws.end(&domain, &mut local);
     local.end(&domain);
     end(&rt, domain);
-    let row = (Some((7, Tag::Second)), Some(7), None, true);
+    let row = (Some((7, Tag::Second)), Some(7), None, true, None);
     assert!(rt; (found, refused) == (row, Some(RawRefused::NoCell)));
     Ok(())
 }
@@ -531,6 +543,7 @@ fn a_word_has_the_raw_pointer_that_was_written(rt: HostRuntime) -> Result<(), Fa
     let read = [word.load(), word.swap(it)];
     let tried = [
         word.compare_exchange(tagged, null),
+        word.compare_exchange_weak(tagged, null),
         word.compare_exchange(it, tagged),
     ];
     let more = [
@@ -543,7 +556,7 @@ fn a_word_has_the_raw_pointer_that_was_written(rt: HostRuntime) -> Result<(), Fa
     ];
     let now = (word.tag(), word.load());
     assert!(rt; !it.is_null() && empty && read == [tagged, tagged]);
-    assert!(rt; tried == [Err(it), Ok(it)] && more == [Ok(tagged), Err(it)]);
+    assert!(rt; tried == [Err(it), Err(it), Ok(it)] && more == [Ok(tagged), Err(it)]);
     assert!(rt; set == [false, true] && now == (Tag::Second, it.with_tag(Tag::Second)));
     // one that is made with a pointer, and exchanged for nothing and back
     assert!(rt; RawPtr::default() == null);
