@@ -211,7 +211,11 @@ fn agrees<const S: usize>(
     for _ in 0..60u32 {
         seed = following(seed);
         let writes = writes_by(alloc, seed, mask, most)?;
-        let (made, replies) = drafted::<u64, u64, usize, TreeList, S>(alloc, &old, writes.as_slice())?;
+        let (made, replies) = drafted::<u64, u64, usize, TreeList, S>(
+            alloc,
+            &old,
+            writes.as_slice(),
+        )?;
         let (list, told) = plain::applied(alloc, pairs.as_slice(), writes.as_slice())?;
         if made.length != list.len() || replies.as_slice() != told.as_slice() {
             return Ok(false);
@@ -327,4 +331,37 @@ fn writes_make_what_they_touch(rt: HostRuntime) -> Result<(), Fail> {
     let clearing = does(rt.alloc(), BEFORE, CLEARING)?;
     assert_eq!(rt; [none, inner, clearing], [true; 3]);
     Ok(())
+}
+
+// Whether memory was refused while drafts and a plain list were made of writes, and whether they were as wanted, by a second
+// try then.
+fn does_again(alloc: Global) -> (bool, bool) {
+    let (mut met, first) = match does(alloc, BEFORE, INNER) {
+        Ok(right) => (false, right),
+        Err(AllocError) => (true, does(alloc, BEFORE, INNER) == Ok(true)),
+    };
+    let pairs = &[(1, 1), (3, 3), (5, 5), (7, 7)];
+    let made = match plain::applied(alloc, pairs, INNER.0) {
+        Ok(made) => Ok(made),
+        Err(AllocError) => {
+            met = true;
+            plain::applied(alloc, pairs, INNER.0)
+        }
+    };
+    let second = match made {
+        Ok((list, told)) => list.as_slice() == INNER.2 && told.as_slice() == INNER.1,
+        Err(AllocError) => false,
+    };
+    (met, first && second)
+}
+
+// Any one allocation may be refused: a script has each refused in turn.
+#[test]
+fn a_refusal_of_memory_makes_no_draft(rt: HostRuntime) {
+    assert!(rt; does_again(rt.alloc()).1);
+}
+
+#[test]
+fn no_memory_is_refused_to_a_draft(rt: HostRuntime) {
+    assert!(rt; does_again(rt.alloc()) == (false, true));
 }

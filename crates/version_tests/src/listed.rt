@@ -7,6 +7,8 @@ ghost use Rattle.leaf_array.specs.Pairs.{IsAscending};
 use local_versions::draft::{Part, listed, rising_until};
 use std::alloc::{AllocError, Global};
 use std::test::Fail;
+use tree_index::TreeIndex;
+use version_views::Segment;
 
 const FIVE: &[(u64, u64)] = &[(1, 10), (2, 20), (3, 30), (4, 40), (5, 50)];
 
@@ -99,4 +101,47 @@ fn a_list_is_cut_into_full_segments_and_what_is_left(rt: HostRuntime) -> Result<
     let more = is_cut::<225>(alloc, &numbers(alloc, 226)?, &[225, 1], &[225])?;
     assert_eq!(rt; [none, ones, twos, threes, wide, full, more], [true; 7]);
     Ok(())
+}
+
+// How many pairs a segment with room for three has, and one that is copied from a tree of five.
+fn segments(alloc: Global) -> Result<(usize, usize), AllocError> {
+    let mut tree: TreeIndex<u64, u64> = TreeIndex::new(alloc);
+    for (key, value) in FIVE {
+        if tree.upsert_sync(*key, *value).is_err() {
+            return Err(AllocError);
+        }
+    }
+    if tree.len() > 225 {
+        return Ok((0, tree.len()));
+    }
+    let empty: Segment<u64, u64> = Segment::with_capacity(alloc, 3)?;
+    let copy = Segment::copied(alloc, &tree)?;
+    Ok((empty.tree().len(), copy.tree().len()))
+}
+
+// Whether memory was refused while a list was cut and segments were made, and whether they were as wanted, by a second try
+// then.
+fn cut_again(alloc: Global) -> (bool, bool) {
+    let (met, first) = match is_cut::<2>(alloc, FIVE, &[2, 2, 1], &[2, 4]) {
+        Ok(right) => (false, right),
+        Err(AllocError) => (
+            true,
+            is_cut::<2>(alloc, FIVE, &[2, 2, 1], &[2, 4]) == Ok(true),
+        ),
+    };
+    match segments(alloc) {
+        Ok(found) => (met, first && found == (0, 5)),
+        Err(AllocError) => (true, first && segments(alloc) == Ok((0, 5))),
+    }
+}
+
+// Any one allocation may be refused: a script has each refused in turn.
+#[test]
+fn a_refusal_of_memory_cuts_no_list(rt: HostRuntime) {
+    assert!(rt; cut_again(rt.alloc()).1);
+}
+
+#[test]
+fn no_memory_is_refused_to_a_list_that_is_cut(rt: HostRuntime) {
+    assert!(rt; cut_again(rt.alloc()) == (false, true));
 }
