@@ -1,5 +1,7 @@
 //! Guards and items of a place of one thread, the same rounds.
 
+ghost use Rattle.std.specs.Prelude.{◌≤◌};
+
 use sdd_plain::sizes::Sizes;
 use sdd_world::{NoJob, World, world};
 use std::alloc::{AllocError, Global};
