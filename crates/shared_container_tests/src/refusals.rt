@@ -2,17 +2,38 @@
 
 ghost use Rattle.std.specs.Prelude.{◌≡◌, []};
 ghost use Rattle.sdd_domain.specs.Tokens.{place_of, home_of, hand_of, own_of};
+ghost use Rattle.shared_containers.specs.Containers.{AreLinksOf, IsAsBefore, IsStackOf};
 
 use crate::conditions::{push_behind, walks};
 use crate::lists::last_two;
 use crate::scene::{Kind, Made, end, member, sized};
 use sdd_domain::domain::Domain;
+use sdd_domain::local::Local;
 use shared_containers::Links;
 use shared_containers::queue::Queue;
 use shared_containers::stack::Stack;
 use std::alloc::Global;
 use std::process::Abort;
 use std::test::Fail;
+
+/// What comes out of a stack, which is ended, and so are another one and the links.
+fn left_in(
+    domain: &Domain<u64>,
+    stack: Stack<u64>,
+    other: Stack<u64>,
+    links: Links<u64>,
+    local: &mut Local<u64>,
+) -> [Option<u64>; 3]
+    requires home { (home_of local.old ≡ place_of domain.now) × (hand_of local.old ≡ []) }
+    requires closed { (own_of local.old).nesting ≡ 0 }
+    requires stacks { IsStackOf stack domain.now × IsStackOf other domain.now × AreLinksOf links domain.now }
+    ensures same { IsAsBefore local.old local.new }
+{
+    let left = last_two(domain, stack, &links, local);
+    other.end(domain, &links, local);
+    links.end(domain, local);
+    left
+}
 
 /// What is refused where one cell is free beside links and a stack of 1: a queue, one more stack behind another, and a
 /// stack of all items. And what the stack has then.
@@ -56,9 +77,7 @@ fn refused_cells<R: Abort>(
         }
         None => true,
     };
-    let left = last_two(domain, stack, &links, &mut local);
-    other.end(domain, &links, &mut local);
-    links.end(domain, &mut local);
+    let left = left_in(domain, stack, other, links, &mut local);
     local.end(domain);
     ([is_pushed, queue, third, all], left)
 }
