@@ -1,7 +1,9 @@
 //! A queue of jobs between two threads: one pushes a hundred numbers, the other pops them.
 #![tactic(auto)]
 
+ghost use Rattle.std.specs.Prelude.{◌≡◌};
 ghost use Rattle.sdd.specs.Containers.{AreLinksOf, IsAsBefore, IsQueueOf, IsReady};
+ghost use Rattle.sdd.specs.Tokens.{own_of};
 
 use sdd::{Domain, Links, Local, Queue, Sizes};
 use std::alloc::Global;
@@ -22,7 +24,7 @@ struct Scene<'a> {
 struct Worker<'a> {
     scene: &'a Scene<'a>,
     local: Local<u64>,
-    ghost ready: { IsReady local scene.now.domain.now },
+    ghost ready: { IsReady local scene.now.domain.now × ((own_of local).nesting ≡ 0) },
 }
 
 // One of its participants, if one is free.
