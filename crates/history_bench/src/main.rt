@@ -1,6 +1,6 @@
 //! Commits of one kind, all of which a history keeps, for `bench/history` to see how many bytes it keeps of each.
 //!
-//! `history_bench KIND COMMITS` makes so many commits on a list of ten thousand pairs, which they leave as it is: `empty` ones
+//! `history_bench KIND COMMITS` makes that many commits on a list of ten thousand pairs, which they leave as it is: `empty` ones
 //! without writes, `upsert` ones of one upsert, or `ranged` ones of one upsert that rest on a receipt with a range of all pairs.
 #![tactic(auto)]
 
@@ -76,7 +76,7 @@ fn commit_once(
     Ok(())
 }
 
-// Makes the list by one commit, and so many of a kind behind it: how many of these are kept.
+// Makes the list by one commit, and commits of a kind after it: how many of these are kept.
 fn commit_all(
     alloc: Global,
     numbers: &mut Numbers,
