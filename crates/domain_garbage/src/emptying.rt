@@ -13,7 +13,7 @@ ghost use Rattle.domain_table.specs.declared.board.Home.{Home};
 ghost use Rattle.domain_garbage.specs.Opened.{TakesNoted};
 
 use atomic_table::Play;
-use domain_table::board::{Acting, Home, Place, Words};
+use domain_table::board::{Acting, Home, Seat, Words};
 use domain_table::holding::Holding;
 use std::marker::PhantomData;
 
@@ -49,64 +49,64 @@ impl<T, H: Holding<T>> Play<Home<T>, Acting> for OnVacate<H> {
 
 /// Begins to reclaim the item that waits the longest, which the participant retired three rotations ago. Nobody reads it:
 /// its deed comes out, all its parts are at home, and the owners that it held are in hand.
-pub fn open<T, H: Holding<T>>(words: &Words<T, H>, place: &mut Place<T>)
-    requires table { (place.old.table_id ≡ words.now.table_id) × (0 < words.now.table_id.words) }
-    requires ready { (place.old.me.0.kind ≡ 1) × (is_ready place.old.me.0.known ≡ true) × (place.old.me.0.filling ≡ None) }
-    requires waits { (w : Garbage) × (ws : List Garbage) × (place.old.me.0.waits ≡ ws ++ w ∷ []) × (w.age ≡ 3) }
-    ensures seat { (place.new.table_id ≡ place.old.table_id) × (place.new.id ≡ place.old.id) }
-    ensures inside { (w : Garbage) (ws : List Garbage) → place.old.me.0.waits ≡ ws ++ w ∷ [] → w.slot < place.old.me.0.sizes.slots }
-    ensures opened { TakesDeed (IsIn H.holds) place.old.me place.new.me }
+pub fn open<T, H: Holding<T>>(words: &Words<T, H>, seat: &mut Seat<T>)
+    requires table { (seat.old.table_id ≡ words.now.table_id) × (0 < words.now.table_id.words) }
+    requires ready { (seat.old.me.0.kind ≡ 1) × (is_ready seat.old.me.0.known ≡ true) × (seat.old.me.0.filling ≡ None) }
+    requires waits { (w : Garbage) × (ws : List Garbage) × (seat.old.me.0.waits ≡ ws ++ w ∷ []) × (w.age ≡ 3) }
+    ensures seat { (seat.new.table_id ≡ seat.old.table_id) × (seat.new.id ≡ seat.old.id) }
+    ensures inside { (w : Garbage) (ws : List Garbage) → seat.old.me.0.waits ≡ ws ++ w ∷ [] → w.slot < seat.old.me.0.sizes.slots }
+    ensures opened { TakesDeed (IsIn H.holds) seat.old.me seat.new.me }
 {
-    let _ = words.load::<OnOpen<H>>(place, 0);
+    let _ = words.load::<OnOpen<H>>(seat, 0);
 }
 
 /// The same of the item that is in the private bag at the participant's seat the longest, with a note at least three below
 /// the count that was read again under the open guard.
-pub fn open_noted<T, H: Holding<T>>(words: &Words<T, H>, place: &mut Place<T>)
-    requires table { (place.old.table_id ≡ words.now.table_id) × (0 < words.now.table_id.words) }
-    requires ready { (place.old.me.0.kind ≡ 1) × (is_ready place.old.me.0.known ≡ true) × (is_inside place.old.me.0.known ≡ true) × (place.old.me.0.filling ≡ None) }
-    requires noted { (w : Garbage) × (ws : List Garbage) × (place.old.me.0.collected ≡ ws ++ w ∷ []) × (is_past w.age place.old.me.0.known.reread ≡ true) }
-    ensures seat { (place.new.table_id ≡ place.old.table_id) × (place.new.id ≡ place.old.id) }
-    ensures inside { (w : Garbage) (ws : List Garbage) → place.old.me.0.collected ≡ ws ++ w ∷ [] → w.slot < place.old.me.0.sizes.slots }
-    ensures opened { TakesNoted (IsIn H.holds) place.old.me place.new.me }
+pub fn open_noted<T, H: Holding<T>>(words: &Words<T, H>, seat: &mut Seat<T>)
+    requires table { (seat.old.table_id ≡ words.now.table_id) × (0 < words.now.table_id.words) }
+    requires ready { (seat.old.me.0.kind ≡ 1) × (is_ready seat.old.me.0.known ≡ true) × (is_inside seat.old.me.0.known ≡ true) × (seat.old.me.0.filling ≡ None) }
+    requires noted { (w : Garbage) × (ws : List Garbage) × (seat.old.me.0.collected ≡ ws ++ w ∷ []) × (is_past w.age seat.old.me.0.known.reread ≡ true) }
+    ensures seat { (seat.new.table_id ≡ seat.old.table_id) × (seat.new.id ≡ seat.old.id) }
+    ensures inside { (w : Garbage) (ws : List Garbage) → seat.old.me.0.collected ≡ ws ++ w ∷ [] → w.slot < seat.old.me.0.sizes.slots }
+    ensures opened { TakesNoted (IsIn H.holds) seat.old.me seat.new.me }
 {
-    let _ = words.load::<OnOpenNoted<H>>(place, 0);
+    let _ = words.load::<OnOpenNoted<H>>(seat, 0);
 }
 
 /// Takes the last home that has parts out of the slot of a reclaimed item. With that of the first participant all parts
 /// are in hand.
-pub fn gather<T, H: Holding<T>>(words: &Words<T, H>, place: &mut Place<T>)
-    requires table { (place.old.table_id ≡ words.now.table_id) × (0 < words.now.table_id.words) }
-    requires filled { (place.old.me.0.kind ≡ 1) × ((f : Filling) × (place.old.me.0.filling ≡ Some f) × (0 < f.filled) × (f.out ≡ place.old.me.0.sizes.participants)) }
-    ensures seat { (place.new.table_id ≡ place.old.table_id) × (place.new.id ≡ place.old.id) }
-    ensures taken { TakesNext (IsIn H.holds) place.old.me place.new.me }
+pub fn gather<T, H: Holding<T>>(words: &Words<T, H>, seat: &mut Seat<T>)
+    requires table { (seat.old.table_id ≡ words.now.table_id) × (0 < words.now.table_id.words) }
+    requires filled { (seat.old.me.0.kind ≡ 1) × ((f : Filling) × (seat.old.me.0.filling ≡ Some f) × (0 < f.filled) × (f.out ≡ seat.old.me.0.sizes.participants)) }
+    ensures seat { (seat.new.table_id ≡ seat.old.table_id) × (seat.new.id ≡ seat.old.id) }
+    ensures taken { TakesNext (IsIn H.holds) seat.old.me seat.new.me }
 {
-    let _ = words.load::<OnGather<H>>(place, 0);
+    let _ = words.load::<OnGather<H>>(seat, 0);
 }
 
 /// Gives the home back that `gather` took. It is empty now.
-pub fn empty<T, H: Holding<T>>(words: &Words<T, H>, place: &mut Place<T>)
-    requires table { (place.old.table_id ≡ words.now.table_id) × (0 < words.now.table_id.words) }
-    requires emptied { (place.old.me.0.kind ≡ 1) × ((f : Filling) × (tail : List (ℕ × Home T)) × CanEmpty (IsIn H.holds) place.old.me f tail) }
-    ensures seat { (place.new.table_id ≡ place.old.table_id) × (place.new.id ≡ place.old.id) }
-    ensures given { GivesHome (IsIn H.holds) place.old.me place.new.me }
+pub fn empty<T, H: Holding<T>>(words: &Words<T, H>, seat: &mut Seat<T>)
+    requires table { (seat.old.table_id ≡ words.now.table_id) × (0 < words.now.table_id.words) }
+    requires emptied { (seat.old.me.0.kind ≡ 1) × ((f : Filling) × (tail : List (ℕ × Home T)) × CanEmpty (IsIn H.holds) seat.old.me f tail) }
+    ensures seat { (seat.new.table_id ≡ seat.old.table_id) × (seat.new.id ≡ seat.old.id) }
+    ensures given { GivesHome (IsIn H.holds) seat.old.me seat.new.me }
 {
-    let _ = words.load::<OnEmpty<H>>(place, 0);
+    let _ = words.load::<OnEmpty<H>>(seat, 0);
 }
 
 /// Gives `slot` back, for `participants` and `cells` of them: all homes are empty, and the room is in the item's own, which goes
 /// back in the same step.
 pub fn vacate<T, H: Holding<T>>(
     words: &Words<T, H>,
-    place: &mut Place<T>,
+    seat: &mut Seat<T>,
     participants: usize,
     cells: usize,
     slot: usize,
 )
-    requires table { FitsSlot words.now.table_id words.now.key.sizes place.old.table_id place.old.me.0.sizes participants cells slot }
-    requires emptied { (place.old.me.0.kind ≡ 1) × (place.old.me.0.slot ≡ slot) × ((f : Filling) × (tail : List (ℕ × Home T)) × CanVacate (IsIn H.holds) place.old.me f tail) }
-    ensures seat { (place.new.table_id ≡ place.old.table_id) × (place.new.id ≡ place.old.id) }
-    ensures vacant { (f : Filling) (tail : List (ℕ × Home T)) → CanVacate (IsIn H.holds) place.old.me f tail → place.new.me ≡ (record place.old.me.0 { filling = None }, tail) }
+    requires table { FitsSlot words.now.table_id words.now.key.sizes seat.old.table_id seat.old.me.0.sizes participants cells slot }
+    requires emptied { (seat.old.me.0.kind ≡ 1) × (seat.old.me.0.slot ≡ slot) × ((f : Filling) × (tail : List (ℕ × Home T)) × CanVacate (IsIn H.holds) seat.old.me f tail) }
+    ensures seat { (seat.new.table_id ≡ seat.old.table_id) × (seat.new.id ≡ seat.old.id) }
+    ensures vacant { (f : Filling) (tail : List (ℕ × Home T)) → CanVacate (IsIn H.holds) seat.old.me f tail → seat.new.me ≡ (record seat.old.me.0 { filling = None }, tail) }
 {
-    words.store::<OnVacate<H>>(place, 8 * participants + 16 + cells + slot, 0);
+    words.store::<OnVacate<H>>(seat, 8 * participants + 16 + cells + slot, 0);
 }

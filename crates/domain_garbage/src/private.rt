@@ -20,7 +20,7 @@ use crate::notes::Notes;
 use atomic_table::{Join, Play, Split};
 use domain_table::aim::{Collect, Retire};
 use domain_table::bags::{Bags, Ends};
-use domain_table::board::{Acting, Home, Place, Stored, Words};
+use domain_table::board::{Acting, Home, Seat, Stored, Words};
 use domain_table::holding::Holding;
 use domain_table::owners::release;
 use domain_table::private_chains::{join_noted, take_noted};
@@ -96,76 +96,76 @@ pub fn new_bag<T, H: Holding<T>>(words: &Words<T, H>) -> Calm<Acting>
 }
 
 /// Brings a private bag to the participant's seat.
-pub fn take_bag<T, H: Holding<T>>(words: &Words<T, H>, place: &mut Place<T>, bag: Calm<Acting>)
-    requires table { (place.old.table_id ≡ words.now.table_id) × (bag.badge.table_id ≡ words.now.table_id) × (0 < words.now.table_id.words) }
-    requires ready { place.old.me.0.kind ≡ 1 }
+pub fn take_bag<T, H: Holding<T>>(words: &Words<T, H>, seat: &mut Seat<T>, bag: Calm<Acting>)
+    requires table { (seat.old.table_id ≡ words.now.table_id) × (bag.badge.table_id ≡ words.now.table_id) × (0 < words.now.table_id.words) }
+    requires ready { seat.old.me.0.kind ≡ 1 }
     requires bag { (ws : List Garbage) × (bag.badge.views ≡ gathering ws ∷ []) }
-    ensures seat { (place.new.table_id ≡ place.old.table_id) × (place.new.id ≡ place.old.id) }
-    ensures taken { (ws : List Garbage) → bag.badge.views ≡ gathering ws ∷ [] → place.new.me ≡ (record place.old.me.0 { collected = ws }, place.old.me.1) }
+    ensures seat { (seat.new.table_id ≡ seat.old.table_id) × (seat.new.id ≡ seat.old.id) }
+    ensures taken { (ws : List Garbage) → bag.badge.views ≡ gathering ws ∷ [] → seat.new.me ≡ (record seat.old.me.0 { collected = ws }, seat.old.me.1) }
 {
-    words.join_seat::<Coming>(place, bag.into_badge().into_seat());
+    words.join_seat::<Coming>(seat, bag.into_badge().into_seat());
 }
 
 /// Gives the private bag that is at the participant's seat one of its own.
-pub fn part_bag<T, H: Holding<T>>(words: &Words<T, H>, place: &mut Place<T>) -> Calm<Acting>
-    requires table { (place.old.table_id ≡ words.now.table_id) × (0 < words.now.table_id.words) }
-    requires ready { place.old.me.0.kind ≡ 1 }
-    ensures seat { (place.new.table_id ≡ place.old.table_id) × (place.new.id ≡ place.old.id) × (place.new.me ≡ (without_bag place.old.me.0, place.old.me.1)) }
-    ensures bag { (result.badge.table_id ≡ place.old.table_id) × (result.badge.views ≡ bag_alone place.old.me.0 ∷ []) }
+pub fn part_bag<T, H: Holding<T>>(words: &Words<T, H>, seat: &mut Seat<T>) -> Calm<Acting>
+    requires table { (seat.old.table_id ≡ words.now.table_id) × (0 < words.now.table_id.words) }
+    requires ready { seat.old.me.0.kind ≡ 1 }
+    ensures seat { (seat.new.table_id ≡ seat.old.table_id) × (seat.new.id ≡ seat.old.id) × (seat.new.me ≡ (without_bag seat.old.me.0, seat.old.me.1)) }
+    ensures bag { (result.badge.table_id ≡ seat.old.table_id) × (result.badge.views ≡ bag_alone seat.old.me.0 ∷ []) }
 {
-    Calm::new(words.split_seat::<Leaving>(place).into_badge())
+    Calm::new(words.split_seat::<Leaving>(seat).into_badge())
 }
 
 /// Reads the count of raises again under the open guard, for a note.
-pub fn reread<T, H: Holding<T>>(words: &Words<T, H>, place: &mut Place<T>) -> u64
-    requires table { (place.old.table_id ≡ words.now.table_id) × (0 < words.now.table_id.words) }
-    requires open { (place.old.me.0.kind ≡ 1) × (is_inside place.old.me.0.known ≡ true) }
-    ensures seat { (place.new.table_id ≡ place.old.table_id) × (place.new.id ≡ place.old.id) }
-    ensures noted { place.new.me ≡ (record place.old.me.0 { known = rereading result place.old.me.0.known }, place.old.me.1) }
-    ensures least { place.old.me.0.born ≤ result }
-    ensures most { result ≤ place.old.me.0.born + 1 }
-    ensures noted_most { (w : Garbage) → Has place.old.me.0.collected w → w.age ≤ result }
+pub fn reread<T, H: Holding<T>>(words: &Words<T, H>, seat: &mut Seat<T>) -> u64
+    requires table { (seat.old.table_id ≡ words.now.table_id) × (0 < words.now.table_id.words) }
+    requires open { (seat.old.me.0.kind ≡ 1) × (is_inside seat.old.me.0.known ≡ true) }
+    ensures seat { (seat.new.table_id ≡ seat.old.table_id) × (seat.new.id ≡ seat.old.id) }
+    ensures noted { seat.new.me ≡ (record seat.old.me.0 { known = rereading result seat.old.me.0.known }, seat.old.me.1) }
+    ensures least { seat.old.me.0.born ≤ result }
+    ensures most { result ≤ seat.old.me.0.born + 1 }
+    ensures noted_most { (w : Garbage) → Has seat.old.me.0.collected w → w.age ≤ result }
 {
-    words.load::<OnReread>(place, 0)
+    words.load::<OnReread>(seat, 0)
 }
 
 /// Retires all that is in the private bag that is at the participant's seat, in one step: it is in the participant's current
 /// bag then, in its order, and one link word at most is written.
 pub fn hand_all<T, H: Holding<T>>(
     words: &Words<T, H>,
-    place: &mut Place<T>,
+    seat: &mut Seat<T>,
     sizes: &Sizes,
     kept: NotedChain,
     bags: &mut Bags,
 )
-    requires table { FitsSizes words.now.table_id words.now.key.sizes place.old.table_id place.old.me.0.sizes sizes.now }
-    requires ready { (place.old.me.0.kind ≡ 1) × (is_ready place.old.me.0.known ≡ true) }
-    requires kept { IsKept sizes.now.slots place.old.me.0.collected kept }
-    requires waits { WaitsIn sizes.now.slots place.old.me.0.waits bags.old }
-    ensures seat { (place.new.table_id ≡ place.old.table_id) × (place.new.id ≡ place.old.id) }
-    ensures handed { HandsAll place.old.me place.new.me }
-    ensures waits { WaitsIn sizes.now.slots place.new.me.0.waits bags.new }
+    requires table { FitsSizes words.now.table_id words.now.key.sizes seat.old.table_id seat.old.me.0.sizes sizes.now }
+    requires ready { (seat.old.me.0.kind ≡ 1) × (is_ready seat.old.me.0.known ≡ true) }
+    requires kept { IsKept sizes.now.slots seat.old.me.0.collected kept }
+    requires waits { WaitsIn sizes.now.slots seat.old.me.0.waits bags.old }
+    ensures seat { (seat.new.table_id ≡ seat.old.table_id) × (seat.new.id ≡ seat.old.id) }
+    ensures handed { HandsAll seat.old.me seat.new.me }
+    ensures waits { WaitsIn sizes.now.slots seat.new.me.0.waits bags.new }
     ensures bags { bags.new.due ≡ bags.old.due }
 {
-    let _ = words.load::<OnHandAll>(place, 1);
-    bags.take_over(words, place, sizes, kept.chain);
+    let _ = words.load::<OnHandAll>(seat, 1);
+    bags.take_over(words, seat, sizes, kept.chain);
 }
 
 /// Takes what is in the private bag at the participant's seat the longest out of its chain, if its note lies three or more
 /// below the count. It stays noted, until it is reclaimed.
 pub fn take_due<T, H: Holding<T>>(
     words: &Words<T, H>,
-    place: &mut Place<T>,
+    seat: &mut Seat<T>,
     sizes: &Sizes,
     kept: &mut NotedChain,
     count: u64,
 ) -> Option<usize>
-    requires table { FitsSizes words.now.table_id words.now.key.sizes place.old.table_id place.old.me.0.sizes sizes.now }
-    requires acts { place.old.me.0.kind ≡ 1 }
-    requires kept { IsKept sizes.now.slots place.old.me.0.collected kept.old }
-    ensures seat { (place.new.table_id ≡ place.old.table_id) × (place.new.id ≡ place.old.id) × (place.new.me ≡ place.old.me) }
-    ensures none { IfNone result (IsKept sizes.now.slots place.old.me.0.collected kept.new × NoneDue count place.old.me.0.collected) }
-    ensures taken { IfSome result (λ slot. (ws : List Garbage) × (w : Garbage) × (place.old.me.0.collected ≡ ws ++ w ∷ []) × (w.slot ≡ slot) × (w.age + 3 ≤ count) × IsKept sizes.now.slots ws kept.new) }
+    requires table { FitsSizes words.now.table_id words.now.key.sizes seat.old.table_id seat.old.me.0.sizes sizes.now }
+    requires acts { seat.old.me.0.kind ≡ 1 }
+    requires kept { IsKept sizes.now.slots seat.old.me.0.collected kept.old }
+    ensures seat { (seat.new.table_id ≡ seat.old.table_id) × (seat.new.id ≡ seat.old.id) × (seat.new.me ≡ seat.old.me) }
+    ensures none { IfNone result (IsKept sizes.now.slots seat.old.me.0.collected kept.new × NoneDue count seat.old.me.0.collected) }
+    ensures taken { IfSome result (λ slot. (ws : List Garbage) × (w : Garbage) × (seat.old.me.0.collected ≡ ws ++ w ∷ []) × (w.slot ≡ slot) × (w.age + 3 ≤ count) × IsKept sizes.now.slots ws kept.new) }
 {
     let Some(note) = kept.notes.oldest() else {
         return None;
@@ -173,7 +173,7 @@ pub fn take_due<T, H: Holding<T>>(
     if count < 3 || note > count - 3 {
         return None;
     }
-    let (slot, chain) = take_noted(words, place, sizes, kept.chain);
+    let (slot, chain) = take_noted(words, seat, sizes, kept.chain);
     kept.chain = chain;
     kept.notes.take();
     slot
@@ -182,22 +182,22 @@ pub fn take_due<T, H: Holding<T>>(
 /// What has just come into the private bag, in the slot that is told, comes behind all else of its chain, with its note.
 fn keep<T, H: Holding<T>>(
     words: &Words<T, H>,
-    place: &mut Place<T>,
+    seat: &mut Seat<T>,
     sizes: &Sizes,
     kept: &mut NotedChain,
     noted: Noted,
 )
-    requires table { FitsSizes words.now.table_id words.now.key.sizes place.old.table_id place.old.me.0.sizes sizes.now × (noted.slot < sizes.now.slots) }
-    requires acts { place.old.me.0.kind ≡ 1 }
-    requires came { (w : Garbage) × (ws : List Garbage) × (place.old.me.0.collected ≡ w ∷ ws) × (w.slot ≡ noted.slot) × (w.age ≡ noted.note) × IsKept sizes.now.slots ws kept.old × (length ws < sizes.now.slots) × ((v : Garbage) → Has ws v → v.age ≤ noted.note) × NoneDue noted.note ws }
-    ensures seat { (place.new.table_id ≡ place.old.table_id) × (place.new.id ≡ place.old.id) }
-    ensures kept { (cs : List Garbage) × IsKept sizes.now.slots cs kept.new × (map garbage_told cs ≡ map garbage_told place.old.me.0.collected) × (place.new.me ≡ (record place.old.me.0 { collected = cs }, place.old.me.1)) }
+    requires table { FitsSizes words.now.table_id words.now.key.sizes seat.old.table_id seat.old.me.0.sizes sizes.now × (noted.slot < sizes.now.slots) }
+    requires acts { seat.old.me.0.kind ≡ 1 }
+    requires came { (w : Garbage) × (ws : List Garbage) × (seat.old.me.0.collected ≡ w ∷ ws) × (w.slot ≡ noted.slot) × (w.age ≡ noted.note) × IsKept sizes.now.slots ws kept.old × (length ws < sizes.now.slots) × ((v : Garbage) → Has ws v → v.age ≤ noted.note) × NoneDue noted.note ws }
+    ensures seat { (seat.new.table_id ≡ seat.old.table_id) × (seat.new.id ≡ seat.old.id) }
+    ensures kept { (cs : List Garbage) × IsKept sizes.now.slots cs kept.new × (map garbage_told cs ≡ map garbage_told seat.old.me.0.collected) × (seat.new.me ≡ (record seat.old.me.0 { collected = cs }, seat.old.me.1)) }
 {
     let alone = Ends {
         first: noted.slot,
         last: noted.slot,
     };
-    kept.chain = join_noted(words, place, sizes, Some(alone), kept.chain);
+    kept.chain = join_noted(words, seat, sizes, Some(alone), kept.chain);
     kept.notes.put(noted.note);
 }
 
@@ -205,7 +205,7 @@ fn keep<T, H: Holding<T>>(
 /// participant `number`. With the last owner the participant has retired the item.
 pub fn give_back<T, H: Holding<T>>(
     words: &Words<T, H>,
-    place: &mut Place<T>,
+    seat: &mut Seat<T>,
     sizes: &Sizes,
     number: usize,
     rows: &mut VecDeque<Row<T>>,
@@ -213,20 +213,20 @@ pub fn give_back<T, H: Holding<T>>(
     slot: usize,
     owner: One<Stored<T>>,
 )
-    requires table { FitsSizes words.now.table_id words.now.key.sizes place.old.table_id place.old.me.0.sizes sizes.now × (number < sizes.now.participants) }
-    requires ready { (place.old.me.0.kind ≡ 1) × (place.old.me.0.number ≡ number) × (is_ready place.old.me.0.known ≡ true) × (place.old.me.0.releasing ≡ 0) }
-    requires owner { IsFirst place.old.me.0 slot owner.part.life.id × IsSome owner.part.seen.value }
-    requires rows { ((life : ℕ) × (map row_told rows.old.items ≡ map (lease_told life) place.old.me.0.leases)) × (all_below sizes.now.slots (row_slots rows.old.items) ≡ true) }
-    requires waits { WaitsIn sizes.now.slots place.old.me.0.waits bags.old }
-    ensures seat { (place.new.table_id ≡ place.old.table_id) × (place.new.id ≡ place.old.id) }
-    ensures given { GivesBack place.old.me place.new.me }
-    ensures rows { (life : ℕ) → map row_told rows.old.items ≡ map (lease_told life) place.old.me.0.leases → map row_told rows.new.items ≡ map (lease_told life) place.new.me.0.leases }
+    requires table { FitsSizes words.now.table_id words.now.key.sizes seat.old.table_id seat.old.me.0.sizes sizes.now × (number < sizes.now.participants) }
+    requires ready { (seat.old.me.0.kind ≡ 1) × (seat.old.me.0.number ≡ number) × (is_ready seat.old.me.0.known ≡ true) × (seat.old.me.0.releasing ≡ 0) }
+    requires owner { IsFirst seat.old.me.0 slot owner.part.life.id × IsSome owner.part.seen.value }
+    requires rows { ((life : ℕ) × (map row_told rows.old.items ≡ map (lease_told life) seat.old.me.0.leases)) × (all_below sizes.now.slots (row_slots rows.old.items) ≡ true) }
+    requires waits { WaitsIn sizes.now.slots seat.old.me.0.waits bags.old }
+    ensures seat { (seat.new.table_id ≡ seat.old.table_id) × (seat.new.id ≡ seat.old.id) }
+    ensures given { GivesBack seat.old.me seat.new.me }
+    ensures rows { (life : ℕ) → map row_told rows.old.items ≡ map (lease_told life) seat.old.me.0.leases → map row_told rows.new.items ≡ map (lease_told life) seat.new.me.0.leases }
     ensures same { (deque_capacity rows.new ≡ deque_capacity rows.old) × (row_slots rows.new.items ≡ row_slots rows.old.items) }
-    ensures waits { WaitsIn sizes.now.slots place.new.me.0.waits bags.new }
+    ensures waits { WaitsIn sizes.now.slots seat.new.me.0.waits bags.new }
     ensures bags { bags.new.due ≡ bags.old.due }
 {
-    if release::<T, H, Retire>(words, place, sizes, number, rows, slot, owner) == 0 {
-        bags.retire(words, place, sizes, slot);
+    if release::<T, H, Retire>(words, seat, sizes, number, rows, slot, owner) == 0 {
+        bags.retire(words, seat, sizes, slot);
     }
 }
 
@@ -234,7 +234,7 @@ pub fn give_back<T, H: Holding<T>>(
 /// the item is in the private bag, with the count that was read again as its note.
 pub fn put_in<T, H: Holding<T>>(
     words: &Words<T, H>,
-    place: &mut Place<T>,
+    seat: &mut Seat<T>,
     sizes: &Sizes,
     number: usize,
     rows: &mut VecDeque<Row<T>>,
@@ -242,32 +242,33 @@ pub fn put_in<T, H: Holding<T>>(
     noted: Noted,
     owner: One<Stored<T>>,
 ) -> bool
-    requires table { FitsSizes words.now.table_id words.now.key.sizes place.old.table_id place.old.me.0.sizes sizes.now × (number < sizes.now.participants) }
-    requires ready { (place.old.me.0.kind ≡ 1) × (place.old.me.0.number ≡ number) × (is_ready place.old.me.0.known ≡ true) × (place.old.me.0.releasing ≡ 0) }
-    requires open { (is_inside place.old.me.0.known ≡ true) × (place.old.me.0.known.reread ≡ Some noted.note) }
-    requires owner { IsFirst place.old.me.0 noted.slot owner.part.life.id × IsSome owner.part.seen.value }
-    requires rows { ((life : ℕ) × (map row_told rows.old.items ≡ map (lease_told life) place.old.me.0.leases)) × (all_below sizes.now.slots (row_slots rows.old.items) ≡ true) }
-    requires kept { IsKept sizes.now.slots place.old.me.0.collected kept.old }
-    requires most { (w : Garbage) → Has place.old.me.0.collected w → w.age ≤ noted.note }
-    requires young { NoneDue noted.note place.old.me.0.collected }
-    ensures seat { (place.new.table_id ≡ place.old.table_id) × (place.new.id ≡ place.old.id) }
-    ensures given { PutsIn place.old.me place.new.me }
-    ensures rows { (life : ℕ) → map row_told rows.old.items ≡ map (lease_told life) place.old.me.0.leases → map row_told rows.new.items ≡ map (lease_told life) place.new.me.0.leases }
+    requires table { FitsSizes words.now.table_id words.now.key.sizes seat.old.table_id seat.old.me.0.sizes sizes.now × (number < sizes.now.participants) }
+    requires ready { (seat.old.me.0.kind ≡ 1) × (seat.old.me.0.number ≡ number) × (is_ready seat.old.me.0.known ≡ true) × (seat.old.me.0.releasing ≡ 0) }
+    requires open { (is_inside seat.old.me.0.known ≡ true) × (seat.old.me.0.known.reread ≡ Some noted.note) }
+    requires owner { IsFirst seat.old.me.0 noted.slot owner.part.life.id × IsSome owner.part.seen.value }
+    requires rows { ((life : ℕ) × (map row_told rows.old.items ≡ map (lease_told life) seat.old.me.0.leases)) × (all_below sizes.now.slots (row_slots rows.old.items) ≡ true) }
+    requires kept { IsKept sizes.now.slots seat.old.me.0.collected kept.old }
+    requires most { (w : Garbage) → Has seat.old.me.0.collected w → w.age ≤ noted.note }
+    requires young { NoneDue noted.note seat.old.me.0.collected }
+    ensures seat { (seat.new.table_id ≡ seat.old.table_id) × (seat.new.id ≡ seat.old.id) }
+    ensures given { PutsIn seat.old.me seat.new.me }
+    ensures rows { (life : ℕ) → map row_told rows.old.items ≡ map (lease_told life) seat.old.me.0.leases → map row_told rows.new.items ≡ map (lease_told life) seat.new.me.0.leases }
     ensures same { (deque_capacity rows.new ≡ deque_capacity rows.old) × (row_slots rows.new.items ≡ row_slots rows.old.items) }
-    ensures kept { IsKept sizes.now.slots place.new.me.0.collected kept.new }
-    ensures last { IsTrue result → map garbage_told place.new.me.0.collected ≡ (noted.slot, noted.note) ∷ map garbage_told place.old.me.0.collected }
-    ensures more { IsFalse result → place.new.me.0.collected ≡ place.old.me.0.collected }
+    ensures kept { IsKept sizes.now.slots seat.new.me.0.collected kept.new }
+    ensures last { IsTrue result → map garbage_told seat.new.me.0.collected ≡ (noted.slot, noted.note) ∷ map garbage_told seat.old.me.0.collected }
+    ensures more { IsFalse result → seat.new.me.0.collected ≡ seat.old.me.0.collected }
 {
-    let left = release::<T, H, Collect>(words, place, sizes, number, rows, noted.slot, owner);
+    let left = release::<T, H, Collect>(words, seat, sizes, number, rows, noted.slot, owner);
     if left > 0 {
         return false;
     }
-    keep(words, place, sizes, kept, noted);
+    keep(words, seat, sizes, kept, noted);
     true
 }
 
-/// Sets the flag of garbage if anything waits.
+/// Sets the flag of garbage if anything waits, where nothing is due.
 pub fn flag_waiting(own: &mut LocalState, bags: &Bags)
+    requires { bags.now.due ≡ None }
     ensures { (n : ℕ) (ws : List Garbage) → WaitsIn n ws bags.now → own.new ≡ record own.old { garbage = own.old.garbage || nat_lt 0 (length ws) } }
 {
     if bags.has_some() {

@@ -13,7 +13,7 @@ ghost use Rattle.domain_table.specs.declared.board.Home.{Home};
 ghost use Rattle.domain_garbage.specs.Opened.{IsOpened, ReclaimsNoted};
 
 use crate::emptying::{empty, gather, open, open_noted, vacate};
-use domain_table::board::{Home, Place, Stored, Words};
+use domain_table::board::{Home, Seat, Stored, Words};
 use domain_table::holding::Holding;
 use domain_table::homes::{deed_of, let_go, parts_of};
 use domain_table::stored::take_out;
@@ -24,39 +24,39 @@ use sdd_plain::sizes::Sizes;
 #[inline(always)]
 fn gather_home<T, H: Holding<T>>(
     words: &Words<T, H>,
-    place: &mut Place<T>,
+    seat: &mut Seat<T>,
     sizes: &Sizes,
     slot: usize,
     at: usize,
 ) -> Part<Stored<T>>
-    requires table { FitsTaken words.now.table_id place.old.table_id place.old.me.0 sizes.now slot }
-    requires filled { (f : Filling) × (place.old.me.0.filling ≡ Some f) × (f.filled ≡ at + 1) × (at < sizes.now.participants) × (f.out ≡ sizes.now.participants) }
-    ensures seat { (place.new.table_id ≡ place.old.table_id) × (place.new.id ≡ place.old.id) }
-    ensures gathered { Gathers place.old.me slot at result.life.id result.life.count place.new.me }
+    requires table { FitsTaken words.now.table_id seat.old.table_id seat.old.me.0 sizes.now slot }
+    requires filled { (f : Filling) × (seat.old.me.0.filling ≡ Some f) × (f.filled ≡ at + 1) × (at < sizes.now.participants) × (f.out ≡ sizes.now.participants) }
+    ensures seat { (seat.new.table_id ≡ seat.old.table_id) × (seat.new.id ≡ seat.old.id) }
+    ensures gathered { Gathers seat.old.me slot at result.life.id result.life.count seat.new.me }
     ensures some { (0 < result.life.count) × IsSome result.seen.value }
 {
-    gather(words, place);
-    let (part, _) = parts_of::<T, H>(words.exchange(place, at * sizes.slots + slot, Home::Blank));
-    empty(words, place);
+    gather(words, seat);
+    let (part, _) = parts_of::<T, H>(words.exchange(seat, at * sizes.slots + slot, Home::Blank));
+    empty(words, seat);
     part
 }
 
 /// Takes all parts of the item whose slot was opened out of their homes. Together they are all that there are.
 fn gather_all<T, H: Holding<T>>(
     words: &Words<T, H>,
-    place: &mut Place<T>,
+    seat: &mut Seat<T>,
     sizes: &Sizes,
     slot: usize,
 ) -> Part<Stored<T>>
-    requires table { FitsTaken words.now.table_id place.old.table_id place.old.me.0 sizes.now slot }
-    requires filled { (f : Filling) × (place.old.me.0.filling ≡ Some f) × (f.filled ≡ sizes.now.participants) × (f.out ≡ sizes.now.participants) × (f.left ≡ 0) }
-    ensures seat { (place.new.table_id ≡ place.old.table_id) × (place.new.id ≡ place.old.id) }
-    ensures gathered { GathersAll place.old.me slot sizes.now.participants result.life.id place.new.me }
+    requires table { FitsTaken words.now.table_id seat.old.table_id seat.old.me.0 sizes.now slot }
+    requires filled { (f : Filling) × (seat.old.me.0.filling ≡ Some f) × (f.filled ≡ sizes.now.participants) × (f.out ≡ sizes.now.participants) × (f.left ≡ 0) }
+    ensures seat { (seat.new.table_id ≡ seat.old.table_id) × (seat.new.id ≡ seat.old.id) }
+    ensures gathered { GathersAll seat.old.me slot sizes.now.participants result.life.id seat.new.me }
     ensures all { result.life.count ≡ 2 ^ 63 }
 {
-    let mut all = gather_home(words, place, sizes, slot, sizes.participants - 1);
+    let mut all = gather_home(words, seat, sizes, slot, sizes.participants - 1);
     for gone in 1..sizes.participants {
-        all.join(gather_home(words, place, sizes, slot, sizes.participants - 1 - gone));
+        all.join(gather_home(words, seat, sizes, slot, sizes.participants - 1 - gone));
     }
     all
 }
@@ -64,22 +64,22 @@ fn gather_all<T, H: Holding<T>>(
 /// Takes the item out of `slot`, which was opened. The slot is free then.
 fn take_whole<T, H: Holding<T>>(
     words: &Words<T, H>,
-    place: &mut Place<T>,
+    seat: &mut Seat<T>,
     sizes: &Sizes,
     slot: usize,
 ) -> T
-    requires table { FitsSizes words.now.table_id words.now.key.sizes place.old.table_id place.old.me.0.sizes sizes.now × (slot < sizes.now.slots) }
-    requires acts { place.old.me.0.kind ≡ 1 }
-    requires opened { (hs : List Owner) × (tail : List (ℕ × Home T)) × IsOpened (IsIn H.holds) place.old.me slot hs tail }
-    ensures seat { (place.new.table_id ≡ place.old.table_id) × (place.new.id ≡ place.old.id) }
-    ensures taken { (hs : List Owner) (tail : List (ℕ × Home T)) → IsOpened (IsIn H.holds) place.old.me slot hs tail → (H.holds result ≡ map told hs) × (place.new.me ≡ (record place.old.me.0 { filling = None }, tail)) }
+    requires table { FitsSizes words.now.table_id words.now.key.sizes seat.old.table_id seat.old.me.0.sizes sizes.now × (slot < sizes.now.slots) }
+    requires acts { seat.old.me.0.kind ≡ 1 }
+    requires opened { (hs : List Owner) × (tail : List (ℕ × Home T)) × IsOpened (IsIn H.holds) seat.old.me slot hs tail }
+    ensures seat { (seat.new.table_id ≡ seat.old.table_id) × (seat.new.id ≡ seat.old.id) }
+    ensures taken { (hs : List Owner) (tail : List (ℕ × Home T)) → IsOpened (IsIn H.holds) seat.old.me slot hs tail → (H.holds result ≡ map told hs) × (seat.new.me ≡ (record seat.old.me.0 { filling = None }, tail)) }
 {
     let own = sizes.participants * sizes.slots + slot;
-    let deed = deed_of::<T, H>(words.exchange(place, own, Home::Blank));
-    let all = gather_all(words, place, sizes, slot);
+    let deed = deed_of::<T, H>(words.exchange(seat, own, Home::Blank));
+    let all = gather_all(words, seat, sizes, slot);
     let (item, room) = take_out(deed, all);
-    let_go(words.exchange(place, own, Home::Room(room)));
-    vacate(words, place, sizes.participants, sizes.cells, slot);
+    let_go(words.exchange(seat, own, Home::Room(room)));
+    vacate(words, seat, sizes.participants, sizes.cells, slot);
     item
 }
 
@@ -87,34 +87,34 @@ fn take_whole<T, H: Holding<T>>(
 /// the answer, the owners that it holds are in hand, and the slot is free.
 pub fn reclaim<T, H: Holding<T>>(
     words: &Words<T, H>,
-    place: &mut Place<T>,
+    seat: &mut Seat<T>,
     sizes: &Sizes,
     slot: usize,
 ) -> T
-    requires table { FitsSizes words.now.table_id words.now.key.sizes place.old.table_id place.old.me.0.sizes sizes.now }
-    requires ready { (place.old.me.0.kind ≡ 1) × (is_ready place.old.me.0.known ≡ true) × (place.old.me.0.filling ≡ None) }
-    requires waits { (w : Garbage) × (ws : List Garbage) × (place.old.me.0.waits ≡ ws ++ w ∷ []) × (w.age ≡ 3) × (w.slot ≡ slot) }
-    ensures seat { (place.new.table_id ≡ place.old.table_id) × (place.new.id ≡ place.old.id) }
-    ensures reclaimed { ReclaimsLast place.old.me slot (H.holds result) place.new.me }
+    requires table { FitsSizes words.now.table_id words.now.key.sizes seat.old.table_id seat.old.me.0.sizes sizes.now }
+    requires ready { (seat.old.me.0.kind ≡ 1) × (is_ready seat.old.me.0.known ≡ true) × (seat.old.me.0.filling ≡ None) }
+    requires waits { (w : Garbage) × (ws : List Garbage) × (seat.old.me.0.waits ≡ ws ++ w ∷ []) × (w.age ≡ 3) × (w.slot ≡ slot) }
+    ensures seat { (seat.new.table_id ≡ seat.old.table_id) × (seat.new.id ≡ seat.old.id) }
+    ensures reclaimed { ReclaimsLast seat.old.me slot (H.holds result) seat.new.me }
 {
-    open(words, place);
-    take_whole(words, place, sizes, slot)
+    open(words, seat);
+    take_whole(words, seat, sizes, slot)
 }
 
 /// The same of the item that is in the private bag at the participant's seat the longest, with a note at least three below
 /// the count that was read again under the open guard.
 pub fn reclaim_noted<T, H: Holding<T>>(
     words: &Words<T, H>,
-    place: &mut Place<T>,
+    seat: &mut Seat<T>,
     sizes: &Sizes,
     slot: usize,
 ) -> T
-    requires table { FitsSizes words.now.table_id words.now.key.sizes place.old.table_id place.old.me.0.sizes sizes.now }
-    requires ready { (place.old.me.0.kind ≡ 1) × (is_ready place.old.me.0.known ≡ true) × (is_inside place.old.me.0.known ≡ true) × (place.old.me.0.filling ≡ None) }
-    requires noted { (w : Garbage) × (ws : List Garbage) × (place.old.me.0.collected ≡ ws ++ w ∷ []) × (is_past w.age place.old.me.0.known.reread ≡ true) × (w.slot ≡ slot) }
-    ensures seat { (place.new.table_id ≡ place.old.table_id) × (place.new.id ≡ place.old.id) }
-    ensures reclaimed { ReclaimsNoted place.old.me slot (H.holds result) place.new.me }
+    requires table { FitsSizes words.now.table_id words.now.key.sizes seat.old.table_id seat.old.me.0.sizes sizes.now }
+    requires ready { (seat.old.me.0.kind ≡ 1) × (is_ready seat.old.me.0.known ≡ true) × (is_inside seat.old.me.0.known ≡ true) × (seat.old.me.0.filling ≡ None) }
+    requires noted { (w : Garbage) × (ws : List Garbage) × (seat.old.me.0.collected ≡ ws ++ w ∷ []) × (is_past w.age seat.old.me.0.known.reread ≡ true) × (w.slot ≡ slot) }
+    ensures seat { (seat.new.table_id ≡ seat.old.table_id) × (seat.new.id ≡ seat.old.id) }
+    ensures reclaimed { ReclaimsNoted seat.old.me slot (H.holds result) seat.new.me }
 {
-    open_noted(words, place);
-    take_whole(words, place, sizes, slot)
+    open_noted(words, seat);
+    take_whole(words, seat, sizes, slot)
 }

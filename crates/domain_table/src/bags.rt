@@ -14,7 +14,7 @@ ghost use Rattle.domain_table.specs.Ledgers.{WaitsIn, Rearranges};
 ghost use Rattle.domain_table.specs.Plays.{taken_all};
 ghost use Rattle.domain_table.specs.Views.{older_waits};
 
-use crate::board::{Place, Words};
+use crate::board::{Seat, Words};
 use crate::holding::Holding;
 use crate::links::{follow, load_link};
 use sdd_plain::sizes::Sizes;
@@ -29,17 +29,17 @@ pub struct Ends {
 /// Joins two bags that lie one behind the other: what is in `newer` comes behind all that is in `older`.
 fn join<T, H: Holding<T>>(
     words: &Words<T, H>,
-    place: &mut Place<T>,
+    seat: &mut Seat<T>,
     sizes: &Sizes,
     newer: Option<Ends>,
     older: Option<Ends>,
 ) -> Option<Ends>
-    requires table { FitsSizes words.now.table_id words.now.key.sizes place.old.table_id place.old.me.0.sizes sizes.now }
-    requires acts { (place.old.me.0.kind ≡ 1) × AllBelow sizes.now.slots place.old.me.0.waits }
-    requires bags { (fs : List Garbage) × (bs : List Garbage) × (rest : List Garbage) × (place.old.me.0.waits ≡ fs ++ (bs ++ rest)) × IsBag fs newer × IsBag bs older }
-    ensures seat { (place.new.table_id ≡ place.old.table_id) × (place.new.id ≡ place.old.id) }
-    ensures joined { (fs bs rest : List Garbage) → place.old.me.0.waits ≡ fs ++ (bs ++ rest) → IsBag fs newer → IsBag bs older
-        → (cs : List Garbage) × AreAlike bs cs × IsBag (fs ++ cs) result × (place.new.me ≡ (record place.old.me.0 { waits = fs ++ (cs ++ rest) }, place.old.me.1)) }
+    requires table { FitsSizes words.now.table_id words.now.key.sizes seat.old.table_id seat.old.me.0.sizes sizes.now }
+    requires acts { (seat.old.me.0.kind ≡ 1) × AllBelow sizes.now.slots seat.old.me.0.waits }
+    requires bags { (fs : List Garbage) × (bs : List Garbage) × (rest : List Garbage) × (seat.old.me.0.waits ≡ fs ++ (bs ++ rest)) × IsBag fs newer × IsBag bs older }
+    ensures seat { (seat.new.table_id ≡ seat.old.table_id) × (seat.new.id ≡ seat.old.id) }
+    ensures joined { (fs bs rest : List Garbage) → seat.old.me.0.waits ≡ fs ++ (bs ++ rest) → IsBag fs newer → IsBag bs older
+        → (cs : List Garbage) × AreAlike bs cs × IsBag (fs ++ cs) result × (seat.new.me ≡ (record seat.old.me.0 { waits = fs ++ (cs ++ rest) }, seat.old.me.1)) }
 {
     let Some(behind) = newer else {
         return older;
@@ -47,7 +47,7 @@ fn join<T, H: Holding<T>>(
     let Some(front) = older else {
         return newer;
     };
-    follow(words, place, sizes, front.last, behind.first);
+    follow(words, seat, sizes, front.last, behind.first);
     Some(Ends {
         first: front.first,
         last: behind.last,
@@ -57,21 +57,21 @@ fn join<T, H: Holding<T>>(
 /// Takes out of the bag what has been in it the longest, which is behind all else that waits. The item waits on.
 fn take_first<T, H: Holding<T>>(
     words: &Words<T, H>,
-    place: &mut Place<T>,
+    seat: &mut Seat<T>,
     sizes: &Sizes,
     bag: Option<Ends>,
 ) -> (Option<usize>, Option<Ends>)
-    requires table { FitsSizes words.now.table_id words.now.key.sizes place.old.table_id place.old.me.0.sizes sizes.now }
-    requires acts { (place.old.me.0.kind ≡ 1) × AllBelow sizes.now.slots place.old.me.0.waits }
-    requires bag { (ps : List Garbage) × (cs : List Garbage) × (place.old.me.0.waits ≡ ps ++ cs) × IsBag cs bag }
-    ensures seat { (place.new.table_id ≡ place.old.table_id) × (place.new.id ≡ place.old.id) × (place.new.me ≡ place.old.me) }
+    requires table { FitsSizes words.now.table_id words.now.key.sizes seat.old.table_id seat.old.me.0.sizes sizes.now }
+    requires acts { (seat.old.me.0.kind ≡ 1) × AllBelow sizes.now.slots seat.old.me.0.waits }
+    requires bag { (ps : List Garbage) × (cs : List Garbage) × (seat.old.me.0.waits ≡ ps ++ cs) × IsBag cs bag }
+    ensures seat { (seat.new.table_id ≡ seat.old.table_id) × (seat.new.id ≡ seat.old.id) × (seat.new.me ≡ seat.old.me) }
     ensures none { IfNone result.0 ((bag ≡ None) × (result.1 ≡ None)) }
-    ensures taken { IfSome result.0 (λ slot. (ps cs : List Garbage) → place.old.me.0.waits ≡ ps ++ cs → IsBag cs bag → (ds : List Garbage) × (w : Garbage) × (cs ≡ ds ++ w ∷ []) × (w.slot ≡ slot) × IsBag ds result.1) }
+    ensures taken { IfSome result.0 (λ slot. (ps cs : List Garbage) → seat.old.me.0.waits ≡ ps ++ cs → IsBag cs bag → (ds : List Garbage) × (w : Garbage) × (cs ≡ ds ++ w ∷ []) × (w.slot ≡ slot) × IsBag ds result.1) }
 {
     let Some(ends) = bag else {
         return (None, None);
     };
-    let found = load_link(words, place, sizes, ends.first);
+    let found = load_link(words, seat, sizes, ends.first);
     if ends.first == ends.last {
         return (Some(ends.first), None);
     }
@@ -111,40 +111,40 @@ impl Bags {
     pub fn retire<T, H: Holding<T>>(
         &mut self,
         words: &Words<T, H>,
-        place: &mut Place<T>,
+        seat: &mut Seat<T>,
         sizes: &Sizes,
         slot: usize,
     )
-        requires table { FitsSizes words.now.table_id words.now.key.sizes place.old.table_id place.old.me.0.sizes sizes.now × (slot < sizes.now.slots) }
-        requires acts { place.old.me.0.kind ≡ 1 }
-        requires retired { (w : Garbage) × (ws : List Garbage) × (place.old.me.0.waits ≡ w ∷ ws) × (w.slot ≡ slot) × (w.age ≡ 0) × WaitsIn sizes.now.slots ws self.old }
-        ensures seat { (place.new.table_id ≡ place.old.table_id) × (place.new.id ≡ place.old.id) }
-        ensures waits { Rearranges sizes.now.slots place.old.me self.new place.new.me }
-        ensures due { (self.new.due ≡ self.old.due) × (aged 3 place.new.me.0.waits ≡ aged 3 place.old.me.0.waits) }
+        requires table { FitsSizes words.now.table_id words.now.key.sizes seat.old.table_id seat.old.me.0.sizes sizes.now × (slot < sizes.now.slots) }
+        requires acts { seat.old.me.0.kind ≡ 1 }
+        requires retired { (w : Garbage) × (ws : List Garbage) × (seat.old.me.0.waits ≡ w ∷ ws) × (w.slot ≡ slot) × (w.age ≡ 0) × WaitsIn sizes.now.slots ws self.old }
+        ensures seat { (seat.new.table_id ≡ seat.old.table_id) × (seat.new.id ≡ seat.old.id) }
+        ensures waits { Rearranges sizes.now.slots seat.old.me self.new seat.new.me }
+        ensures due { (self.new.due ≡ self.old.due) × (aged 3 seat.new.me.0.waits ≡ aged 3 seat.old.me.0.waits) }
     {
         let alone = Ends {
             first: slot,
             last: slot,
         };
-        self.current = join(words, place, sizes, Some(alone), self.current);
+        self.current = join(words, seat, sizes, Some(alone), self.current);
     }
 
     /// What the participant has just taken over comes into the current bag, in its order.
     pub fn take_over<T, H: Holding<T>>(
         &mut self,
         words: &Words<T, H>,
-        place: &mut Place<T>,
+        seat: &mut Seat<T>,
         sizes: &Sizes,
         chain: Option<Ends>,
     )
-        requires table { FitsSizes words.now.table_id words.now.key.sizes place.old.table_id place.old.me.0.sizes sizes.now }
-        requires acts { place.old.me.0.kind ≡ 1 }
-        requires taken { (ts : List Garbage) × (ws : List Garbage) × (place.old.me.0.waits ≡ taken_all ts ws) × IsBag ts chain × AllBelow sizes.now.slots ts × WaitsIn sizes.now.slots ws self.old }
-        ensures seat { (place.new.table_id ≡ place.old.table_id) × (place.new.id ≡ place.old.id) }
-        ensures waits { Rearranges sizes.now.slots place.old.me self.new place.new.me }
+        requires table { FitsSizes words.now.table_id words.now.key.sizes seat.old.table_id seat.old.me.0.sizes sizes.now }
+        requires acts { seat.old.me.0.kind ≡ 1 }
+        requires taken { (ts : List Garbage) × (ws : List Garbage) × (seat.old.me.0.waits ≡ taken_all ts ws) × IsBag ts chain × AllBelow sizes.now.slots ts × WaitsIn sizes.now.slots ws self.old }
+        ensures seat { (seat.new.table_id ≡ seat.old.table_id) × (seat.new.id ≡ seat.old.id) }
+        ensures waits { Rearranges sizes.now.slots seat.old.me self.new seat.new.me }
         ensures due { self.new.due ≡ self.old.due }
     {
-        self.current = join(words, place, sizes, chain, self.current);
+        self.current = join(words, seat, sizes, chain, self.current);
     }
 
     /// Turns the bags by one, where nothing is due.
@@ -166,31 +166,29 @@ impl Bags {
         };
     }
 
-    /// Whether anything waits.
+    /// Whether anything waits, where nothing is due.
     pub fn has_some(&self) -> bool
+        requires { self.now.due ≡ None }
         ensures { (n : ℕ) (ws : List Garbage) → WaitsIn n ws self.now → result ≡ nat_lt 0 (length ws) }
     {
-        self.current.is_some()
-            || self.previous.is_some()
-            || self.next.is_some()
-            || self.due.is_some()
+        self.current.is_some() || self.previous.is_some() || self.next.is_some()
     }
 
     /// Takes out what has waited the longest, if it is due. It waits on, until it is reclaimed.
     pub fn take_due<T, H: Holding<T>>(
         &mut self,
         words: &Words<T, H>,
-        place: &mut Place<T>,
+        seat: &mut Seat<T>,
         sizes: &Sizes,
     ) -> Option<usize>
-        requires table { FitsSizes words.now.table_id words.now.key.sizes place.old.table_id place.old.me.0.sizes sizes.now }
-        requires acts { place.old.me.0.kind ≡ 1 }
-        requires waits { WaitsIn sizes.now.slots place.old.me.0.waits self.old }
-        ensures seat { (place.new.table_id ≡ place.old.table_id) × (place.new.id ≡ place.old.id) × (place.new.me ≡ place.old.me) }
-        ensures none { IfNone result (WaitsIn sizes.now.slots place.old.me.0.waits self.new × (self.new.due ≡ None)) }
-        ensures taken { IfSome result (λ slot. (vs : List Garbage) × (w : Garbage) × (place.old.me.0.waits ≡ vs ++ w ∷ []) × (w.slot ≡ slot) × (w.age ≡ 3) × WaitsIn sizes.now.slots vs self.new) }
+        requires table { FitsSizes words.now.table_id words.now.key.sizes seat.old.table_id seat.old.me.0.sizes sizes.now }
+        requires acts { seat.old.me.0.kind ≡ 1 }
+        requires waits { WaitsIn sizes.now.slots seat.old.me.0.waits self.old }
+        ensures seat { (seat.new.table_id ≡ seat.old.table_id) × (seat.new.id ≡ seat.old.id) × (seat.new.me ≡ seat.old.me) }
+        ensures none { IfNone result (WaitsIn sizes.now.slots seat.old.me.0.waits self.new × (self.new.due ≡ None)) }
+        ensures taken { IfSome result (λ slot. (vs : List Garbage) × (w : Garbage) × (seat.old.me.0.waits ≡ vs ++ w ∷ []) × (w.slot ≡ slot) × (w.age ≡ 3) × WaitsIn sizes.now.slots vs self.new) }
     {
-        let (slot, due) = take_first(words, place, sizes, self.due);
+        let (slot, due) = take_first(words, seat, sizes, self.due);
         self.due = due;
         slot
     }
@@ -199,16 +197,16 @@ impl Bags {
     pub fn joined<T, H: Holding<T>>(
         self,
         words: &Words<T, H>,
-        place: &mut Place<T>,
+        seat: &mut Seat<T>,
         sizes: &Sizes,
     ) -> Option<Ends>
-        requires table { FitsSizes words.now.table_id words.now.key.sizes place.old.table_id place.old.me.0.sizes sizes.now }
-        requires acts { place.old.me.0.kind ≡ 1 }
-        requires waits { WaitsIn sizes.now.slots place.old.me.0.waits self × (self.due ≡ None) }
-        ensures seat { (place.new.table_id ≡ place.old.table_id) × (place.new.id ≡ place.old.id) }
-        ensures joined { (ws : List Garbage) × IsBag ws result × AllBelow sizes.now.slots ws × (place.new.me ≡ (record place.old.me.0 { waits = ws }, place.old.me.1)) }
+        requires table { FitsSizes words.now.table_id words.now.key.sizes seat.old.table_id seat.old.me.0.sizes sizes.now }
+        requires acts { seat.old.me.0.kind ≡ 1 }
+        requires waits { WaitsIn sizes.now.slots seat.old.me.0.waits self × (self.due ≡ None) }
+        ensures seat { (seat.new.table_id ≡ seat.old.table_id) × (seat.new.id ≡ seat.old.id) }
+        ensures joined { (ws : List Garbage) × IsBag ws result × AllBelow sizes.now.slots ws × (seat.new.me ≡ (record seat.old.me.0 { waits = ws }, seat.old.me.1)) }
     {
-        let newer = join(words, place, sizes, self.current, self.previous);
-        join(words, place, sizes, newer, self.next)
+        let newer = join(words, seat, sizes, self.current, self.previous);
+        join(words, seat, sizes, newer, self.next)
     }
 }

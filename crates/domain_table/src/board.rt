@@ -1,7 +1,7 @@
 //! The table of words that the threads of a place share, its rule, and what a seat at it knows.
 
 use crate::holding::Holding;
-use atomic_table::{Seat, Shared, Table, TableRule};
+use atomic_table::{Shared, Table, TableRule};
 use parted::{Deed, Part};
 use sdd_homes::{Filling, Garbage, Lease, Owner};
 use sdd_plain::sizes::Sizes;
@@ -92,4 +92,4 @@ pub type Board<T, H> = Table<Home<T>, Acting, Plan, Rule<H>, Global>;
 pub type Words<T, H> = Shared<Home<T>, Acting, Plan, Rule<H>>;
 
 /// What one thread knows of it.
-pub type Place<T> = Seat<Home<T>, Acting>;
+pub type Seat<T> = atomic_table::Seat<Home<T>, Acting>;

@@ -11,7 +11,7 @@ ghost use Rattle.sdd_homes.specs.declared.Lease.{Lease};
 ghost use Rattle.domain_table.specs.declared.row.Row.{Row};
 ghost use Rattle.domain_table.specs.declared.board.Home.{Home};
 
-use crate::board::{Home, Place, Stored, Words};
+use crate::board::{Home, Seat, Stored, Words};
 use crate::holding::Holding;
 use crate::homes::let_go;
 use crate::row::Row;
@@ -64,25 +64,25 @@ pub fn seen_at<T>(rows: &VecDeque<Row<T>>, at: Option<usize>) -> Option<(usize, 
 /// Fills the homes of all leases, which are in front of what is out with the seat, and go behind the others.
 fn refill<T, H: Holding<T>>(
     words: &Words<T, H>,
-    place: &mut Place<T>,
+    seat: &mut Seat<T>,
     slots: usize,
     number: usize,
     rows: &mut VecDeque<Row<T>>,
     ended: &Ended,
 )
-    requires table { ActsAmong words.now.table_id place.old.table_id place.old.me.0 slots number }
-    requires rows { map row_told rows.old.items ≡ map (lease_told ended.now.id) place.old.me.0.leases }
-    requires out { place.old.me.1 ≡ blanks (leased_homes place.old.me.0 place.old.me.0.leases) ++ drop (length place.old.me.0.leases) place.old.me.1 }
-    ensures seat { (place.new.table_id ≡ place.old.table_id) × (place.new.id ≡ place.old.id) }
-    ensures filled { RefillsAll (IsIn H.holds) place.old.me place.new.me }
+    requires table { ActsAmong words.now.table_id seat.old.table_id seat.old.me.0 slots number }
+    requires rows { map row_told rows.old.items ≡ map (lease_told ended.now.id) seat.old.me.0.leases }
+    requires out { seat.old.me.1 ≡ blanks (leased_homes seat.old.me.0 seat.old.me.0.leases) ++ drop (length seat.old.me.0.leases) seat.old.me.1 }
+    ensures seat { (seat.new.table_id ≡ seat.old.table_id) × (seat.new.id ≡ seat.old.id) }
+    ensures filled { RefillsAll (IsIn H.holds) seat.old.me seat.new.me }
     ensures empty { (rows.new.items ≡ []) × (deque_capacity rows.new ≡ deque_capacity rows.old) }
 {
     while let Some(row) = rows.pop_front() {
         let home = number * slots + row.slot;
         let count = row.count;
         let parts = row.into_parts(ended);
-        let_go(words.exchange(place, home, Home::Part(parts, count)));
-        place.turn();
+        let_go(words.exchange(seat, home, Home::Part(parts, count)));
+        seat.turn();
     }
 }
 
@@ -91,43 +91,43 @@ fn refill<T, H: Holding<T>>(
 #[inline(never)]
 fn give_rows<T, H: Holding<T>>(
     words: &Words<T, H>,
-    place: &mut Place<T>,
+    seat: &mut Seat<T>,
     slots: usize,
     number: usize,
     rows: &mut VecDeque<Row<T>>,
     ended: &Ended,
 )
-    requires table { ActsAmong words.now.table_id place.old.table_id place.old.me.0 slots number }
-    requires rows { map row_told rows.old.items ≡ map (lease_told ended.now.id) place.old.me.0.leases }
-    requires out { (k : ℕ) × (place.old.me.1 ≡ blanks (k ∷ leased_homes place.old.me.0 place.old.me.0.leases)) }
-    ensures seat { (place.new.table_id ≡ place.old.table_id) × (place.new.id ≡ place.old.id) }
-    ensures filled { RefillsBehind (IsIn H.holds) place.old.me place.new.me }
+    requires table { ActsAmong words.now.table_id seat.old.table_id seat.old.me.0 slots number }
+    requires rows { map row_told rows.old.items ≡ map (lease_told ended.now.id) seat.old.me.0.leases }
+    requires out { (k : ℕ) × (seat.old.me.1 ≡ blanks (k ∷ leased_homes seat.old.me.0 seat.old.me.0.leases)) }
+    ensures seat { (seat.new.table_id ≡ seat.old.table_id) × (seat.new.id ≡ seat.old.id) }
+    ensures filled { RefillsBehind (IsIn H.holds) seat.old.me seat.new.me }
     ensures empty { (rows.new.items ≡ []) × (deque_capacity rows.new ≡ deque_capacity rows.old) }
 {
-    place.turn();
-    refill(words, place, slots, number, rows, ended);
-    place.turn();
+    seat.turn();
+    refill(words, seat, slots, number, rows, ended);
+    seat.turn();
 }
 
 /// The same, at once where nothing is leased, as mostly when guards close.
 #[inline(always)]
 pub fn give_home<T, H: Holding<T>>(
     words: &Words<T, H>,
-    place: &mut Place<T>,
+    seat: &mut Seat<T>,
     slots: usize,
     number: usize,
     rows: &mut VecDeque<Row<T>>,
     ended: &Ended,
 )
-    requires table { ActsAmong words.now.table_id place.old.table_id place.old.me.0 slots number }
-    requires rows { map row_told rows.old.items ≡ map (lease_told ended.now.id) place.old.me.0.leases }
-    requires out { (k : ℕ) × (place.old.me.1 ≡ blanks (k ∷ leased_homes place.old.me.0 place.old.me.0.leases)) }
-    ensures seat { (place.new.table_id ≡ place.old.table_id) × (place.new.id ≡ place.old.id) }
-    ensures filled { RefillsBehind (IsIn H.holds) place.old.me place.new.me }
+    requires table { ActsAmong words.now.table_id seat.old.table_id seat.old.me.0 slots number }
+    requires rows { map row_told rows.old.items ≡ map (lease_told ended.now.id) seat.old.me.0.leases }
+    requires out { (k : ℕ) × (seat.old.me.1 ≡ blanks (k ∷ leased_homes seat.old.me.0 seat.old.me.0.leases)) }
+    ensures seat { (seat.new.table_id ≡ seat.old.table_id) × (seat.new.id ≡ seat.old.id) }
+    ensures filled { RefillsBehind (IsIn H.holds) seat.old.me seat.new.me }
     ensures empty { (rows.new.items ≡ []) × (deque_capacity rows.new ≡ deque_capacity rows.old) }
 {
     if rows.is_empty() {
         return;
     }
-    give_rows(words, place, slots, number, rows, ended);
+    give_rows(words, seat, slots, number, rows, ended);
 }

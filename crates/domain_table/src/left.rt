@@ -20,7 +20,7 @@ ghost use Rattle.domain_table.specs.Plays.{taken_all, take_left_then, take_own_t
 ghost use Rattle.domain_table.specs.Views.{IsBare};
 
 use crate::bags::{Bags, Ends};
-use crate::board::{Acting, Home, Place, Words};
+use crate::board::{Acting, Home, Seat, Words};
 use crate::holding::Holding;
 use crate::steps::STRIDE;
 use atomic_table::Play;
@@ -79,69 +79,69 @@ fn bag_in(word: u64) -> Option<Ends>
 /// Takes over what participant `number` left, under the scan lock: it comes in front of what waits.
 fn take_left<T, H: Holding<T>>(
     words: &Words<T, H>,
-    place: &mut Place<T>,
+    seat: &mut Seat<T>,
     sizes: &Sizes,
     number: usize,
 ) -> Option<Ends>
-    requires table { FitsNumber words.now.table_id words.now.key.sizes place.old.table_id place.old.me.0.sizes sizes.now number }
-    requires ready { (place.old.me.0.kind ≡ 1) × (is_ready place.old.me.0.known ≡ true) }
-    requires locked { 0 < place.old.me.0.scan }
-    ensures seat { (place.new.table_id ≡ place.old.table_id) × (place.new.id ≡ place.old.id) }
-    ensures taken { (ws : List Garbage) × IsBag ws result × AllBelow sizes.now.slots ws × (place.new.me ≡ (record place.old.me.0 { waits = taken_all ws place.old.me.0.waits }, place.old.me.1)) }
+    requires table { FitsNumber words.now.table_id words.now.key.sizes seat.old.table_id seat.old.me.0.sizes sizes.now number }
+    requires ready { (seat.old.me.0.kind ≡ 1) × (is_ready seat.old.me.0.known ≡ true) }
+    requires locked { 0 < seat.old.me.0.scan }
+    ensures seat { (seat.new.table_id ≡ seat.old.table_id) × (seat.new.id ≡ seat.old.id) }
+    ensures taken { (ws : List Garbage) × IsBag ws result × AllBelow sizes.now.slots ws × (seat.new.me ≡ (record seat.old.me.0 { waits = taken_all ws seat.old.me.0.waits }, seat.old.me.1)) }
 {
-    bag_in(words.swap::<OnTakeLeft>(place, STRIDE * number + LEFT, 0))
+    bag_in(words.swap::<OnTakeLeft>(seat, STRIDE * number + LEFT, 0))
 }
 
 /// Takes back what the seat's own participant left when it ended before, if nobody has taken it over.
 fn take_own<T, H: Holding<T>>(
     words: &Words<T, H>,
-    place: &mut Place<T>,
+    seat: &mut Seat<T>,
     sizes: &Sizes,
     number: usize,
 ) -> Option<Ends>
-    requires table { FitsNumber words.now.table_id words.now.key.sizes place.old.table_id place.old.me.0.sizes sizes.now number }
-    requires ready { (place.old.me.0.kind ≡ 1) × (is_ready place.old.me.0.known ≡ true) × (place.old.me.0.number ≡ number) }
-    ensures seat { (place.new.table_id ≡ place.old.table_id) × (place.new.id ≡ place.old.id) }
-    ensures taken { (ws : List Garbage) × IsBag ws result × AllBelow sizes.now.slots ws × (place.new.me ≡ (record place.old.me.0 { waits = taken_all ws place.old.me.0.waits; left = 1 }, place.old.me.1)) }
+    requires table { FitsNumber words.now.table_id words.now.key.sizes seat.old.table_id seat.old.me.0.sizes sizes.now number }
+    requires ready { (seat.old.me.0.kind ≡ 1) × (is_ready seat.old.me.0.known ≡ true) × (seat.old.me.0.number ≡ number) }
+    ensures seat { (seat.new.table_id ≡ seat.old.table_id) × (seat.new.id ≡ seat.old.id) }
+    ensures taken { (ws : List Garbage) × IsBag ws result × AllBelow sizes.now.slots ws × (seat.new.me ≡ (record seat.old.me.0 { waits = taken_all ws seat.old.me.0.waits; left = 1 }, seat.old.me.1)) }
 {
-    bag_in(words.swap::<OnTakeOwn>(place, STRIDE * number + LEFT, 0))
+    bag_in(words.swap::<OnTakeOwn>(seat, STRIDE * number + LEFT, 0))
 }
 
 /// Tells by the left word of participant `number` what it leaves: all that it retired, which is in this bag.
 fn tell<T, H: Holding<T>>(
     words: &Words<T, H>,
-    place: &mut Place<T>,
+    seat: &mut Seat<T>,
     sizes: &Sizes,
     number: usize,
     bag: Option<Ends>,
 )
-    requires table { FitsNumber words.now.table_id words.now.key.sizes place.old.table_id place.old.me.0.sizes sizes.now number }
-    requires rests { (place.old.me.0.kind ≡ 1) × (place.old.me.0.number ≡ number) × (place.old.me.0.known.phase ≡ Idle) × (place.old.me.0.scan ≡ 0) × IsBare place.old.me.0 }
-    requires known { place.old.me.0.left ≡ 1 }
-    requires bag { IsBag place.old.me.0.waits bag × AllBelow sizes.now.slots place.old.me.0.waits }
-    ensures { (place.new.table_id ≡ place.old.table_id) × (place.new.id ≡ place.old.id) × (place.new.me ≡ (leaving place.old.me.0, place.old.me.1)) }
+    requires table { FitsNumber words.now.table_id words.now.key.sizes seat.old.table_id seat.old.me.0.sizes sizes.now number }
+    requires rests { (seat.old.me.0.kind ≡ 1) × (seat.old.me.0.number ≡ number) × (seat.old.me.0.known.phase ≡ Idle) × (seat.old.me.0.scan ≡ 0) × IsBare seat.old.me.0 }
+    requires known { seat.old.me.0.left ≡ 1 }
+    requires bag { IsBag seat.old.me.0.waits bag × AllBelow sizes.now.slots seat.old.me.0.waits }
+    ensures { (seat.new.table_id ≡ seat.old.table_id) × (seat.new.id ≡ seat.old.id) × (seat.new.me ≡ (leaving seat.old.me.0, seat.old.me.1)) }
 {
-    words.store::<OnLeave>(place, STRIDE * number + LEFT, word_of(bag));
+    words.store::<OnLeave>(seat, STRIDE * number + LEFT, word_of(bag));
 }
 
 /// Leaves what the participant retired and didn't reclaim, with what it left before.
 pub fn leave<T, H: Holding<T>>(
     words: &Words<T, H>,
-    place: &mut Place<T>,
+    seat: &mut Seat<T>,
     sizes: &Sizes,
     number: usize,
     bags: Bags,
 )
-    requires table { FitsNumber words.now.table_id words.now.key.sizes place.old.table_id place.old.me.0.sizes sizes.now number }
-    requires rests { (place.old.me.0.kind ≡ 1) × (place.old.me.0.number ≡ number) × (place.old.me.0.known.phase ≡ Idle) × (place.old.me.0.scan ≡ 0) × IsBare place.old.me.0 }
-    requires waits { WaitsIn sizes.now.slots place.old.me.0.waits bags × (bags.due ≡ None) }
-    ensures { (place.new.table_id ≡ place.old.table_id) × (place.new.id ≡ place.old.id) × (place.new.me ≡ (leaving place.old.me.0, place.old.me.1)) }
+    requires table { FitsNumber words.now.table_id words.now.key.sizes seat.old.table_id seat.old.me.0.sizes sizes.now number }
+    requires rests { (seat.old.me.0.kind ≡ 1) × (seat.old.me.0.number ≡ number) × (seat.old.me.0.known.phase ≡ Idle) × (seat.old.me.0.scan ≡ 0) × IsBare seat.old.me.0 }
+    requires waits { WaitsIn sizes.now.slots seat.old.me.0.waits bags × (bags.due ≡ None) }
+    ensures { (seat.new.table_id ≡ seat.old.table_id) × (seat.new.id ≡ seat.old.id) × (seat.new.me ≡ (leaving seat.old.me.0, seat.old.me.1)) }
 {
     let mut bags = bags;
-    let before = take_own(words, place, sizes, number);
-    bags.take_over(words, place, sizes, before);
-    let bag = bags.joined(words, place, sizes);
-    tell(words, place, sizes, number, bag);
+    let before = take_own(words, seat, sizes, number);
+    bags.take_over(words, seat, sizes, before);
+    let bag = bags.joined(words, seat, sizes);
+    tell(words, seat, sizes, number, bag);
 }
 
 /// Whose left words were read, for contracts. Only `has_left` adds to it.
@@ -162,42 +162,42 @@ fn has_left<T, H: Holding<T>>(words: &Words<T, H>, number: usize, looks: &mut Lo
 /// Takes over what participant `number` left, if it left something, under the scan lock: it comes into the current bag.
 fn take_if_left<T, H: Holding<T>>(
     words: &Words<T, H>,
-    place: &mut Place<T>,
+    seat: &mut Seat<T>,
     sizes: &Sizes,
     bags: &mut Bags,
     number: usize,
     looks: &mut Looks,
 )
-    requires table { FitsNumber words.now.table_id words.now.key.sizes place.old.table_id place.old.me.0.sizes sizes.now number }
-    requires ready { (place.old.me.0.kind ≡ 1) × (is_ready place.old.me.0.known ≡ true) }
-    requires locked { 0 < place.old.me.0.scan }
-    requires waits { WaitsIn sizes.now.slots place.old.me.0.waits bags.old }
-    ensures seat { (place.new.table_id ≡ place.old.table_id) × (place.new.id ≡ place.old.id) }
-    ensures taken { (ws : List Garbage) × WaitsIn sizes.now.slots ws bags.new × (place.new.me ≡ (record place.old.me.0 { waits = ws }, place.old.me.1)) }
+    requires table { FitsNumber words.now.table_id words.now.key.sizes seat.old.table_id seat.old.me.0.sizes sizes.now number }
+    requires ready { (seat.old.me.0.kind ≡ 1) × (is_ready seat.old.me.0.known ≡ true) }
+    requires locked { 0 < seat.old.me.0.scan }
+    requires waits { WaitsIn sizes.now.slots seat.old.me.0.waits bags.old }
+    ensures seat { (seat.new.table_id ≡ seat.old.table_id) × (seat.new.id ≡ seat.old.id) }
+    ensures taken { (ws : List Garbage) × WaitsIn sizes.now.slots ws bags.new × (seat.new.me ≡ (record seat.old.me.0 { waits = ws }, seat.old.me.1)) }
     ensures due { bags.new.due ≡ bags.old.due }
     ensures looked { looks.new.numbers.items ≡ looks.old.numbers.items ++ number ∷ [] }
 {
     if !has_left(words, number, looks) {
         return;
     }
-    let chain = take_left(words, place, sizes, number);
-    bags.take_over(words, place, sizes, chain);
+    let chain = take_left(words, seat, sizes, number);
+    bags.take_over(words, seat, sizes, chain);
 }
 
 /// Takes over all that ended participants left, under the scan lock: it comes into the current bag. Each participant's left
 /// word is read.
 pub(crate) fn take_all_left<T, H: Holding<T>>(
     words: &Words<T, H>,
-    place: &mut Place<T>,
+    seat: &mut Seat<T>,
     sizes: &Sizes,
     bags: &mut Bags,
 ) -> Looks
-    requires table { FitsSizes words.now.table_id words.now.key.sizes place.old.table_id place.old.me.0.sizes sizes.now }
-    requires ready { (place.old.me.0.kind ≡ 1) × (is_ready place.old.me.0.known ≡ true) }
-    requires locked { 0 < place.old.me.0.scan }
-    requires waits { WaitsIn sizes.now.slots place.old.me.0.waits bags.old }
-    ensures seat { (place.new.table_id ≡ place.old.table_id) × (place.new.id ≡ place.old.id) }
-    ensures taken { (ws : List Garbage) × WaitsIn sizes.now.slots ws bags.new × (place.new.me ≡ (record place.old.me.0 { waits = ws }, place.old.me.1)) }
+    requires table { FitsSizes words.now.table_id words.now.key.sizes seat.old.table_id seat.old.me.0.sizes sizes.now }
+    requires ready { (seat.old.me.0.kind ≡ 1) × (is_ready seat.old.me.0.known ≡ true) }
+    requires locked { 0 < seat.old.me.0.scan }
+    requires waits { WaitsIn sizes.now.slots seat.old.me.0.waits bags.old }
+    ensures seat { (seat.new.table_id ≡ seat.old.table_id) × (seat.new.id ≡ seat.old.id) }
+    ensures taken { (ws : List Garbage) × WaitsIn sizes.now.slots ws bags.new × (seat.new.me ≡ (record seat.old.me.0 { waits = ws }, seat.old.me.1)) }
     ensures due { bags.new.due ≡ bags.old.due }
     ensures looked { HasLookedAtAll sizes.now.participants result }
 {
@@ -205,7 +205,7 @@ pub(crate) fn take_all_left<T, H: Holding<T>>(
         numbers: GhostList::new(),
     };
     for number in 0..sizes.participants {
-        take_if_left(words, place, sizes, bags, number, &mut looks);
+        take_if_left(words, seat, sizes, bags, number, &mut looks);
     }
     looks
 }

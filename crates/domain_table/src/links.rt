@@ -9,7 +9,7 @@ ghost use Rattle.domain_table.specs.Layout.{all_words, IsSized};
 ghost use Rattle.domain_table.specs.Plays.{SlotsApart, TellsLink, load_link_then, follow_then};
 ghost use Rattle.sdd_homes.specs.declared.Garbage.{Garbage};
 
-use crate::board::{Acting, Home, Place, Words};
+use crate::board::{Acting, Home, Seat, Words};
 use crate::holding::Holding;
 use atomic_table::Play;
 use sdd_plain::sizes::Sizes;
@@ -29,18 +29,18 @@ impl<T> Play<Home<T>, Acting> for OnLoadLink {
 /// What follows what is in `slot`, if a bag of the participant holds that, and it is known.
 pub fn load_link<T, H: Holding<T>>(
     words: &Words<T, H>,
-    place: &mut Place<T>,
+    seat: &mut Seat<T>,
     sizes: &Sizes,
     slot: usize,
 ) -> u64
-    requires table { (place.old.table_id ≡ words.now.table_id) × (words.now.key.sizes ≡ sizes.now) × (place.old.me.0.sizes ≡ sizes.now) × IsSized sizes.now × (all_words sizes.now ≤ words.now.table_id.words) × (slot < sizes.now.slots) }
-    requires acts { place.old.me.0.kind ≡ 1 }
-    ensures seat { (place.new.table_id ≡ place.old.table_id) × (place.new.id ≡ place.old.id) × (place.new.me ≡ place.old.me) }
-    ensures apart { SlotsApart place.old.me.0.waits × SlotsApart place.old.me.0.collected }
-    ensures told { TellsLink place.old.me.0 slot result }
+    requires table { (seat.old.table_id ≡ words.now.table_id) × (words.now.key.sizes ≡ sizes.now) × (seat.old.me.0.sizes ≡ sizes.now) × IsSized sizes.now × (all_words sizes.now ≤ words.now.table_id.words) × (slot < sizes.now.slots) }
+    requires acts { seat.old.me.0.kind ≡ 1 }
+    ensures seat { (seat.new.table_id ≡ seat.old.table_id) × (seat.new.id ≡ seat.old.id) × (seat.new.me ≡ seat.old.me) }
+    ensures apart { SlotsApart seat.old.me.0.waits × SlotsApart seat.old.me.0.collected }
+    ensures told { TellsLink seat.old.me.0 slot result }
 {
     words.load::<OnLoadLink>(
-        place,
+        seat,
         8 * sizes.participants + 16 + sizes.cells + sizes.slots + slot,
     )
 }
@@ -48,19 +48,19 @@ pub fn load_link<T, H: Holding<T>>(
 /// What came into the bag last, in slot `next`, follows what came before it, in `slot`.
 pub fn follow<T, H: Holding<T>>(
     words: &Words<T, H>,
-    place: &mut Place<T>,
+    seat: &mut Seat<T>,
     sizes: &Sizes,
     slot: usize,
     next: usize,
 )
-    requires table { (place.old.table_id ≡ words.now.table_id) × (words.now.key.sizes ≡ sizes.now) × (place.old.me.0.sizes ≡ sizes.now) × IsSized sizes.now × (all_words sizes.now ≤ words.now.table_id.words) × (slot < sizes.now.slots) }
-    requires acts { (place.old.me.0.kind ≡ 1) × (next < 2 ^ 30) }
-    requires held { (xs : List Garbage) × (w : Garbage) × (v : Garbage) × (ys : List Garbage) × (place.old.me.0.waits ≡ xs ++ (w ∷ v ∷ ys)) × (w.slot ≡ next) × (v.slot ≡ slot) }
-    ensures seat { (place.new.table_id ≡ place.old.table_id) × (place.new.id ≡ place.old.id) }
-    ensures followed { (xs : List Garbage) (w v : Garbage) (ys : List Garbage) → place.old.me.0.waits ≡ xs ++ (w ∷ v ∷ ys) → w.slot ≡ next → v.slot ≡ slot → place.new.me ≡ (record place.old.me.0 { waits = xs ++ (w ∷ record v { next = w.slot + 1 } ∷ ys) }, place.old.me.1) }
+    requires table { (seat.old.table_id ≡ words.now.table_id) × (words.now.key.sizes ≡ sizes.now) × (seat.old.me.0.sizes ≡ sizes.now) × IsSized sizes.now × (all_words sizes.now ≤ words.now.table_id.words) × (slot < sizes.now.slots) }
+    requires acts { (seat.old.me.0.kind ≡ 1) × (next < 2 ^ 30) }
+    requires held { (xs : List Garbage) × (w : Garbage) × (v : Garbage) × (ys : List Garbage) × (seat.old.me.0.waits ≡ xs ++ (w ∷ v ∷ ys)) × (w.slot ≡ next) × (v.slot ≡ slot) }
+    ensures seat { (seat.new.table_id ≡ seat.old.table_id) × (seat.new.id ≡ seat.old.id) }
+    ensures followed { (xs : List Garbage) (w v : Garbage) (ys : List Garbage) → seat.old.me.0.waits ≡ xs ++ (w ∷ v ∷ ys) → w.slot ≡ next → v.slot ≡ slot → seat.new.me ≡ (record seat.old.me.0 { waits = xs ++ (w ∷ record v { next = w.slot + 1 } ∷ ys) }, seat.old.me.1) }
 {
     words.store::<OnFollow>(
-        place,
+        seat,
         8 * sizes.participants + 16 + sizes.cells + sizes.slots + slot,
         next as u64 + 1,
     );

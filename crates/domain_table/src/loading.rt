@@ -16,7 +16,7 @@ ghost use Rattle.domain_table.specs.declared.board.Home.{Home};
 ghost use Rattle.domain_table.specs.declared.row.Row.{Row};
 ghost use Rattle.sdd_plain.specs.Epochs.{tag_number};
 
-use crate::board::{Home, Place, Words};
+use crate::board::{Home, Seat, Words};
 use crate::cells;
 use crate::holding::Holding;
 use crate::homes::parts_of;
@@ -46,30 +46,30 @@ pub fn slot_named(word: u64) -> Option<usize>
 /// step that loaded it. Which row that is.
 fn note_slot<T, H: Holding<T>>(
     words: &Words<T, H>,
-    place: &mut Place<T>,
+    seat: &mut Seat<T>,
     sizes: &Sizes,
     number: usize,
     rows: &mut VecDeque<Row<T>>,
     life: &Life,
     slot: usize,
 ) -> usize
-    requires table { (place.old.table_id ≡ words.now.table_id) × IsSized sizes.now × (number < sizes.now.participants) }
+    requires table { (seat.old.table_id ≡ words.now.table_id) × IsSized sizes.now × (number < sizes.now.participants) }
     requires low { slot < 2 ^ 31 }
     requires rows { (all_below sizes.now.slots (row_slots rows.old.items) ≡ true) × (sizes.now.slots ≤ deque_capacity rows.old) }
-    requires found { WasLeased H.holds slot number sizes.now life.now.id rows.old.items place.old.me }
-    ensures seat { (place.new.table_id ≡ place.old.table_id) × (place.new.id ≡ place.old.id) }
-    ensures view { place.new.me.0 ≡ place.old.me.0 }
+    requires found { WasLeased H.holds slot number sizes.now life.now.id rows.old.items seat.old.me }
+    ensures seat { (seat.new.table_id ≡ seat.old.table_id) × (seat.new.id ≡ seat.old.id) }
+    ensures view { seat.new.me.0 ≡ seat.old.me.0 }
     ensures row { result < deque_len rows.new }
     ensures slot { (d : Row T) → (slice_index_or rows.new.items result d).slot ≡ slot }
-    ensures noted { (m : Me (Home T) Acting) → HasLeasedAt (IsIn H.holds) m slot place.old.me → map row_told rows.old.items ≡ map (lease_told life.now.id) m.0.leases → HasNoted m place.new.me }
-    ensures rows { KeepsRows life.now.id sizes.now.slots place.new.me.0.leases rows.new.items (deque_capacity rows.old) (deque_capacity rows.new) }
+    ensures noted { (m : Me (Home T) Acting) → HasLeasedAt (IsIn H.holds) m slot seat.old.me → map row_told rows.old.items ≡ map (lease_told life.now.id) m.0.leases → HasNoted m seat.new.me }
+    ensures rows { KeepsRows life.now.id sizes.now.slots seat.new.me.0.leases rows.new.items (deque_capacity rows.old) (deque_capacity rows.new) }
 {
     if let Some(at) = row_of(rows, slot) {
         return at;
     }
     let home = number * sizes.slots + slot;
-    let (parts, count) = parts_of::<T, H>(words.exchange(place, home, Home::Blank));
-    place.turn();
+    let (parts, count) = parts_of::<T, H>(words.exchange(seat, home, Home::Blank));
+    seat.turn();
     rows.push_back_reserved(Row::new(slot, parts, count, life));
     rows.len() - 1
 }
@@ -77,49 +77,49 @@ fn note_slot<T, H: Holding<T>>(
 /// The same of the item that `word`, as it was found in a cell, names, if it names one.
 pub fn note_found<T, H: Holding<T>>(
     words: &Words<T, H>,
-    place: &mut Place<T>,
+    seat: &mut Seat<T>,
     sizes: &Sizes,
     number: usize,
     rows: &mut VecDeque<Row<T>>,
     life: &Life,
     word: u64,
 ) -> Option<usize>
-    requires table { (place.old.table_id ≡ words.now.table_id) × IsSized sizes.now × (number < sizes.now.participants) }
+    requires table { (seat.old.table_id ≡ words.now.table_id) × IsSized sizes.now × (number < sizes.now.participants) }
     requires rows { (all_below sizes.now.slots (row_slots rows.old.items) ≡ true) × (sizes.now.slots ≤ deque_capacity rows.old) }
-    requires found { WasLoaded H.holds word number sizes.now life.now.id rows.old.items place.old.me }
-    ensures seat { (place.new.table_id ≡ place.old.table_id) × (place.new.id ≡ place.old.id) }
+    requires found { WasLoaded H.holds word number sizes.now life.now.id rows.old.items seat.old.me }
+    ensures seat { (seat.new.table_id ≡ seat.old.table_id) × (seat.new.id ≡ seat.old.id) }
     ensures row { IfSome result (λ at. at < deque_len rows.new) }
     ensures code { (y t c : ℕ) → y < 2 ^ 31 → t < 4 → word ≡ packed y t c → HasCode rows.new.items result c }
-    ensures noted { (m : Me (Home T) Acting) → HasLoaded (IsIn H.holds) m word place.old.me → map row_told rows.old.items ≡ map (lease_told life.now.id) m.0.leases → HasNoted m place.new.me }
-    ensures rows { KeepsRows life.now.id sizes.now.slots place.new.me.0.leases rows.new.items (deque_capacity rows.old) (deque_capacity rows.new) }
+    ensures noted { (m : Me (Home T) Acting) → HasLoaded (IsIn H.holds) m word seat.old.me → map row_told rows.old.items ≡ map (lease_told life.now.id) m.0.leases → HasNoted m seat.new.me }
+    ensures rows { KeepsRows life.now.id sizes.now.slots seat.new.me.0.leases rows.new.items (deque_capacity rows.old) (deque_capacity rows.new) }
 {
     let slot = slot_named(word)?;
-    Some(note_slot(words, place, sizes, number, rows, life, slot))
+    Some(note_slot(words, seat, sizes, number, rows, life, slot))
 }
 
 /// Loads the cell under the open guards of participant `number`, whose life this is. Which row is that of the item that
 /// it names, if it names one, and the tag that was found with it.
 pub fn lease<T, H: Holding<T>>(
     words: &Words<T, H>,
-    place: &mut Place<T>,
+    seat: &mut Seat<T>,
     sizes: &Sizes,
     number: usize,
     rows: &mut VecDeque<Row<T>>,
     life: &Life,
     cell: usize,
 ) -> (Option<usize>, Tag)
-    requires table { FitsSizes words.now.table_id words.now.key.sizes place.old.table_id place.old.me.0.sizes sizes.now × (number < sizes.now.participants) × (cell < sizes.now.cells) }
-    requires open { (place.old.me.0.kind ≡ 1) × (place.old.me.0.number ≡ number) × (is_inside place.old.me.0.known ≡ true) }
-    requires rows { HasRows life.now.id sizes.now.slots place.old.me.0.leases rows.old.items (deque_capacity rows.old) }
-    requires out { (k : ℕ) × (has_all is_blank (k ∷ leased_homes place.old.me.0 place.old.me.0.leases) place.old.me.1 ≡ true) }
-    ensures seat { (place.new.table_id ≡ place.old.table_id) × (place.new.id ≡ place.old.id) }
+    requires table { FitsSizes words.now.table_id words.now.key.sizes seat.old.table_id seat.old.me.0.sizes sizes.now × (number < sizes.now.participants) × (cell < sizes.now.cells) }
+    requires open { (seat.old.me.0.kind ≡ 1) × (seat.old.me.0.number ≡ number) × (is_inside seat.old.me.0.known ≡ true) }
+    requires rows { HasRows life.now.id sizes.now.slots seat.old.me.0.leases rows.old.items (deque_capacity rows.old) }
+    requires out { (k : ℕ) × (has_all is_blank (k ∷ leased_homes seat.old.me.0 seat.old.me.0.leases) seat.old.me.1 ≡ true) }
+    ensures seat { (seat.new.table_id ≡ seat.old.table_id) × (seat.new.id ≡ seat.old.id) }
     ensures row { IfSome result.0 (λ at. at < deque_len rows.new) }
-    ensures loaded { (w : ℕ) × HasLeased (with_step (cell_word sizes.now cell) w w place.old.me) place.new.me × IsFoundAs w (tag_number result.1) rows.new.items result.0 }
-    ensures rows { KeepsRows life.now.id sizes.now.slots place.new.me.0.leases rows.new.items (deque_capacity rows.old) (deque_capacity rows.new) }
-    ensures out { KeepsOut place.old.me place.new.me }
+    ensures loaded { (w : ℕ) × HasLeased (with_step (cell_word sizes.now cell) w w seat.old.me) seat.new.me × IsFoundAs w (tag_number result.1) rows.new.items result.0 }
+    ensures rows { KeepsRows life.now.id sizes.now.slots seat.new.me.0.leases rows.new.items (deque_capacity rows.old) (deque_capacity rows.new) }
+    ensures out { KeepsOut seat.old.me seat.new.me }
 {
-    let word = cells::load(words, place, sizes.participants, cell);
-    let at = note_found(words, place, sizes, number, rows, life, word);
+    let word = cells::load(words, seat, sizes.participants, cell);
+    let at = note_found(words, seat, sizes, number, rows, life, word);
     (at, tag_in(word))
 }
 
@@ -127,24 +127,24 @@ pub fn lease<T, H: Holding<T>>(
 /// in hand. Which row is that of the item: its parts are of the owner's round.
 pub fn lease_own<T, H: Holding<T>>(
     words: &Words<T, H>,
-    place: &mut Place<T>,
+    seat: &mut Seat<T>,
     sizes: &Sizes,
     number: usize,
     rows: &mut VecDeque<Row<T>>,
     life: &Life,
     slot: usize,
 ) -> usize
-    requires table { FitsSizes words.now.table_id words.now.key.sizes place.old.table_id place.old.me.0.sizes sizes.now × (number < sizes.now.participants) }
-    requires open { (place.old.me.0.kind ≡ 1) × (place.old.me.0.number ≡ number) × (is_inside place.old.me.0.known ≡ true) }
-    requires owner { (o : Owner) × (os : List Owner) × (place.old.me.0.hand ≡ o ∷ os) × (o.slot ≡ slot) × (slot < 2 ^ 31) }
-    requires rows { HasRows life.now.id sizes.now.slots place.old.me.0.leases rows.old.items (deque_capacity rows.old) }
-    ensures seat { (place.new.table_id ≡ place.old.table_id) × (place.new.id ≡ place.old.id) }
+    requires table { FitsSizes words.now.table_id words.now.key.sizes seat.old.table_id seat.old.me.0.sizes sizes.now × (number < sizes.now.participants) }
+    requires open { (seat.old.me.0.kind ≡ 1) × (seat.old.me.0.number ≡ number) × (is_inside seat.old.me.0.known ≡ true) }
+    requires owner { (o : Owner) × (os : List Owner) × (seat.old.me.0.hand ≡ o ∷ os) × (o.slot ≡ slot) × (slot < 2 ^ 31) }
+    requires rows { HasRows life.now.id sizes.now.slots seat.old.me.0.leases rows.old.items (deque_capacity rows.old) }
+    ensures seat { (seat.new.table_id ≡ seat.old.table_id) × (seat.new.id ≡ seat.old.id) }
     ensures row { result < deque_len rows.new }
-    ensures round { (o : Owner) (os : List Owner) → place.old.me.0.hand ≡ o ∷ os → (d : Row T) → (slice_index_or rows.new.items result d).lent.pledge.id ≡ o.round }
-    ensures loaded { HasLeased place.old.me place.new.me }
-    ensures rows { KeepsRows life.now.id sizes.now.slots place.new.me.0.leases rows.new.items (deque_capacity rows.old) (deque_capacity rows.new) }
-    ensures out { KeepsOut place.old.me place.new.me }
+    ensures round { (o : Owner) (os : List Owner) → seat.old.me.0.hand ≡ o ∷ os → (d : Row T) → (slice_index_or rows.new.items result d).lent.pledge.id ≡ o.round }
+    ensures loaded { HasLeased seat.old.me seat.new.me }
+    ensures rows { KeepsRows life.now.id sizes.now.slots seat.new.me.0.leases rows.new.items (deque_capacity rows.old) (deque_capacity rows.new) }
+    ensures out { KeepsOut seat.old.me seat.new.me }
 {
-    cells::load_own(words, place);
-    note_slot(words, place, sizes, number, rows, life, slot)
+    cells::load_own(words, seat);
+    note_slot(words, seat, sizes, number, rows, life, slot)
 }

@@ -17,7 +17,7 @@ ghost use Rattle.domain_table.specs.Plays.{others_in, first_in, joined_by, cloni
 ghost use Rattle.domain_table.specs.declared.board.Home.{Home};
 
 use crate::aim::Aim;
-use crate::board::{Acting, Home, Place, Stored, Words};
+use crate::board::{Acting, Home, Seat, Stored, Words};
 use crate::cells;
 use crate::holding::Holding;
 use crate::homes::{let_go, parts_of};
@@ -48,79 +48,79 @@ impl Join<Acting> for Coming {
 }
 
 /// Gives the first owner in hand a seat of its own.
-pub fn part_with<T, H: Holding<T>>(words: &Words<T, H>, place: &mut Place<T>) -> Calm<Acting>
-    requires table { (place.old.table_id ≡ words.now.table_id) × (0 < words.now.table_id.words) }
-    requires ready { (place.old.me.0.kind ≡ 1) × (place.old.me.0.releasing ≡ 0) }
-    requires owner { (o : Owner) × (os : List Owner) × (place.old.me.0.hand ≡ o ∷ os) }
-    ensures seat { (place.new.table_id ≡ place.old.table_id) × (place.new.id ≡ place.old.id) × (place.new.me ≡ (others_in place.old.me.0, place.old.me.1)) }
-    ensures owner { (result.badge.table_id ≡ place.old.table_id) × (result.badge.views ≡ first_in place.old.me.0 ∷ []) }
+pub fn part_with<T, H: Holding<T>>(words: &Words<T, H>, seat: &mut Seat<T>) -> Calm<Acting>
+    requires table { (seat.old.table_id ≡ words.now.table_id) × (0 < words.now.table_id.words) }
+    requires ready { (seat.old.me.0.kind ≡ 1) × (seat.old.me.0.releasing ≡ 0) }
+    requires owner { (o : Owner) × (os : List Owner) × (seat.old.me.0.hand ≡ o ∷ os) }
+    ensures seat { (seat.new.table_id ≡ seat.old.table_id) × (seat.new.id ≡ seat.old.id) × (seat.new.me ≡ (others_in seat.old.me.0, seat.old.me.1)) }
+    ensures owner { (result.badge.table_id ≡ seat.old.table_id) × (result.badge.views ≡ first_in seat.old.me.0 ∷ []) }
 {
-    Calm::new(words.split_seat::<Parting>(place).into_badge())
+    Calm::new(words.split_seat::<Parting>(seat).into_badge())
 }
 
 /// Takes the owner of a seat into the hand.
-pub fn take_in<T, H: Holding<T>>(words: &Words<T, H>, place: &mut Place<T>, owner: Calm<Acting>)
-    requires table { (place.old.table_id ≡ words.now.table_id) × (owner.badge.table_id ≡ words.now.table_id) × (0 < words.now.table_id.words) }
-    requires ready { place.old.me.0.kind ≡ 1 }
+pub fn take_in<T, H: Holding<T>>(words: &Words<T, H>, seat: &mut Seat<T>, owner: Calm<Acting>)
+    requires table { (seat.old.table_id ≡ words.now.table_id) × (owner.badge.table_id ≡ words.now.table_id) × (0 < words.now.table_id.words) }
+    requires ready { seat.old.me.0.kind ≡ 1 }
     requires owner { (o : Owner) × (owner.badge.views ≡ holding o ∷ []) }
-    ensures seat { (place.new.table_id ≡ place.old.table_id) × (place.new.id ≡ place.old.id) }
-    ensures taken { (o : Owner) → owner.badge.views ≡ holding o ∷ [] → place.new.me ≡ (record place.old.me.0 { hand = o ∷ place.old.me.0.hand }, place.old.me.1) }
+    ensures seat { (seat.new.table_id ≡ seat.old.table_id) × (seat.new.id ≡ seat.old.id) }
+    ensures taken { (o : Owner) → owner.badge.views ≡ holding o ∷ [] → seat.new.me ≡ (record seat.old.me.0 { hand = o ∷ seat.old.me.0.hand }, seat.old.me.1) }
 {
-    words.join_seat::<Coming>(place, owner.into_badge().into_seat());
+    words.join_seat::<Coming>(seat, owner.into_badge().into_seat());
 }
 
 /// Releases the owner that is in hand, whose item is in `slot` and isn't leased: its part is joined to those of
 /// participant `number`. Answers how many owners are left; with the last one the item goes where `A` tells.
 pub fn release_home<T, H: Holding<T>, A: Aim>(
     words: &Words<T, H>,
-    place: &mut Place<T>,
+    seat: &mut Seat<T>,
     sizes: &Sizes,
     number: usize,
     slot: usize,
     owner: One<Stored<T>>,
 ) -> u64
-    requires table { FitsSizes words.now.table_id words.now.key.sizes place.old.table_id place.old.me.0.sizes sizes.now × (number < sizes.now.participants) }
-    requires ready { (place.old.me.0.kind ≡ 1) × (place.old.me.0.number ≡ number) × (is_ready place.old.me.0.known ≡ true) × (place.old.me.0.releasing ≡ 0) }
-    requires may { MayNote (A.to place.old.me.0.known) place.old.me.0.known }
-    requires owner { IsFirst place.old.me.0 slot owner.part.life.id × IsSome owner.part.seen.value }
-    requires free { ¬ Lends place.old.me.0.leases slot }
-    ensures seat { (place.new.table_id ≡ place.old.table_id) × (place.new.id ≡ place.old.id) }
+    requires table { FitsSizes words.now.table_id words.now.key.sizes seat.old.table_id seat.old.me.0.sizes sizes.now × (number < sizes.now.participants) }
+    requires ready { (seat.old.me.0.kind ≡ 1) × (seat.old.me.0.number ≡ number) × (is_ready seat.old.me.0.known ≡ true) × (seat.old.me.0.releasing ≡ 0) }
+    requires may { MayNote (A.to seat.old.me.0.known) seat.old.me.0.known }
+    requires owner { IsFirst seat.old.me.0 slot owner.part.life.id × IsSome owner.part.seen.value }
+    requires free { ¬ Lends seat.old.me.0.leases slot }
+    ensures seat { (seat.new.table_id ≡ seat.old.table_id) × (seat.new.id ≡ seat.old.id) }
     ensures low { slot < sizes.now.slots }
-    ensures bag_room { length place.old.me.0.collected < sizes.now.slots }
-    ensures released { HasReleased A.to slot result place.old.me place.old.me.0.leases place.new.me }
+    ensures bag_room { length seat.old.me.0.collected < sizes.now.slots }
+    ensures released { HasReleased A.to slot result seat.old.me seat.old.me.0.leases seat.new.me }
 {
-    cells::begin_release(words, place);
+    cells::begin_release(words, seat);
     let home = number * sizes.slots + slot;
-    let (mut own, count) = parts_of::<T, H>(words.exchange(place, home, Home::Blank));
+    let (mut own, count) = parts_of::<T, H>(words.exchange(seat, home, Home::Blank));
     own.join(owner.into_part());
-    let_go(words.exchange(place, home, Home::Part(own, count + 1)));
-    cells::end_release::<T, H, A>(words, place, sizes.participants, sizes.cells, slot)
+    let_go(words.exchange(seat, home, Home::Part(own, count + 1)));
+    cells::end_release::<T, H, A>(words, seat, sizes.participants, sizes.cells, slot)
 }
 
 /// The same where the item is leased: the owner's part goes to those of its row, which is `at`.
 fn release_leased<T, H: Holding<T>, A: Aim>(
     words: &Words<T, H>,
-    place: &mut Place<T>,
+    seat: &mut Seat<T>,
     sizes: &Sizes,
     rows: &mut VecDeque<Row<T>>,
     at: usize,
     slot: usize,
     owner: One<Stored<T>>,
 ) -> u64
-    requires table { FitsSizes words.now.table_id words.now.key.sizes place.old.table_id place.old.me.0.sizes sizes.now }
-    requires ready { (place.old.me.0.kind ≡ 1) × (is_ready place.old.me.0.known ≡ true) × (place.old.me.0.releasing ≡ 0) }
-    requires may { MayNote (A.to place.old.me.0.known) place.old.me.0.known }
-    requires owner { IsFirst place.old.me.0 slot owner.part.life.id × IsSome owner.part.seen.value }
-    requires rows { ((life : ℕ) × (map row_told rows.old.items ≡ map (lease_told life) place.old.me.0.leases)) × (all_below sizes.now.slots (row_slots rows.old.items) ≡ true) }
+    requires table { FitsSizes words.now.table_id words.now.key.sizes seat.old.table_id seat.old.me.0.sizes sizes.now }
+    requires ready { (seat.old.me.0.kind ≡ 1) × (is_ready seat.old.me.0.known ≡ true) × (seat.old.me.0.releasing ≡ 0) }
+    requires may { MayNote (A.to seat.old.me.0.known) seat.old.me.0.known }
+    requires owner { IsFirst seat.old.me.0 slot owner.part.life.id × IsSome owner.part.seen.value }
+    requires rows { ((life : ℕ) × (map row_told rows.old.items ≡ map (lease_told life) seat.old.me.0.leases)) × (all_below sizes.now.slots (row_slots rows.old.items) ≡ true) }
     requires row { (at < deque_len rows.old) × ((d : Row T) → (slice_index_or rows.old.items at d).slot ≡ slot) }
-    ensures seat { (place.new.table_id ≡ place.old.table_id) × (place.new.id ≡ place.old.id) }
+    ensures seat { (seat.new.table_id ≡ seat.old.table_id) × (seat.new.id ≡ seat.old.id) }
     ensures low { slot < sizes.now.slots }
-    ensures bag_room { length place.old.me.0.collected < sizes.now.slots }
-    ensures released { (ls : List Lease) × (map (λ (l : Lease). l.slot) ls ≡ map (λ (l : Lease). l.slot) place.old.me.0.leases) × HasReleased A.to slot result place.old.me ls place.new.me }
-    ensures rows { (life : ℕ) → map row_told rows.old.items ≡ map (lease_told life) place.old.me.0.leases → map row_told rows.new.items ≡ map (lease_told life) place.new.me.0.leases }
+    ensures bag_room { length seat.old.me.0.collected < sizes.now.slots }
+    ensures released { (ls : List Lease) × (map (λ (l : Lease). l.slot) ls ≡ map (λ (l : Lease). l.slot) seat.old.me.0.leases) × HasReleased A.to slot result seat.old.me ls seat.new.me }
+    ensures rows { (life : ℕ) → map row_told rows.old.items ≡ map (lease_told life) seat.old.me.0.leases → map row_told rows.new.items ≡ map (lease_told life) seat.new.me.0.leases }
     ensures same { (deque_capacity rows.new ≡ deque_capacity rows.old) × (row_slots rows.new.items ≡ row_slots rows.old.items) }
 {
-    let left = cells::release_owner::<T, H, A>(words, place, sizes.participants, sizes.cells, slot);
+    let left = cells::release_owner::<T, H, A>(words, seat, sizes.participants, sizes.cells, slot);
     match rows.get_mut(at) {
         Some(row) => row.take_in(owner),
         None => unreachable!(),
@@ -132,28 +132,28 @@ fn release_leased<T, H: Holding<T>, A: Aim>(
 /// Answers how many owners are left; with the last one the item goes where `A` tells.
 pub fn release<T, H: Holding<T>, A: Aim>(
     words: &Words<T, H>,
-    place: &mut Place<T>,
+    seat: &mut Seat<T>,
     sizes: &Sizes,
     number: usize,
     rows: &mut VecDeque<Row<T>>,
     slot: usize,
     owner: One<Stored<T>>,
 ) -> u64
-    requires table { FitsSizes words.now.table_id words.now.key.sizes place.old.table_id place.old.me.0.sizes sizes.now × (number < sizes.now.participants) }
-    requires ready { (place.old.me.0.kind ≡ 1) × (place.old.me.0.number ≡ number) × (is_ready place.old.me.0.known ≡ true) × (place.old.me.0.releasing ≡ 0) }
-    requires may { MayNote (A.to place.old.me.0.known) place.old.me.0.known }
-    requires owner { IsFirst place.old.me.0 slot owner.part.life.id × IsSome owner.part.seen.value }
-    requires rows { ((life : ℕ) × (map row_told rows.old.items ≡ map (lease_told life) place.old.me.0.leases)) × (all_below sizes.now.slots (row_slots rows.old.items) ≡ true) }
-    ensures seat { (place.new.table_id ≡ place.old.table_id) × (place.new.id ≡ place.old.id) }
+    requires table { FitsSizes words.now.table_id words.now.key.sizes seat.old.table_id seat.old.me.0.sizes sizes.now × (number < sizes.now.participants) }
+    requires ready { (seat.old.me.0.kind ≡ 1) × (seat.old.me.0.number ≡ number) × (is_ready seat.old.me.0.known ≡ true) × (seat.old.me.0.releasing ≡ 0) }
+    requires may { MayNote (A.to seat.old.me.0.known) seat.old.me.0.known }
+    requires owner { IsFirst seat.old.me.0 slot owner.part.life.id × IsSome owner.part.seen.value }
+    requires rows { ((life : ℕ) × (map row_told rows.old.items ≡ map (lease_told life) seat.old.me.0.leases)) × (all_below sizes.now.slots (row_slots rows.old.items) ≡ true) }
+    ensures seat { (seat.new.table_id ≡ seat.old.table_id) × (seat.new.id ≡ seat.old.id) }
     ensures low { slot < sizes.now.slots }
-    ensures bag_room { length place.old.me.0.collected < sizes.now.slots }
-    ensures released { (ls : List Lease) × (map (λ (l : Lease). l.slot) ls ≡ map (λ (l : Lease). l.slot) place.old.me.0.leases) × HasReleased A.to slot result place.old.me ls place.new.me }
-    ensures rows { (life : ℕ) → map row_told rows.old.items ≡ map (lease_told life) place.old.me.0.leases → map row_told rows.new.items ≡ map (lease_told life) place.new.me.0.leases }
+    ensures bag_room { length seat.old.me.0.collected < sizes.now.slots }
+    ensures released { (ls : List Lease) × (map (λ (l : Lease). l.slot) ls ≡ map (λ (l : Lease). l.slot) seat.old.me.0.leases) × HasReleased A.to slot result seat.old.me ls seat.new.me }
+    ensures rows { (life : ℕ) → map row_told rows.old.items ≡ map (lease_told life) seat.old.me.0.leases → map row_told rows.new.items ≡ map (lease_told life) seat.new.me.0.leases }
     ensures same { (deque_capacity rows.new ≡ deque_capacity rows.old) × (row_slots rows.new.items ≡ row_slots rows.old.items) }
 {
     match row_of(rows, slot) {
-        Some(at) => release_leased::<T, H, A>(words, place, sizes, rows, at, slot, owner),
-        None => release_home::<T, H, A>(words, place, sizes, number, slot, owner),
+        Some(at) => release_leased::<T, H, A>(words, seat, sizes, rows, at, slot, owner),
+        None => release_home::<T, H, A>(words, seat, sizes, number, slot, owner),
     }
 }
 
@@ -162,19 +162,19 @@ pub fn release<T, H: Holding<T>, A: Aim>(
 /// others were faster.
 fn raise_owners<T, H: Holding<T>>(
     words: &Words<T, H>,
-    place: &mut Place<T>,
+    seat: &mut Seat<T>,
     sizes: &Sizes,
     slot: usize,
     parts: u64,
 ) -> bool
-    requires table { FitsSizes words.now.table_id words.now.key.sizes place.old.table_id place.old.me.0.sizes sizes.now × (slot < sizes.now.slots) }
-    requires ready { (place.old.me.0.kind ≡ 1) × (is_ready place.old.me.0.known ≡ true) }
-    requires leased { (l : Lease) × Has place.old.me.0.leases l × (l.slot ≡ slot) × (l.count ≡ parts) }
-    ensures seat { (place.new.table_id ≡ place.old.table_id) × (place.new.id ≡ place.old.id) }
+    requires table { FitsSizes words.now.table_id words.now.key.sizes seat.old.table_id seat.old.me.0.sizes sizes.now × (slot < sizes.now.slots) }
+    requires ready { (seat.old.me.0.kind ≡ 1) × (is_ready seat.old.me.0.known ≡ true) }
+    requires leased { (l : Lease) × Has seat.old.me.0.leases l × (l.slot ≡ slot) × (l.count ≡ parts) }
+    ensures seat { (seat.new.table_id ≡ seat.old.table_id) × (seat.new.id ≡ seat.old.id) }
     ensures many { IsTrue result → 1 < parts }
-    ensures raised { IsTrue result → (l : Lease) → Has place.old.me.0.leases l → l.slot ≡ slot → place.new.me ≡ (cloning l place.old.me.0, place.old.me.1) }
-    ensures refused { IsFalse result → place.new.me ≡ place.old.me }
-    ensures alike { IsTrue result → (l : Lease) → Has place.old.me.0.leases l → l.slot ≡ slot → Apart place.old.me.0.leases × IsAlike l place.old.me.0 }
+    ensures raised { IsTrue result → (l : Lease) → Has seat.old.me.0.leases l → l.slot ≡ slot → seat.new.me ≡ (cloning l seat.old.me.0, seat.old.me.1) }
+    ensures refused { IsFalse result → seat.new.me ≡ seat.old.me }
+    ensures alike { IsTrue result → (l : Lease) → Has seat.old.me.0.leases l → l.slot ≡ slot → Apart seat.old.me.0.leases × IsAlike l seat.old.me.0 }
 {
     if parts < 2 {
         return false;
@@ -184,14 +184,7 @@ fn raise_owners<T, H: Holding<T>>(
         if word <= 2 || word > 1 << 32 {
             return false;
         }
-        if cells::clone_owner(
-            words,
-            place,
-            sizes.participants,
-            sizes.cells,
-            slot,
-            word - 2,
-        ) {
+        if cells::clone_owner(words, seat, sizes.participants, sizes.cells, slot, word - 2) {
             return true;
         }
     }
@@ -200,48 +193,43 @@ fn raise_owners<T, H: Holding<T>>(
 
 /// Gives the home back that `begin_release` took out and that was emptied since, with these parts. The owners in hand
 /// stay.
-fn put_back<T, H: Holding<T>>(
-    words: &Words<T, H>,
-    place: &mut Place<T>,
-    home: usize,
-    parts: Home<T>,
-)
-    requires table { (place.old.table_id ≡ words.now.table_id) × (0 < words.now.table_id.words) × (place.old.me.0.kind ≡ 1) }
-    requires out { (l : Lease) × (ls : List Lease) × (tail : List (ℕ × Home T)) × HasEmptied place.old.me home l ls tail × IsIn H.holds (part l.round l.count) parts }
-    ensures seat { (place.new.table_id ≡ place.old.table_id) × (place.new.id ≡ place.old.id) }
-    ensures kept { PutsBack (IsIn H.holds) place.old.me home parts place.new.me }
+fn put_back<T, H: Holding<T>>(words: &Words<T, H>, seat: &mut Seat<T>, home: usize, parts: Home<T>)
+    requires table { (seat.old.table_id ≡ words.now.table_id) × (0 < words.now.table_id.words) × (seat.old.me.0.kind ≡ 1) }
+    requires out { (l : Lease) × (ls : List Lease) × (tail : List (ℕ × Home T)) × HasEmptied seat.old.me home l ls tail × IsIn H.holds (part l.round l.count) parts }
+    ensures seat { (seat.new.table_id ≡ seat.old.table_id) × (seat.new.id ≡ seat.old.id) }
+    ensures kept { PutsBack (IsIn H.holds) seat.old.me home parts seat.new.me }
 {
-    let_go(words.exchange(place, home, parts));
-    cells::keep_home(words, place);
+    let_go(words.exchange(seat, home, parts));
+    cells::keep_home(words, seat);
 }
 
 /// Makes one more owner of the item of the first owner in hand, which is in `slot` and isn't leased, with one of the
 /// parts of participant `number`: that part is the answer, and both owners are in hand then.
 fn clone_home<T, H: Holding<T>>(
     words: &Words<T, H>,
-    place: &mut Place<T>,
+    seat: &mut Seat<T>,
     sizes: &Sizes,
     number: usize,
     slot: usize,
 ) -> Option<One<Stored<T>>>
-    requires table { FitsSizes words.now.table_id words.now.key.sizes place.old.table_id place.old.me.0.sizes sizes.now × (number < sizes.now.participants) }
-    requires ready { (place.old.me.0.kind ≡ 1) × (place.old.me.0.number ≡ number) × (is_ready place.old.me.0.known ≡ true) × (place.old.me.0.releasing ≡ 0) }
-    requires owner { (o : Owner) × (os : List Owner) × (place.old.me.0.hand ≡ o ∷ os) × (o.slot ≡ slot) }
-    requires free { ¬ Lends place.old.me.0.leases slot }
-    ensures seat { (place.new.table_id ≡ place.old.table_id) × (place.new.id ≡ place.old.id) }
-    ensures cloned { IfSome result (λ p. HasClonedOne place.old.me p.part.life.id place.new.me) }
-    ensures refused { IfNone result (place.new.me ≡ place.old.me) }
-    ensures leases { place.new.me.0.leases ≡ place.old.me.0.leases }
+    requires table { FitsSizes words.now.table_id words.now.key.sizes seat.old.table_id seat.old.me.0.sizes sizes.now × (number < sizes.now.participants) }
+    requires ready { (seat.old.me.0.kind ≡ 1) × (seat.old.me.0.number ≡ number) × (is_ready seat.old.me.0.known ≡ true) × (seat.old.me.0.releasing ≡ 0) }
+    requires owner { (o : Owner) × (os : List Owner) × (seat.old.me.0.hand ≡ o ∷ os) × (o.slot ≡ slot) }
+    requires free { ¬ Lends seat.old.me.0.leases slot }
+    ensures seat { (seat.new.table_id ≡ seat.old.table_id) × (seat.new.id ≡ seat.old.id) }
+    ensures cloned { IfSome result (λ p. HasClonedOne seat.old.me p.part.life.id seat.new.me) }
+    ensures refused { IfNone result (seat.new.me ≡ seat.old.me) }
+    ensures leases { seat.new.me.0.leases ≡ seat.old.me.0.leases }
 {
-    cells::begin_release(words, place);
+    cells::begin_release(words, seat);
     let home = number * sizes.slots + slot;
-    let (mut own, count) = parts_of::<T, H>(words.exchange(place, home, Home::Blank));
-    if raise_owners(words, place, sizes, slot, count) {
+    let (mut own, count) = parts_of::<T, H>(words.exchange(seat, home, Home::Blank));
+    if raise_owners(words, seat, sizes, slot, count) {
         let one = own.split_one();
-        put_back(words, place, home, Home::Part(own, count - 1));
+        put_back(words, seat, home, Home::Part(own, count - 1));
         return Some(One::from_part(one));
     }
-    put_back(words, place, home, Home::Part(own, count));
+    put_back(words, seat, home, Home::Part(own, count));
     None
 }
 
@@ -249,25 +237,25 @@ fn clone_home<T, H: Holding<T>>(
 /// the answer, and the owner is first in hand then.
 fn own_at<T, H: Holding<T>>(
     words: &Words<T, H>,
-    place: &mut Place<T>,
+    seat: &mut Seat<T>,
     sizes: &Sizes,
     rows: &mut VecDeque<Row<T>>,
     at: usize,
     slot: usize,
 ) -> Option<One<Stored<T>>>
-    requires table { FitsSizes words.now.table_id words.now.key.sizes place.old.table_id place.old.me.0.sizes sizes.now }
-    requires ready { (place.old.me.0.kind ≡ 1) × (is_ready place.old.me.0.known ≡ true) }
-    requires rows { ((life : ℕ) × (map row_told rows.old.items ≡ map (lease_told life) place.old.me.0.leases)) × (all_below sizes.now.slots (row_slots rows.old.items) ≡ true) }
+    requires table { FitsSizes words.now.table_id words.now.key.sizes seat.old.table_id seat.old.me.0.sizes sizes.now }
+    requires ready { (seat.old.me.0.kind ≡ 1) × (is_ready seat.old.me.0.known ≡ true) }
+    requires rows { ((life : ℕ) × (map row_told rows.old.items ≡ map (lease_told life) seat.old.me.0.leases)) × (all_below sizes.now.slots (row_slots rows.old.items) ≡ true) }
     requires row { (at < deque_len rows.old) × ((d : Row T) → (slice_index_or rows.old.items at d).slot ≡ slot) }
-    ensures seat { (place.new.table_id ≡ place.old.table_id) × (place.new.id ≡ place.old.id) }
-    ensures owned { IfSome result (λ p. HasOwned slot p.part.life.id place.old.me place.new.me) }
+    ensures seat { (seat.new.table_id ≡ seat.old.table_id) × (seat.new.id ≡ seat.old.id) }
+    ensures owned { IfSome result (λ p. HasOwned slot p.part.life.id seat.old.me seat.new.me) }
     ensures there { IfSome result (λ p. IsSome p.part.seen.value × (slot < sizes.now.slots)) }
-    ensures refused { IfNone result (place.new.me ≡ place.old.me) }
-    ensures rows { (life : ℕ) → map row_told rows.old.items ≡ map (lease_told life) place.old.me.0.leases → map row_told rows.new.items ≡ map (lease_told life) place.new.me.0.leases }
+    ensures refused { IfNone result (seat.new.me ≡ seat.old.me) }
+    ensures rows { (life : ℕ) → map row_told rows.old.items ≡ map (lease_told life) seat.old.me.0.leases → map row_told rows.new.items ≡ map (lease_told life) seat.new.me.0.leases }
     ensures same { (deque_capacity rows.new ≡ deque_capacity rows.old) × (row_slots rows.new.items ≡ row_slots rows.old.items) }
 {
     let parts = rows[at].count;
-    if !raise_owners(words, place, sizes, slot, parts) {
+    if !raise_owners(words, seat, sizes, slot, parts) {
         return None;
     }
     match rows.get_mut(at) {
@@ -279,47 +267,47 @@ fn own_at<T, H: Holding<T>>(
 /// The same of any slot: none, too, where no item is leased in it.
 pub fn own_leased<T, H: Holding<T>>(
     words: &Words<T, H>,
-    place: &mut Place<T>,
+    seat: &mut Seat<T>,
     sizes: &Sizes,
     rows: &mut VecDeque<Row<T>>,
     slot: usize,
 ) -> Option<One<Stored<T>>>
-    requires table { FitsSizes words.now.table_id words.now.key.sizes place.old.table_id place.old.me.0.sizes sizes.now }
-    requires ready { (place.old.me.0.kind ≡ 1) × (is_ready place.old.me.0.known ≡ true) }
-    requires rows { ((life : ℕ) × (map row_told rows.old.items ≡ map (lease_told life) place.old.me.0.leases)) × (all_below sizes.now.slots (row_slots rows.old.items) ≡ true) }
-    ensures seat { (place.new.table_id ≡ place.old.table_id) × (place.new.id ≡ place.old.id) }
-    ensures owned { IfSome result (λ p. HasOwned slot p.part.life.id place.old.me place.new.me) }
+    requires table { FitsSizes words.now.table_id words.now.key.sizes seat.old.table_id seat.old.me.0.sizes sizes.now }
+    requires ready { (seat.old.me.0.kind ≡ 1) × (is_ready seat.old.me.0.known ≡ true) }
+    requires rows { ((life : ℕ) × (map row_told rows.old.items ≡ map (lease_told life) seat.old.me.0.leases)) × (all_below sizes.now.slots (row_slots rows.old.items) ≡ true) }
+    ensures seat { (seat.new.table_id ≡ seat.old.table_id) × (seat.new.id ≡ seat.old.id) }
+    ensures owned { IfSome result (λ p. HasOwned slot p.part.life.id seat.old.me seat.new.me) }
     ensures there { IfSome result (λ p. IsSome p.part.seen.value × (slot < sizes.now.slots)) }
-    ensures refused { IfNone result (place.new.me ≡ place.old.me) }
-    ensures rows { (life : ℕ) → map row_told rows.old.items ≡ map (lease_told life) place.old.me.0.leases → map row_told rows.new.items ≡ map (lease_told life) place.new.me.0.leases }
+    ensures refused { IfNone result (seat.new.me ≡ seat.old.me) }
+    ensures rows { (life : ℕ) → map row_told rows.old.items ≡ map (lease_told life) seat.old.me.0.leases → map row_told rows.new.items ≡ map (lease_told life) seat.new.me.0.leases }
     ensures same { (deque_capacity rows.new ≡ deque_capacity rows.old) × (row_slots rows.new.items ≡ row_slots rows.old.items) }
 {
-    own_at(words, place, sizes, rows, row_of(rows, slot)?, slot)
+    own_at(words, seat, sizes, rows, row_of(rows, slot)?, slot)
 }
 
 /// Makes one more owner of the item of the first owner in hand, which is in `slot`, with one of the parts of participant
 /// `number`: that part is the answer, and both owners are in hand then.
 fn clone_by_row<T, H: Holding<T>>(
     words: &Words<T, H>,
-    place: &mut Place<T>,
+    seat: &mut Seat<T>,
     sizes: &Sizes,
     number: usize,
     rows: &mut VecDeque<Row<T>>,
     slot: usize,
 ) -> Option<One<Stored<T>>>
-    requires table { FitsSizes words.now.table_id words.now.key.sizes place.old.table_id place.old.me.0.sizes sizes.now × (number < sizes.now.participants) }
-    requires ready { (place.old.me.0.kind ≡ 1) × (place.old.me.0.number ≡ number) × (is_ready place.old.me.0.known ≡ true) × (place.old.me.0.releasing ≡ 0) }
-    requires owner { (o : Owner) × (os : List Owner) × (place.old.me.0.hand ≡ o ∷ os) × (o.slot ≡ slot) }
-    requires rows { ((life : ℕ) × (map row_told rows.old.items ≡ map (lease_told life) place.old.me.0.leases)) × (all_below sizes.now.slots (row_slots rows.old.items) ≡ true) }
-    ensures seat { (place.new.table_id ≡ place.old.table_id) × (place.new.id ≡ place.old.id) }
-    ensures cloned { IfSome result (λ p. HasClonedOne place.old.me p.part.life.id place.new.me) }
-    ensures refused { IfNone result (place.new.me ≡ place.old.me) }
-    ensures rows { (life : ℕ) → map row_told rows.old.items ≡ map (lease_told life) place.old.me.0.leases → map row_told rows.new.items ≡ map (lease_told life) place.new.me.0.leases }
+    requires table { FitsSizes words.now.table_id words.now.key.sizes seat.old.table_id seat.old.me.0.sizes sizes.now × (number < sizes.now.participants) }
+    requires ready { (seat.old.me.0.kind ≡ 1) × (seat.old.me.0.number ≡ number) × (is_ready seat.old.me.0.known ≡ true) × (seat.old.me.0.releasing ≡ 0) }
+    requires owner { (o : Owner) × (os : List Owner) × (seat.old.me.0.hand ≡ o ∷ os) × (o.slot ≡ slot) }
+    requires rows { ((life : ℕ) × (map row_told rows.old.items ≡ map (lease_told life) seat.old.me.0.leases)) × (all_below sizes.now.slots (row_slots rows.old.items) ≡ true) }
+    ensures seat { (seat.new.table_id ≡ seat.old.table_id) × (seat.new.id ≡ seat.old.id) }
+    ensures cloned { IfSome result (λ p. HasClonedOne seat.old.me p.part.life.id seat.new.me) }
+    ensures refused { IfNone result (seat.new.me ≡ seat.old.me) }
+    ensures rows { (life : ℕ) → map row_told rows.old.items ≡ map (lease_told life) seat.old.me.0.leases → map row_told rows.new.items ≡ map (lease_told life) seat.new.me.0.leases }
     ensures same { (deque_capacity rows.new ≡ deque_capacity rows.old) × (row_slots rows.new.items ≡ row_slots rows.old.items) }
 {
     match row_of(rows, slot) {
-        Some(at) => own_at(words, place, sizes, rows, at, slot),
-        None => clone_home(words, place, sizes, number, slot),
+        Some(at) => own_at(words, seat, sizes, rows, at, slot),
+        None => clone_home(words, seat, sizes, number, slot),
     }
 }
 
@@ -327,26 +315,26 @@ fn clone_by_row<T, H: Holding<T>>(
 /// `number`: that part is the answer, and both owners are in hand then. A refusal is a miss.
 pub fn clone<T, H: Holding<T>>(
     words: &Words<T, H>,
-    place: &mut Place<T>,
+    seat: &mut Seat<T>,
     sizes: &Sizes,
     number: usize,
     rows: &mut VecDeque<Row<T>>,
     slot: usize,
     misses: &mut Tally,
 ) -> Option<One<Stored<T>>>
-    requires table { FitsSizes words.now.table_id words.now.key.sizes place.old.table_id place.old.me.0.sizes sizes.now × (number < sizes.now.participants) }
-    requires ready { (place.old.me.0.kind ≡ 1) × (place.old.me.0.number ≡ number) × (is_ready place.old.me.0.known ≡ true) × (place.old.me.0.releasing ≡ 0) }
-    requires owner { (o : Owner) × (os : List Owner) × (place.old.me.0.hand ≡ o ∷ os) × (o.slot ≡ slot) }
-    requires rows { ((life : ℕ) × (map row_told rows.old.items ≡ map (lease_told life) place.old.me.0.leases)) × (all_below sizes.now.slots (row_slots rows.old.items) ≡ true) }
-    ensures seat { (place.new.table_id ≡ place.old.table_id) × (place.new.id ≡ place.old.id) }
-    ensures cloned { IfSome result (λ p. HasClonedOne place.old.me p.part.life.id place.new.me) }
-    ensures refused { IfNone result (place.new.me ≡ place.old.me) }
-    ensures rows { (life : ℕ) → map row_told rows.old.items ≡ map (lease_told life) place.old.me.0.leases → map row_told rows.new.items ≡ map (lease_told life) place.new.me.0.leases }
+    requires table { FitsSizes words.now.table_id words.now.key.sizes seat.old.table_id seat.old.me.0.sizes sizes.now × (number < sizes.now.participants) }
+    requires ready { (seat.old.me.0.kind ≡ 1) × (seat.old.me.0.number ≡ number) × (is_ready seat.old.me.0.known ≡ true) × (seat.old.me.0.releasing ≡ 0) }
+    requires owner { (o : Owner) × (os : List Owner) × (seat.old.me.0.hand ≡ o ∷ os) × (o.slot ≡ slot) }
+    requires rows { ((life : ℕ) × (map row_told rows.old.items ≡ map (lease_told life) seat.old.me.0.leases)) × (all_below sizes.now.slots (row_slots rows.old.items) ≡ true) }
+    ensures seat { (seat.new.table_id ≡ seat.old.table_id) × (seat.new.id ≡ seat.old.id) }
+    ensures cloned { IfSome result (λ p. HasClonedOne seat.old.me p.part.life.id seat.new.me) }
+    ensures refused { IfNone result (seat.new.me ≡ seat.old.me) }
+    ensures rows { (life : ℕ) → map row_told rows.old.items ≡ map (lease_told life) seat.old.me.0.leases → map row_told rows.new.items ≡ map (lease_told life) seat.new.me.0.leases }
     ensures same { (deque_capacity rows.new ≡ deque_capacity rows.old) × (row_slots rows.new.items ≡ row_slots rows.old.items) }
     ensures hit { IfSome result (λ p. misses.new.count ≡ misses.old.count) }
     ensures missed { IfNone result (misses.new.count ≡ misses.old.count + 1) }
 {
-    match clone_by_row(words, place, sizes, number, rows, slot) {
+    match clone_by_row(words, seat, sizes, number, rows, slot) {
         Some(more) => Some(more),
         None => {
             misses.raise();

@@ -11,7 +11,7 @@ ghost use Rattle.domain_table.specs.Contents.{IsIn};
 ghost use Rattle.domain_table.specs.Owners.{told};
 ghost use Rattle.domain_table.specs.Plays.{HasClaimed, IsJustClaimed, filling_at, next_filled, placing};
 
-use crate::board::{Home, Place, Stored, Words};
+use crate::board::{Home, Seat, Stored, Words};
 use crate::holding::Holding;
 use crate::homes::{let_go, room_of};
 use crate::slots;
@@ -33,73 +33,73 @@ fn share_of(participants: u64) -> u64
 #[inline(always)]
 fn fill_home<T, H: Holding<T>>(
     words: &Words<T, H>,
-    place: &mut Place<T>,
+    seat: &mut Seat<T>,
     sizes: &Sizes,
     slot: usize,
     at: usize,
     all: &mut Part<Stored<T>>,
     count: u64,
 )
-    requires table { FitsTaken words.now.table_id place.old.table_id place.old.me.0 sizes.now slot }
-    requires filling { FillsAt place.old.me at sizes.now.participants all.old.life.count all.old.life.id }
+    requires table { FitsTaken words.now.table_id seat.old.table_id seat.old.me.0 sizes.now slot }
+    requires filling { FillsAt seat.old.me at sizes.now.participants all.old.life.count all.old.life.id }
     requires parts { (0 < count) × (count < all.old.life.count) × (all.old.life.count ≤ 2 ^ 63) × IsSome all.old.seen.value }
-    ensures seat { (place.new.table_id ≡ place.old.table_id) × (place.new.id ≡ place.old.id) }
-    ensures filled { (f : Filling) → place.old.me.0.filling ≡ Some f → place.new.me ≡ (filling_at slot (next_filled place.old.me.0 all.old.life.id count f) place.old.me.0, place.old.me.1) }
+    ensures seat { (seat.new.table_id ≡ seat.old.table_id) × (seat.new.id ≡ seat.old.id) }
+    ensures filled { (f : Filling) → seat.old.me.0.filling ≡ Some f → seat.new.me ≡ (filling_at slot (next_filled seat.old.me.0 all.old.life.id count f) seat.old.me.0, seat.old.me.1) }
     ensures rest { (all.new.seen ≡ all.old.seen) × (all.new.life ≡ record all.old.life { count = all.old.life.count - count }) }
 {
-    slots::take_next(words, place);
+    slots::take_next(words, seat);
     let part = all.split(count);
-    let_go(words.exchange(place, at * sizes.slots + slot, Home::Part(part, count)));
-    slots::give_next(words, place);
+    let_go(words.exchange(seat, at * sizes.slots + slot, Home::Part(part, count)));
+    slots::give_next(words, seat);
 }
 
 /// Fills the homes of all participants of the slot that was claimed. One part stays in hand. The last participant gets what
 /// the others leave, so that one division is enough.
 fn fill_homes<T, H: Holding<T>>(
     words: &Words<T, H>,
-    place: &mut Place<T>,
+    seat: &mut Seat<T>,
     sizes: &Sizes,
     slot: usize,
     all: &mut Part<Stored<T>>,
 )
-    requires table { FitsTaken words.now.table_id place.old.table_id place.old.me.0 sizes.now slot }
-    requires filling { (f : Filling) × (place.old.me.0.filling ≡ Some f) × (f.filled ≡ 0) × (f.out ≡ sizes.now.participants) × (f.left ≡ 2 ^ 63) }
+    requires table { FitsTaken words.now.table_id seat.old.table_id seat.old.me.0 sizes.now slot }
+    requires filling { (f : Filling) × (seat.old.me.0.filling ≡ Some f) × (f.filled ≡ 0) × (f.out ≡ sizes.now.participants) × (f.left ≡ 2 ^ 63) }
     requires parts { (all.old.life.count ≡ 2 ^ 63) × IsSome all.old.seen.value }
-    ensures seat { (place.new.table_id ≡ place.old.table_id) × (place.new.id ≡ place.old.id) }
-    ensures filled { FillsAll place.old.me slot sizes.now.participants all.old.life.id place.new.me }
+    ensures seat { (seat.new.table_id ≡ seat.old.table_id) × (seat.new.id ≡ seat.old.id) }
+    ensures filled { FillsAll seat.old.me slot sizes.now.participants all.old.life.id seat.new.me }
     ensures rest { (all.new.seen ≡ all.old.seen) × (all.new.life ≡ record all.old.life { count = 1 }) }
 {
     let each = share_of(sizes.participants as u64);
     let last = sizes.participants - 1;
     let mut left = 1 << 63;
     for at in 0..last {
-        fill_home(words, place, sizes, slot, at, all, each);
+        fill_home(words, seat, sizes, slot, at, all, each);
         left -= each;
     }
-    fill_home(words, place, sizes, slot, last, all, left - 1);
+    fill_home(words, seat, sizes, slot, last, all, left - 1);
 }
 
 /// Places an item in the slot that was claimed, which holds the owners in hand. Its one owner is in hand then, and the owner's part is the answer.
 fn place_at<T, H: Holding<T>>(
     words: &Words<T, H>,
-    place: &mut Place<T>,
+    seat: &mut Seat<T>,
     sizes: &Sizes,
     slot: usize,
     item: T,
 ) -> One<Stored<T>>
-    requires table { FitsFree words.now.table_id words.now.key.sizes place.old.table_id place.old.me.0.sizes sizes.now slot }
-    requires ready { (place.old.me.0.kind ≡ 1) × (is_ready place.old.me.0.known ≡ true) × (place.old.me.0.releasing ≡ 0) × (H.holds item ≡ map told place.old.me.0.hand) }
-    requires claimed { IsJustClaimed (IsIn H.holds) place.old.me slot }
-    ensures seat { (place.new.table_id ≡ place.old.table_id) × (place.new.id ≡ place.old.id) }
-    ensures placed { (i : ℕ) × (f : Filling) × (f.round ≡ result.part.life.id) × (place.new.me ≡ (placing i f place.old.me.0, rest place.old.me.1)) }
+    requires table { FitsFree words.now.table_id words.now.key.sizes seat.old.table_id seat.old.me.0.sizes sizes.now slot }
+    requires ready { (seat.old.me.0.kind ≡ 1) × (is_ready seat.old.me.0.known ≡ true) × (seat.old.me.0.releasing ≡ 0) × (H.holds item ≡ map told seat.old.me.0.hand) }
+    requires claimed { IsJustClaimed (IsIn H.holds) seat.old.me slot }
+    ensures seat { (seat.new.table_id ≡ seat.old.table_id) × (seat.new.id ≡ seat.old.id) }
+    ensures placed { (i : ℕ) × (f : Filling) × (f.round ≡ result.part.life.id) × (seat.new.me ≡ (placing i f seat.old.me.0, rest seat.old.me.1)) }
     ensures value { IsSomeAnd result.part.seen.value (λ m. manually_drop_value m ≡ item) }
 {
     let own = sizes.participants * sizes.slots + slot;
-    let room = room_of::<T, H>(words.exchange(place, own, Home::Blank));
+    let room = room_of::<T, H>(words.exchange(seat, own, Home::Blank));
     let (deed, mut all) = store(room, item);
-    let_go(words.exchange(place, own, Home::Deed(deed)));
-    fill_homes(words, place, sizes, slot, &mut all);
-    slots::place(words, place, sizes.participants, sizes.cells, slot);
+    let_go(words.exchange(seat, own, Home::Deed(deed)));
+    fill_homes(words, seat, sizes, slot, &mut all);
+    slots::place(words, seat, sizes.participants, sizes.cells, slot);
     One::from_part(all)
 }
 
@@ -107,22 +107,22 @@ fn place_at<T, H: Holding<T>>(
 /// changed, and that is a miss.
 fn claim_any<T, H: Holding<T>>(
     words: &Words<T, H>,
-    place: &mut Place<T>,
+    seat: &mut Seat<T>,
     sizes: &Sizes,
     from: usize,
     misses: &mut Tally,
 ) -> Option<usize>
-    requires table { FitsSearch words.now.table_id words.now.key.sizes place.old.table_id place.old.me.0.sizes sizes.now from }
-    requires ready { (place.old.me.0.kind ≡ 1) × (place.old.me.0.filling ≡ None) }
-    ensures seat { (place.new.table_id ≡ place.old.table_id) × (place.new.id ≡ place.old.id) }
-    ensures claimed { IfSome result (λ k. (k < sizes.now.slots) × HasClaimed (IsIn H.holds) place.old.me k place.new.me) }
-    ensures none { IfNone result (place.new.me ≡ place.old.me) }
+    requires table { FitsSearch words.now.table_id words.now.key.sizes seat.old.table_id seat.old.me.0.sizes sizes.now from }
+    requires ready { (seat.old.me.0.kind ≡ 1) × (seat.old.me.0.filling ≡ None) }
+    ensures seat { (seat.new.table_id ≡ seat.old.table_id) × (seat.new.id ≡ seat.old.id) }
+    ensures claimed { IfSome result (λ k. (k < sizes.now.slots) × HasClaimed (IsIn H.holds) seat.old.me k seat.new.me) }
+    ensures none { IfNone result (seat.new.me ≡ seat.old.me) }
     ensures hit { OnSome result (misses.new.count ≡ misses.old.count) }
     ensures missed { IfNone result (misses.new.count ≡ misses.old.count + 1) }
 {
     for step in 0..sizes.slots {
         let slot = (from + step) % sizes.slots;
-        if slots::claim(words, place, sizes.participants, sizes.cells, slot) {
+        if slots::claim(words, seat, sizes.participants, sizes.cells, slot) {
             return Some(slot);
         }
     }
@@ -134,22 +134,22 @@ fn claim_any<T, H: Holding<T>>(
 /// part are the answer. Where each slot was taken when it was tried, the item is back: that is a miss.
 pub fn place_item<T, H: Holding<T>>(
     words: &Words<T, H>,
-    place: &mut Place<T>,
+    seat: &mut Seat<T>,
     sizes: &Sizes,
     from: usize,
     item: T,
     misses: &mut Tally,
 ) -> Result<(usize, One<Stored<T>>), T>
-    requires table { FitsSearch words.now.table_id words.now.key.sizes place.old.table_id place.old.me.0.sizes sizes.now from }
-    requires ready { CanPlaceItem H.holds item place.old.me.0 }
-    ensures seat { (place.new.table_id ≡ place.old.table_id) × (place.new.id ≡ place.old.id) }
-    ensures placed { IfOk result (λ t. HasPlacedItem item sizes.now.slots t.0 t.1.part.life.id t.1.part.seen.value place.old.me place.new.me) }
-    ensures refused { IfErr result (λ back. (back ≡ item) × (place.new.me ≡ place.old.me)) }
+    requires table { FitsSearch words.now.table_id words.now.key.sizes seat.old.table_id seat.old.me.0.sizes sizes.now from }
+    requires ready { CanPlaceItem H.holds item seat.old.me.0 }
+    ensures seat { (seat.new.table_id ≡ seat.old.table_id) × (seat.new.id ≡ seat.old.id) }
+    ensures placed { IfOk result (λ t. HasPlacedItem item sizes.now.slots t.0 t.1.part.life.id t.1.part.seen.value seat.old.me seat.new.me) }
+    ensures refused { IfErr result (λ back. (back ≡ item) × (seat.new.me ≡ seat.old.me)) }
     ensures hit { OnOk result (misses.new.count ≡ misses.old.count) }
     ensures missed { OnErr result (misses.new.count ≡ misses.old.count + 1) }
 {
-    match claim_any(words, place, sizes, from, misses) {
-        Some(slot) => Ok((slot, place_at(words, place, sizes, slot, item))),
+    match claim_any(words, seat, sizes, from, misses) {
+        Some(slot) => Ok((slot, place_at(words, seat, sizes, slot, item))),
         None => Err(item),
     }
 }
@@ -158,26 +158,26 @@ pub fn place_item<T, H: Holding<T>>(
 /// was taken when it was tried, `make` isn't called.
 pub fn place_made<T, H: Holding<T>, F: FnOnce() -> T + Drop>(
     words: &Words<T, H>,
-    place: &mut Place<T>,
+    seat: &mut Seat<T>,
     sizes: &Sizes,
     from: usize,
     make: F,
     misses: &mut Tally,
 ) -> Result<(usize, One<Stored<T>>), NoSlot>
-    requires table { FitsSearch words.now.table_id words.now.key.sizes place.old.table_id place.old.me.0.sizes sizes.now from }
-    requires ready { CanClaim place.old.me.0 }
+    requires table { FitsSearch words.now.table_id words.now.key.sizes seat.old.table_id seat.old.me.0.sizes sizes.now from }
+    requires ready { CanClaim seat.old.me.0 }
     requires callable { F.pre make }
-    requires holds { (item : T) → F.post make item → H.holds item ≡ map told place.old.me.0.hand }
-    ensures seat { (place.new.table_id ≡ place.old.table_id) × (place.new.id ≡ place.old.id) }
-    ensures placed { IfOk result (λ t. (item : T) × F.post make item × HasPlacedItem item sizes.now.slots t.0 t.1.part.life.id t.1.part.seen.value place.old.me place.new.me) }
-    ensures refused { OnErr result (place.new.me ≡ place.old.me) }
+    requires holds { (item : T) → F.post make item → H.holds item ≡ map told seat.old.me.0.hand }
+    ensures seat { (seat.new.table_id ≡ seat.old.table_id) × (seat.new.id ≡ seat.old.id) }
+    ensures placed { IfOk result (λ t. (item : T) × F.post make item × HasPlacedItem item sizes.now.slots t.0 t.1.part.life.id t.1.part.seen.value seat.old.me seat.new.me) }
+    ensures refused { OnErr result (seat.new.me ≡ seat.old.me) }
     ensures hit { OnOk result (misses.new.count ≡ misses.old.count) }
     ensures missed { OnErr result (misses.new.count ≡ misses.old.count + 1) }
 {
-    match claim_any(words, place, sizes, from, misses) {
+    match claim_any(words, seat, sizes, from, misses) {
         Some(slot) => {
             let item = make();
-            Ok((slot, place_at(words, place, sizes, slot, item)))
+            Ok((slot, place_at(words, seat, sizes, slot, item)))
         }
         None => Err(NoSlot),
     }

@@ -10,7 +10,7 @@ ghost use Rattle.domain_table.specs.Layout.{all_words, IsSized};
 ghost use Rattle.domain_table.specs.Plays.{follow_noted_then};
 
 use crate::bags::Ends;
-use crate::board::{Acting, Home, Place, Words};
+use crate::board::{Acting, Home, Seat, Words};
 use crate::holding::Holding;
 use crate::links::load_link;
 use atomic_table::Play;
@@ -25,19 +25,19 @@ impl<T> Play<Home<T>, Acting> for OnFollowNoted {
 /// What came into the private bag last, in slot `next`, follows what came before it, in `slot`.
 fn follow_noted<T, H: Holding<T>>(
     words: &Words<T, H>,
-    place: &mut Place<T>,
+    seat: &mut Seat<T>,
     sizes: &Sizes,
     slot: usize,
     next: usize,
 )
-    requires table { (place.old.table_id ≡ words.now.table_id) × (words.now.key.sizes ≡ sizes.now) × (place.old.me.0.sizes ≡ sizes.now) × IsSized sizes.now × (all_words sizes.now ≤ words.now.table_id.words) × (slot < sizes.now.slots) }
-    requires acts { (place.old.me.0.kind ≡ 1) × (next < 2 ^ 30) }
-    requires held { (xs : List Garbage) × (w : Garbage) × (v : Garbage) × (ys : List Garbage) × (place.old.me.0.collected ≡ xs ++ (w ∷ v ∷ ys)) × (w.slot ≡ next) × (v.slot ≡ slot) }
-    ensures seat { (place.new.table_id ≡ place.old.table_id) × (place.new.id ≡ place.old.id) }
-    ensures followed { (xs : List Garbage) (w v : Garbage) (ys : List Garbage) → place.old.me.0.collected ≡ xs ++ (w ∷ v ∷ ys) → w.slot ≡ next → v.slot ≡ slot → place.new.me ≡ (record place.old.me.0 { collected = xs ++ (w ∷ record v { next = w.slot + 1 } ∷ ys) }, place.old.me.1) }
+    requires table { (seat.old.table_id ≡ words.now.table_id) × (words.now.key.sizes ≡ sizes.now) × (seat.old.me.0.sizes ≡ sizes.now) × IsSized sizes.now × (all_words sizes.now ≤ words.now.table_id.words) × (slot < sizes.now.slots) }
+    requires acts { (seat.old.me.0.kind ≡ 1) × (next < 2 ^ 30) }
+    requires held { (xs : List Garbage) × (w : Garbage) × (v : Garbage) × (ys : List Garbage) × (seat.old.me.0.collected ≡ xs ++ (w ∷ v ∷ ys)) × (w.slot ≡ next) × (v.slot ≡ slot) }
+    ensures seat { (seat.new.table_id ≡ seat.old.table_id) × (seat.new.id ≡ seat.old.id) }
+    ensures followed { (xs : List Garbage) (w v : Garbage) (ys : List Garbage) → seat.old.me.0.collected ≡ xs ++ (w ∷ v ∷ ys) → w.slot ≡ next → v.slot ≡ slot → seat.new.me ≡ (record seat.old.me.0 { collected = xs ++ (w ∷ record v { next = w.slot + 1 } ∷ ys) }, seat.old.me.1) }
 {
     words.store::<OnFollowNoted>(
-        place,
+        seat,
         8 * sizes.participants + 16 + sizes.cells + sizes.slots + slot,
         next as u64 + 1,
     );
@@ -47,17 +47,17 @@ fn follow_noted<T, H: Holding<T>>(
 /// `older`.
 pub fn join_noted<T, H: Holding<T>>(
     words: &Words<T, H>,
-    place: &mut Place<T>,
+    seat: &mut Seat<T>,
     sizes: &Sizes,
     newer: Option<Ends>,
     older: Option<Ends>,
 ) -> Option<Ends>
-    requires table { FitsSizes words.now.table_id words.now.key.sizes place.old.table_id place.old.me.0.sizes sizes.now }
-    requires acts { (place.old.me.0.kind ≡ 1) × AllBelow sizes.now.slots place.old.me.0.collected }
-    requires bags { (fs : List Garbage) × (bs : List Garbage) × (rest : List Garbage) × (place.old.me.0.collected ≡ fs ++ (bs ++ rest)) × IsBag fs newer × IsBag bs older }
-    ensures seat { (place.new.table_id ≡ place.old.table_id) × (place.new.id ≡ place.old.id) }
-    ensures joined { (fs bs rest : List Garbage) → place.old.me.0.collected ≡ fs ++ (bs ++ rest) → IsBag fs newer → IsBag bs older
-        → (cs : List Garbage) × AreAlike bs cs × IsBag (fs ++ cs) result × (place.new.me ≡ (record place.old.me.0 { collected = fs ++ (cs ++ rest) }, place.old.me.1)) }
+    requires table { FitsSizes words.now.table_id words.now.key.sizes seat.old.table_id seat.old.me.0.sizes sizes.now }
+    requires acts { (seat.old.me.0.kind ≡ 1) × AllBelow sizes.now.slots seat.old.me.0.collected }
+    requires bags { (fs : List Garbage) × (bs : List Garbage) × (rest : List Garbage) × (seat.old.me.0.collected ≡ fs ++ (bs ++ rest)) × IsBag fs newer × IsBag bs older }
+    ensures seat { (seat.new.table_id ≡ seat.old.table_id) × (seat.new.id ≡ seat.old.id) }
+    ensures joined { (fs bs rest : List Garbage) → seat.old.me.0.collected ≡ fs ++ (bs ++ rest) → IsBag fs newer → IsBag bs older
+        → (cs : List Garbage) × AreAlike bs cs × IsBag (fs ++ cs) result × (seat.new.me ≡ (record seat.old.me.0 { collected = fs ++ (cs ++ rest) }, seat.old.me.1)) }
 {
     let Some(behind) = newer else {
         return older;
@@ -65,7 +65,7 @@ pub fn join_noted<T, H: Holding<T>>(
     let Some(front) = older else {
         return newer;
     };
-    follow_noted(words, place, sizes, front.last, behind.first);
+    follow_noted(words, seat, sizes, front.last, behind.first);
     Some(Ends {
         first: front.first,
         last: behind.last,
@@ -75,21 +75,21 @@ pub fn join_noted<T, H: Holding<T>>(
 /// Takes out of the chain what has been in the private bag the longest. The item stays noted.
 pub fn take_noted<T, H: Holding<T>>(
     words: &Words<T, H>,
-    place: &mut Place<T>,
+    seat: &mut Seat<T>,
     sizes: &Sizes,
     bag: Option<Ends>,
 ) -> (Option<usize>, Option<Ends>)
-    requires table { FitsSizes words.now.table_id words.now.key.sizes place.old.table_id place.old.me.0.sizes sizes.now }
-    requires acts { (place.old.me.0.kind ≡ 1) × AllBelow sizes.now.slots place.old.me.0.collected }
-    requires bag { (ps : List Garbage) × (cs : List Garbage) × (place.old.me.0.collected ≡ ps ++ cs) × IsBag cs bag }
-    ensures seat { (place.new.table_id ≡ place.old.table_id) × (place.new.id ≡ place.old.id) × (place.new.me ≡ place.old.me) }
+    requires table { FitsSizes words.now.table_id words.now.key.sizes seat.old.table_id seat.old.me.0.sizes sizes.now }
+    requires acts { (seat.old.me.0.kind ≡ 1) × AllBelow sizes.now.slots seat.old.me.0.collected }
+    requires bag { (ps : List Garbage) × (cs : List Garbage) × (seat.old.me.0.collected ≡ ps ++ cs) × IsBag cs bag }
+    ensures seat { (seat.new.table_id ≡ seat.old.table_id) × (seat.new.id ≡ seat.old.id) × (seat.new.me ≡ seat.old.me) }
     ensures none { IfNone result.0 ((bag ≡ None) × (result.1 ≡ None)) }
-    ensures taken { IfSome result.0 (λ slot. (ps cs : List Garbage) → place.old.me.0.collected ≡ ps ++ cs → IsBag cs bag → (ds : List Garbage) × (w : Garbage) × (cs ≡ ds ++ w ∷ []) × (w.slot ≡ slot) × IsBag ds result.1) }
+    ensures taken { IfSome result.0 (λ slot. (ps cs : List Garbage) → seat.old.me.0.collected ≡ ps ++ cs → IsBag cs bag → (ds : List Garbage) × (w : Garbage) × (cs ≡ ds ++ w ∷ []) × (w.slot ≡ slot) × IsBag ds result.1) }
 {
     let Some(ends) = bag else {
         return (None, None);
     };
-    let found = load_link(words, place, sizes, ends.first);
+    let found = load_link(words, seat, sizes, ends.first);
     if ends.first == ends.last {
         return (Some(ends.first), None);
     }

@@ -8,7 +8,7 @@ ghost use Rattle.domain_table.specs.Ledgers.{WaitsIn};
 ghost use Rattle.domain_table.specs.Plays.{Steady, SteadyButWaits, Scans};
 
 use crate::bags::Bags;
-use crate::board::{Place, Words};
+use crate::board::{Seat, Words};
 use crate::holding::Holding;
 use crate::left::take_all_left;
 use crate::steps::{Tried, give_lock, is_present, look, raise, take_lock};
@@ -18,19 +18,19 @@ use sdd_plain::sizes::Sizes;
 /// Whether each other participant is closed or has published the count `epoch`. It stops at the first that isn't.
 fn all_agree<T, H: Holding<T>>(
     words: &Words<T, H>,
-    place: &mut Place<T>,
+    seat: &mut Seat<T>,
     number: usize,
     participants: usize,
     epoch: u64,
 ) -> bool
-    requires table { HasEpochs words.now.table_id words.now.key.sizes place.old.table_id participants }
-    requires open { Scans place.old number epoch 2 }
+    requires table { HasEpochs words.now.table_id words.now.key.sizes seat.old.table_id participants }
+    requires open { Scans seat.old number epoch 2 }
     requires below { epoch < 2 ^ 64 - 1 }
-    ensures seat { (place.new.table_id ≡ place.old.table_id) × (place.new.id ≡ place.old.id) × Steady place.old.me place.new.me × Scans place.new number epoch 2 }
-    ensures noted { IsTrue result → (q : ℕ) → q < participants → q ≢ number → Has place.new.me.0.known.looked q }
+    ensures seat { (seat.new.table_id ≡ seat.old.table_id) × (seat.new.id ≡ seat.old.id) × Steady seat.old.me seat.new.me × Scans seat.new number epoch 2 }
+    ensures noted { IsTrue result → (q : ℕ) → q < participants → q ≢ number → Has seat.new.me.0.known.looked q }
 {
     for other in 0..participants {
-        if other != number && !look(words, place, number, other, epoch) {
+        if other != number && !look(words, seat, number, other, epoch) {
             return false;
         }
     }
@@ -41,23 +41,23 @@ fn all_agree<T, H: Holding<T>>(
 /// `2^64 - 1`, isn't raised.
 fn raise_if_all_agree<T, H: Holding<T>>(
     words: &Words<T, H>,
-    place: &mut Place<T>,
+    seat: &mut Seat<T>,
     number: usize,
     participants: usize,
     epoch: u64,
 )
-    requires table { HasEpochs words.now.table_id words.now.key.sizes place.old.table_id participants }
-    requires open { Scans place.old number epoch 1 }
-    ensures seat { (place.new.table_id ≡ place.old.table_id) × (place.new.id ≡ place.old.id) × Steady place.old.me place.new.me }
-    ensures stage { Scans place.new number epoch 1 ⊎ Scans place.new number epoch 2 }
+    requires table { HasEpochs words.now.table_id words.now.key.sizes seat.old.table_id participants }
+    requires open { Scans seat.old number epoch 1 }
+    ensures seat { (seat.new.table_id ≡ seat.old.table_id) × (seat.new.id ≡ seat.old.id) × Steady seat.old.me seat.new.me }
+    ensures stage { Scans seat.new number epoch 1 ⊎ Scans seat.new number epoch 2 }
 {
-    if epoch == u64::MAX || !is_present(words, place, number, epoch) {
+    if epoch == u64::MAX || !is_present(words, seat, number, epoch) {
         return;
     }
-    if !all_agree(words, place, number, participants, epoch) {
+    if !all_agree(words, seat, number, participants, epoch) {
         return;
     }
-    raise(words, place, number, epoch);
+    raise(words, seat, number, epoch);
 }
 
 /// A scan of participant `number`, whose guard is open with the count `epoch`. It tries once for the scan lock. With the
@@ -66,26 +66,26 @@ fn raise_if_all_agree<T, H: Holding<T>>(
 #[inline(never)]
 fn scan<T, H: Holding<T>>(
     words: &Words<T, H>,
-    place: &mut Place<T>,
+    seat: &mut Seat<T>,
     sizes: &Sizes,
     number: usize,
     bags: &mut Bags,
     epoch: u64,
 ) -> Tried
-    requires table { FitsSizes words.now.table_id words.now.key.sizes place.old.table_id place.old.me.0.sizes sizes.now }
-    requires open { Scans place.old number epoch 0 }
-    requires waits { WaitsIn sizes.now.slots place.old.me.0.waits bags.old }
-    ensures seat { (place.new.table_id ≡ place.old.table_id) × (place.new.id ≡ place.old.id) × SteadyButWaits place.old.me place.new.me × Scans place.new number epoch 0 }
-    ensures waits { WaitsIn sizes.now.slots place.new.me.0.waits bags.new }
+    requires table { FitsSizes words.now.table_id words.now.key.sizes seat.old.table_id seat.old.me.0.sizes sizes.now }
+    requires open { Scans seat.old number epoch 0 }
+    requires waits { WaitsIn sizes.now.slots seat.old.me.0.waits bags.old }
+    ensures seat { (seat.new.table_id ≡ seat.old.table_id) × (seat.new.id ≡ seat.old.id) × SteadyButWaits seat.old.me seat.new.me × Scans seat.new number epoch 0 }
+    ensures waits { WaitsIn sizes.now.slots seat.new.me.0.waits bags.new }
     ensures due { bags.new.due ≡ bags.old.due }
 {
-    let tried = take_lock(words, place, number, epoch);
+    let tried = take_lock(words, seat, number, epoch);
     if !tried.got() {
         return tried;
     }
-    let looks = take_all_left(words, place, sizes, bags);
-    raise_if_all_agree(words, place, number, sizes.participants, epoch);
-    give_lock(words, place, number, epoch, looks);
+    let looks = take_all_left(words, seat, sizes, bags);
+    raise_if_all_agree(words, seat, number, sizes.participants, epoch);
+    give_lock(words, seat, number, epoch, looks);
     tried
 }
 
@@ -100,20 +100,20 @@ fn scans(own: &LocalState, closings: u8) -> bool
 #[inline(always)]
 pub fn scan_due<T, H: Holding<T>>(
     words: &Words<T, H>,
-    place: &mut Place<T>,
+    seat: &mut Seat<T>,
     sizes: &Sizes,
     number: usize,
     bags: &mut Bags,
     own: &mut LocalState,
 ) -> Option<Tried>
-    requires table { FitsSizes words.now.table_id words.now.key.sizes place.old.table_id place.old.me.0.sizes sizes.now }
-    requires open { Scans place.old number own.old.previous 0 }
-    requires waits { WaitsIn sizes.now.slots place.old.me.0.waits bags.old }
-    ensures seat { (place.new.table_id ≡ place.old.table_id) × (place.new.id ≡ place.old.id) × SteadyButWaits place.old.me place.new.me }
-    ensures open { Scans place.new number own.old.previous 0 }
+    requires table { FitsSizes words.now.table_id words.now.key.sizes seat.old.table_id seat.old.me.0.sizes sizes.now }
+    requires open { Scans seat.old number own.old.previous 0 }
+    requires waits { WaitsIn sizes.now.slots seat.old.me.0.waits bags.old }
+    ensures seat { (seat.new.table_id ≡ seat.old.table_id) × (seat.new.id ≡ seat.old.id) × SteadyButWaits seat.old.me seat.new.me }
+    ensures open { Scans seat.new number own.old.previous 0 }
     ensures tried { is_some result ≡ scans own.old }
     ensures counted { own.new ≡ record own.old { closings = cond (scans own.old) 0 (closings_after own.old) } }
-    ensures waits { WaitsIn sizes.now.slots place.new.me.0.waits bags.new }
+    ensures waits { WaitsIn sizes.now.slots seat.new.me.0.waits bags.new }
     ensures due { bags.new.due ≡ bags.old.due }
 {
     let closings = if own.closings < 64 {
@@ -123,7 +123,7 @@ pub fn scan_due<T, H: Holding<T>>(
     };
     if scans(own, closings) {
         let epoch = own.previous;
-        let tried = scan(words, place, sizes, number, bags, epoch);
+        let tried = scan(words, seat, sizes, number, bags, epoch);
         own.closings = 0;
         Some(tried)
     } else {

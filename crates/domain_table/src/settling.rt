@@ -14,7 +14,7 @@ ghost use Rattle.domain_table.specs.Plays.{shut_then, settle_then};
 ghost use Rattle.domain_table.specs.Views.{looking, settling};
 
 use crate::bags::Bags;
-use crate::board::{Acting, Home, Place, Words};
+use crate::board::{Acting, Home, Seat, Words};
 use crate::holding::Holding;
 use crate::steps::{STATE, STRIDE};
 use atomic_table::Play;
@@ -36,33 +36,33 @@ impl<T> Play<Home<T>, Acting> for OnSettle {
 }
 
 /// Whether the other has no guard open. It is asked once the count `epoch` was read, before it is published.
-fn is_shut<T, H: Holding<T>>(words: &Words<T, H>, place: &mut Place<T>, other: usize) -> bool
-    requires table { HasEpochOf words.now.table_id words.now.key.sizes place.old.table_id other }
-    requires read { (place.old.me.0.kind ≡ 1) × (place.old.me.0.number ≢ other) × ((e : ℕ) × (place.old.me.0.known.phase ≡ HasRead e)) }
-    ensures seat { (place.new.table_id ≡ place.old.table_id) × (place.new.id ≡ place.old.id) }
-    ensures noted { IsTrue result → place.new.me ≡ (record place.old.me.0 { known = looking other place.old.me.0.known }, place.old.me.1) }
-    ensures not_noted { IsFalse result → place.new.me ≡ place.old.me }
+fn is_shut<T, H: Holding<T>>(words: &Words<T, H>, seat: &mut Seat<T>, other: usize) -> bool
+    requires table { HasEpochOf words.now.table_id words.now.key.sizes seat.old.table_id other }
+    requires read { (seat.old.me.0.kind ≡ 1) × (seat.old.me.0.number ≢ other) × ((e : ℕ) × (seat.old.me.0.known.phase ≡ HasRead e)) }
+    ensures seat { (seat.new.table_id ≡ seat.old.table_id) × (seat.new.id ≡ seat.old.id) }
+    ensures noted { IsTrue result → seat.new.me ≡ (record seat.old.me.0 { known = looking other seat.old.me.0.known }, seat.old.me.1) }
+    ensures not_noted { IsFalse result → seat.new.me ≡ seat.old.me }
 {
-    let found = words.load::<OnShut>(place, STRIDE * other + STATE);
+    let found = words.load::<OnShut>(seat, STRIDE * other + STATE);
     found == 0
 }
 
 /// The same of any participant, where the seat's own one passes unasked. Who was looked at before stays so.
 fn passes<T, H: Holding<T>>(
     words: &Words<T, H>,
-    place: &mut Place<T>,
+    seat: &mut Seat<T>,
     number: usize,
     other: usize,
 ) -> bool
-    requires table { HasEpochOf words.now.table_id words.now.key.sizes place.old.table_id other }
-    requires read { (place.old.me.0.kind ≡ 1) × (place.old.me.0.number ≡ number) × ((e : ℕ) × (place.old.me.0.known.phase ≡ HasRead e)) }
-    ensures seat { (place.new.table_id ≡ place.old.table_id) × (place.new.id ≡ place.old.id) }
-    ensures looked { (ls : List ℕ) × (place.new.me ≡ (record place.old.me.0 { known = record place.old.me.0.known { looked = ls } }, place.old.me.1)) × (IsTrue result → other ≢ number → Has ls other) × ((q : ℕ) → Has place.old.me.0.known.looked q → Has ls q) }
+    requires table { HasEpochOf words.now.table_id words.now.key.sizes seat.old.table_id other }
+    requires read { (seat.old.me.0.kind ≡ 1) × (seat.old.me.0.number ≡ number) × ((e : ℕ) × (seat.old.me.0.known.phase ≡ HasRead e)) }
+    ensures seat { (seat.new.table_id ≡ seat.old.table_id) × (seat.new.id ≡ seat.old.id) }
+    ensures looked { (ls : List ℕ) × (seat.new.me ≡ (record seat.old.me.0 { known = record seat.old.me.0.known { looked = ls } }, seat.old.me.1)) × (IsTrue result → other ≢ number → Has ls other) × ((q : ℕ) → Has seat.old.me.0.known.looked q → Has ls q) }
 {
     if other == number {
         return true;
     }
-    if is_shut(words, place, other) {
+    if is_shut(words, seat, other) {
         true
     } else {
         false
@@ -72,17 +72,17 @@ fn passes<T, H: Holding<T>>(
 /// Whether no other participant has a guard open. It stops at the first that has.
 fn all_shut<T, H: Holding<T>>(
     words: &Words<T, H>,
-    place: &mut Place<T>,
+    seat: &mut Seat<T>,
     number: usize,
     participants: usize,
 ) -> bool
-    requires table { HasEpochs words.now.table_id words.now.key.sizes place.old.table_id participants }
-    requires read { (place.old.me.0.kind ≡ 1) × (place.old.me.0.number ≡ number) × ((e : ℕ) × (place.old.me.0.known.phase ≡ HasRead e)) }
-    ensures seat { (place.new.table_id ≡ place.old.table_id) × (place.new.id ≡ place.old.id) }
-    ensures looked { (ls : List ℕ) × (place.new.me ≡ (record place.old.me.0 { known = record place.old.me.0.known { looked = ls } }, place.old.me.1)) × (IsTrue result → (q : ℕ) → q < participants → q ≢ number → Has ls q) }
+    requires table { HasEpochs words.now.table_id words.now.key.sizes seat.old.table_id participants }
+    requires read { (seat.old.me.0.kind ≡ 1) × (seat.old.me.0.number ≡ number) × ((e : ℕ) × (seat.old.me.0.known.phase ≡ HasRead e)) }
+    ensures seat { (seat.new.table_id ≡ seat.old.table_id) × (seat.new.id ≡ seat.old.id) }
+    ensures looked { (ls : List ℕ) × (seat.new.me ≡ (record seat.old.me.0 { known = record seat.old.me.0.known { looked = ls } }, seat.old.me.1)) × (IsTrue result → (q : ℕ) → q < participants → q ≢ number → Has ls q) }
 {
     for other in 0..participants {
-        if !passes(words, place, number, other) {
+        if !passes(words, seat, number, other) {
             return false;
         }
     }
@@ -90,40 +90,40 @@ fn all_shut<T, H: Holding<T>>(
 }
 
 /// All that the participant retired is due, where each other one was found without an open guard.
-fn settle_all<T, H: Holding<T>>(words: &Words<T, H>, place: &mut Place<T>, epoch: u64)
-    requires table { (place.old.table_id ≡ words.now.table_id) × (0 < words.now.table_id.words) }
-    requires read { (place.old.me.0.kind ≡ 1) × (place.old.me.0.known.phase ≡ HasRead epoch) × (3 ≤ epoch) }
-    requires all { (q : ℕ) → q < words.now.key.sizes.participants → q ≢ place.old.me.0.number → Has place.old.me.0.known.looked q }
-    ensures { (place.new.table_id ≡ place.old.table_id) × (place.new.id ≡ place.old.id) × (place.new.me ≡ (settling epoch place.old.me.0, place.old.me.1)) }
+fn settle_all<T, H: Holding<T>>(words: &Words<T, H>, seat: &mut Seat<T>, epoch: u64)
+    requires table { (seat.old.table_id ≡ words.now.table_id) × (0 < words.now.table_id.words) }
+    requires read { (seat.old.me.0.kind ≡ 1) × (seat.old.me.0.known.phase ≡ HasRead epoch) × (3 ≤ epoch) }
+    requires all { (q : ℕ) → q < words.now.key.sizes.participants → q ≢ seat.old.me.0.number → Has seat.old.me.0.known.looked q }
+    ensures { (seat.new.table_id ≡ seat.old.table_id) × (seat.new.id ≡ seat.old.id) × (seat.new.me ≡ (settling epoch seat.old.me.0, seat.old.me.1)) }
 {
-    let _ = words.load::<OnSettle>(place, COUNT);
+    let _ = words.load::<OnSettle>(seat, COUNT);
 }
 
 /// Makes all due that participant `number` retired, where no other one has a guard open: whether it could. It has read the
 /// count `epoch`, and publishes it next. A count below 3 is too low for that, and then nothing is looked at.
 pub fn settle<T, H: Holding<T>>(
     words: &Words<T, H>,
-    place: &mut Place<T>,
+    seat: &mut Seat<T>,
     sizes: &Sizes,
     number: usize,
     bags: &mut Bags,
     epoch: u64,
 ) -> bool
-    requires table { FitsNumber words.now.table_id words.now.key.sizes place.old.table_id place.old.me.0.sizes sizes.now number }
-    requires read { (place.old.me.0.kind ≡ 1) × (place.old.me.0.number ≡ number) × (place.old.me.0.known.phase ≡ HasRead epoch) }
-    requires waits { WaitsIn sizes.now.slots place.old.me.0.waits bags.old × (bags.old.due ≡ None) }
-    ensures seat { (place.new.table_id ≡ place.old.table_id) × (place.new.id ≡ place.old.id) }
-    ensures settled { IsTrue result → (ls : List ℕ) × (ws : List Garbage) × WaitsIn sizes.now.slots ws bags.new × (place.new.me ≡ (record place.old.me.0 { known = record place.old.me.0.known { found = epoch; looked = ls }; waits = ws }, place.old.me.1)) }
-    ensures kept { IsFalse result → (ls : List ℕ) × (bags.new ≡ bags.old) × (place.new.me ≡ (record place.old.me.0 { known = record place.old.me.0.known { looked = ls } }, place.old.me.1)) }
+    requires table { FitsNumber words.now.table_id words.now.key.sizes seat.old.table_id seat.old.me.0.sizes sizes.now number }
+    requires read { (seat.old.me.0.kind ≡ 1) × (seat.old.me.0.number ≡ number) × (seat.old.me.0.known.phase ≡ HasRead epoch) }
+    requires waits { WaitsIn sizes.now.slots seat.old.me.0.waits bags.old × (bags.old.due ≡ None) }
+    ensures seat { (seat.new.table_id ≡ seat.old.table_id) × (seat.new.id ≡ seat.old.id) }
+    ensures settled { IsTrue result → (ls : List ℕ) × (ws : List Garbage) × WaitsIn sizes.now.slots ws bags.new × (seat.new.me ≡ (record seat.old.me.0 { known = record seat.old.me.0.known { found = epoch; looked = ls }; waits = ws }, seat.old.me.1)) }
+    ensures kept { IsFalse result → (ls : List ℕ) × (bags.new ≡ bags.old) × (seat.new.me ≡ (record seat.old.me.0 { known = record seat.old.me.0.known { looked = ls } }, seat.old.me.1)) }
 {
     if epoch < 3 {
         return false;
     }
-    if !all_shut(words, place, number, sizes.participants) {
+    if !all_shut(words, seat, number, sizes.participants) {
         return false;
     }
-    let due = bags.joined(words, place, sizes);
-    settle_all(words, place, epoch);
+    let due = bags.joined(words, seat, sizes);
+    settle_all(words, seat, epoch);
     *bags = Bags {
         current: None,
         previous: None,

@@ -12,7 +12,7 @@ ghost use Rattle.domain_table.specs.Plays.{HasClaimed, claim_slot_then, HasTaken
 ghost use Rattle.sdd_homes.specs.declared.Garbage.{Garbage};
 ghost use Rattle.domain_table.specs.declared.board.Home.{Home};
 
-use crate::board::{Acting, Home, Place, Words};
+use crate::board::{Acting, Home, Seat, Words};
 use crate::holding::Holding;
 use atomic_table::Play;
 use sdd_plain::sizes::Sizes;
@@ -67,54 +67,54 @@ pub fn count_used<T, H: Holding<T>>(words: &Words<T, H>, sizes: &Sizes) -> usize
 /// fill, and the item's own home is out, with the room for the item. Whether it was.
 pub(crate) fn claim<T, H: Holding<T>>(
     words: &Words<T, H>,
-    place: &mut Place<T>,
+    seat: &mut Seat<T>,
     participants: usize,
     cells: usize,
     slot: usize,
 ) -> bool
-    requires table { FitsSlot words.now.table_id words.now.key.sizes place.old.table_id place.old.me.0.sizes participants cells slot }
-    requires ready { (place.old.me.0.kind ≡ 1) × (place.old.me.0.filling ≡ None) }
-    ensures seat { (place.new.table_id ≡ place.old.table_id) × (place.new.id ≡ place.old.id) }
-    ensures claimed { IsTrue result → HasClaimed (IsIn H.holds) place.old.me slot place.new.me }
-    ensures refused { IsFalse result → place.new.me ≡ place.old.me }
+    requires table { FitsSlot words.now.table_id words.now.key.sizes seat.old.table_id seat.old.me.0.sizes participants cells slot }
+    requires ready { (seat.old.me.0.kind ≡ 1) × (seat.old.me.0.filling ≡ None) }
+    ensures seat { (seat.new.table_id ≡ seat.old.table_id) × (seat.new.id ≡ seat.old.id) }
+    ensures claimed { IsTrue result → HasClaimed (IsIn H.holds) seat.old.me slot seat.new.me }
+    ensures refused { IsFalse result → seat.new.me ≡ seat.old.me }
 {
-    words.compare_exchange::<OnClaim<H>>(place, 8 * participants + 16 + cells + slot, 0, 1) == 0
+    words.compare_exchange::<OnClaim<H>>(seat, 8 * participants + 16 + cells + slot, 0, 1) == 0
 }
 
 /// Takes the home of the next participant out of the slot that is being filled. It is empty.
-pub(crate) fn take_next<T, H: Holding<T>>(words: &Words<T, H>, place: &mut Place<T>)
-    requires table { (place.old.table_id ≡ words.now.table_id) × (0 < words.now.table_id.words) }
-    requires filling { (place.old.me.0.kind ≡ 1) × ((f : Filling) × (place.old.me.0.filling ≡ Some f) × (f.filled < place.old.me.0.sizes.participants) × (f.out ≡ place.old.me.0.sizes.participants)) }
-    ensures seat { (place.new.table_id ≡ place.old.table_id) × (place.new.id ≡ place.old.id) }
-    ensures taken { (f : Filling) → place.old.me.0.filling ≡ Some f → HasTaken (IsIn H.holds) place.old.me f place.new.me }
+pub(crate) fn take_next<T, H: Holding<T>>(words: &Words<T, H>, seat: &mut Seat<T>)
+    requires table { (seat.old.table_id ≡ words.now.table_id) × (0 < words.now.table_id.words) }
+    requires filling { (seat.old.me.0.kind ≡ 1) × ((f : Filling) × (seat.old.me.0.filling ≡ Some f) × (f.filled < seat.old.me.0.sizes.participants) × (f.out ≡ seat.old.me.0.sizes.participants)) }
+    ensures seat { (seat.new.table_id ≡ seat.old.table_id) × (seat.new.id ≡ seat.old.id) }
+    ensures taken { (f : Filling) → seat.old.me.0.filling ≡ Some f → HasTaken (IsIn H.holds) seat.old.me f seat.new.me }
 {
-    let _ = words.load::<OnTake<H>>(place, 0);
+    let _ = words.load::<OnTake<H>>(seat, 0);
 }
 
 /// Gives the home back that `take_next` took, with its parts. The first one tells which round the slot's parts are of.
-pub(crate) fn give_next<T, H: Holding<T>>(words: &Words<T, H>, place: &mut Place<T>)
-    requires table { (place.old.table_id ≡ words.now.table_id) × (0 < words.now.table_id.words) }
-    requires filling { (place.old.me.0.kind ≡ 1) × ((f : Filling) × (c : ℕ) × (a : ℕ) × (tail : List (ℕ × Home T)) × CanFill (IsIn H.holds) place.old.me f c a tail) }
-    ensures seat { (place.new.table_id ≡ place.old.table_id) × (place.new.id ≡ place.old.id) }
-    ensures given { Fills (IsIn H.holds) place.old.me place.new.me }
+pub(crate) fn give_next<T, H: Holding<T>>(words: &Words<T, H>, seat: &mut Seat<T>)
+    requires table { (seat.old.table_id ≡ words.now.table_id) × (0 < words.now.table_id.words) }
+    requires filling { (seat.old.me.0.kind ≡ 1) × ((f : Filling) × (c : ℕ) × (a : ℕ) × (tail : List (ℕ × Home T)) × CanFill (IsIn H.holds) seat.old.me f c a tail) }
+    ensures seat { (seat.new.table_id ≡ seat.old.table_id) × (seat.new.id ≡ seat.old.id) }
+    ensures given { Fills (IsIn H.holds) seat.old.me seat.new.me }
 {
-    let _ = words.load::<OnGive<H>>(place, 0);
+    let _ = words.load::<OnGive<H>>(seat, 0);
 }
 
 /// Gives the slot to a new item, which holds the items whose owners are in hand, and has one owner, which is in hand from
 /// now on. The item's own home goes back in the same step, with its deed.
 pub(crate) fn place<T, H: Holding<T>>(
     words: &Words<T, H>,
-    place: &mut Place<T>,
+    seat: &mut Seat<T>,
     participants: usize,
     cells: usize,
     slot: usize,
 )
-    requires table { FitsSlot words.now.table_id words.now.key.sizes place.old.table_id place.old.me.0.sizes participants cells slot }
-    requires ready { (place.old.me.0.kind ≡ 1) × (is_ready place.old.me.0.known ≡ true) × (place.old.me.0.releasing ≡ 0) × (place.old.me.0.slot ≡ slot) }
-    requires filled { (f : Filling) × (tail : List (ℕ × Home T)) × CanPlace (IsIn H.holds) place.old.me f tail }
-    ensures seat { (place.new.table_id ≡ place.old.table_id) × (place.new.id ≡ place.old.id) }
-    ensures placed { (f : Filling) (tail : List (ℕ × Home T)) → CanPlace (IsIn H.holds) place.old.me f tail → (i : ℕ) × (place.new.me ≡ (placing i f place.old.me.0, tail)) }
+    requires table { FitsSlot words.now.table_id words.now.key.sizes seat.old.table_id seat.old.me.0.sizes participants cells slot }
+    requires ready { (seat.old.me.0.kind ≡ 1) × (is_ready seat.old.me.0.known ≡ true) × (seat.old.me.0.releasing ≡ 0) × (seat.old.me.0.slot ≡ slot) }
+    requires filled { (f : Filling) × (tail : List (ℕ × Home T)) × CanPlace (IsIn H.holds) seat.old.me f tail }
+    ensures seat { (seat.new.table_id ≡ seat.old.table_id) × (seat.new.id ≡ seat.old.id) }
+    ensures placed { (f : Filling) (tail : List (ℕ × Home T)) → CanPlace (IsIn H.holds) seat.old.me f tail → (i : ℕ) × (seat.new.me ≡ (placing i f seat.old.me.0, tail)) }
 {
-    words.store::<OnPlace<H>>(place, 8 * participants + 16 + cells + slot, 3);
+    words.store::<OnPlace<H>>(seat, 8 * participants + 16 + cells + slot, 3);
 }

@@ -14,7 +14,7 @@ ghost use Rattle.domain_table.specs.Layout.{lock_word, claim_word, epoch_words, 
 ghost use Rattle.domain_table.specs.Plays.{read_then, publish_then, count_then, look_then, agree_then, raise_then, lock_then, unlock_then, sit_then, HasRegistered, HasSpare, claim_then, learn_then, end_then, Steady, Scans};
 ghost use Rattle.domain_table.specs.declared.board.Home.{Home};
 
-use crate::board::{Acting, Home, Place, Words};
+use crate::board::{Acting, Home, Seat, Words};
 use crate::holding::Holding;
 use crate::homes::let_go;
 use crate::left::Looks;
@@ -121,39 +121,39 @@ fn word_of(epoch: u64) -> u64
 }
 
 /// A new seat, which acts for nobody.
-pub fn sit<T, H: Holding<T>>(words: &Words<T, H>) -> Place<T>
+pub fn sit<T, H: Holding<T>>(words: &Words<T, H>) -> Seat<T>
     requires { 0 < words.now.table_id.words }
     ensures { (result.table_id ≡ words.now.table_id) × (result.me.0 ≡ spent) × (result.me.1 ≡ []) }
 {
-    let (_, place) = words.load_new_seat::<OnSit>(COUNT);
-    place
+    let (_, seat) = words.load_new_seat::<OnSit>(COUNT);
+    seat
 }
 
 /// Tries once to act for participant `number`. Where nobody did, its spare slot comes out, empty: which one it is.
 pub fn claim<T, H: Holding<T>>(
     words: &Words<T, H>,
-    place: &mut Place<T>,
+    seat: &mut Seat<T>,
     number: usize,
 ) -> Option<u64>
-    requires table { HasClaimOf words.now.table_id words.now.key.sizes place.old.table_id number }
-    requires nobody { (place.old.me.0.kind ≡ 0) × IsBare place.old.me.0 }
-    ensures seat { (place.new.table_id ≡ place.old.table_id) × (place.new.id ≡ place.old.id) }
-    ensures claimed { IfSome result (λ y. (y < 2 ^ 31) × HasRegistered (IsIn H.holds) place.old.me number y place.new.me) }
-    ensures refused { IfNone result (place.new.me ≡ place.old.me) }
+    requires table { HasClaimOf words.now.table_id words.now.key.sizes seat.old.table_id number }
+    requires nobody { (seat.old.me.0.kind ≡ 0) × IsBare seat.old.me.0 }
+    ensures seat { (seat.new.table_id ≡ seat.old.table_id) × (seat.new.id ≡ seat.old.id) }
+    ensures claimed { IfSome result (λ y. (y < 2 ^ 31) × HasRegistered (IsIn H.holds) seat.old.me number y seat.new.me) }
+    ensures refused { IfNone result (seat.new.me ≡ seat.old.me) }
 {
-    let found = words.swap::<OnClaim<H>>(place, STRIDE * number + CLAIM, 0);
+    let found = words.swap::<OnClaim<H>>(seat, STRIDE * number + CLAIM, 0);
     if found == 0 { None } else { Some(found - 1) }
 }
 
 /// Tells the seat that the place has the sizes `sizes`. No word changes.
-pub fn learn<T, H: Holding<T>>(words: &Words<T, H>, place: &mut Place<T>, sizes: Sizes)
-    requires table { (place.old.table_id ≡ words.now.table_id) × (1 < words.now.table_id.words) × (sizes ≡ words.now.key.sizes) }
-    requires acts { place.old.me.0.kind ≡ 1 }
-    ensures seat { (place.new.table_id ≡ place.old.table_id) × (place.new.id ≡ place.old.id) × (place.new.me ≡ place.old.me) }
-    ensures learned { place.new.me.0.sizes ≡ sizes }
+pub fn learn<T, H: Holding<T>>(words: &Words<T, H>, seat: &mut Seat<T>, sizes: Sizes)
+    requires table { (seat.old.table_id ≡ words.now.table_id) × (1 < words.now.table_id.words) × (sizes ≡ words.now.key.sizes) }
+    requires acts { seat.old.me.0.kind ≡ 1 }
+    ensures seat { (seat.new.table_id ≡ seat.old.table_id) × (seat.new.id ≡ seat.old.id) × (seat.new.me ≡ seat.old.me) }
+    ensures learned { seat.new.me.0.sizes ≡ sizes }
 {
     let said = Home::Announced(sizes);
-    words.compare_exchange_with::<OnLearn>(place, STILL, 0, 0, &said);
+    words.compare_exchange_with::<OnLearn>(seat, STILL, 0, 0, &said);
     let_go(said);
 }
 
@@ -178,49 +178,44 @@ pub fn any_claimed<T, H: Holding<T>>(words: &Words<T, H>, sizes: &Sizes) -> bool
 
 /// Ends what the seat does for participant `number`, which has left what it retired, and which somebody else may act for
 /// from now on. Its spare slot, which is in front of what is out with the seat, goes back empty.
-pub fn end<T, H: Holding<T>>(words: &Words<T, H>, place: &mut Place<T>, number: usize, spare: u64)
-    requires table { (place.old.table_id ≡ words.now.table_id) × (number < 2 ^ 30) × (claim_word number < words.now.table_id.words) }
-    requires rests { (place.old.me.0.kind ≡ 1) × (place.old.me.0.number ≡ number) × (place.old.me.0.known.phase ≡ Idle) × (place.old.me.0.known.found ≡ 0) × IsBare place.old.me.0 }
-    requires gone { place.old.me.0.waits ≡ [] }
-    requires spare { (place.old.me.0.spare ≡ spare) × (spare < 2 ^ 31) × ((tail : List (ℕ × Home T)) × HasSpare (IsIn H.holds) place.old.me tail) }
-    ensures { (place.new.table_id ≡ place.old.table_id) × (place.new.id ≡ place.old.id) × (place.new.me ≡ (spent, rest place.old.me.1)) }
+pub fn end<T, H: Holding<T>>(words: &Words<T, H>, seat: &mut Seat<T>, number: usize, spare: u64)
+    requires table { (seat.old.table_id ≡ words.now.table_id) × (number < 2 ^ 30) × (claim_word number < words.now.table_id.words) }
+    requires rests { (seat.old.me.0.kind ≡ 1) × (seat.old.me.0.number ≡ number) × (seat.old.me.0.known.phase ≡ Idle) × (seat.old.me.0.known.found ≡ 0) × IsBare seat.old.me.0 }
+    requires gone { seat.old.me.0.waits ≡ [] }
+    requires spare { (seat.old.me.0.spare ≡ spare) × (spare < 2 ^ 31) × ((tail : List (ℕ × Home T)) × HasSpare (IsIn H.holds) seat.old.me tail) }
+    ensures { (seat.new.table_id ≡ seat.old.table_id) × (seat.new.id ≡ seat.old.id) × (seat.new.me ≡ (spent, rest seat.old.me.1)) }
 {
-    words.store::<OnEnd>(place, STRIDE * number + CLAIM, spare + 1);
+    words.store::<OnEnd>(seat, STRIDE * number + CLAIM, spare + 1);
 }
 
 /// Reads the count of raises, for an opening.
-pub fn read_count<T, H: Holding<T>>(words: &Words<T, H>, place: &mut Place<T>) -> u64
-    requires table { (place.old.table_id ≡ words.now.table_id) × (0 < words.now.table_id.words) }
-    requires closed { (place.old.me.0.kind ≡ 1) × (place.old.me.0.known.phase ≡ Idle) × (place.old.me.0.scan ≡ 0) }
-    ensures { (place.new.table_id ≡ place.old.table_id) × (place.new.id ≡ place.old.id) × (place.new.me ≡ (record place.old.me.0 { known = reading result place.old.me.0.known }, place.old.me.1)) }
+pub fn read_count<T, H: Holding<T>>(words: &Words<T, H>, seat: &mut Seat<T>) -> u64
+    requires table { (seat.old.table_id ≡ words.now.table_id) × (0 < words.now.table_id.words) }
+    requires closed { (seat.old.me.0.kind ≡ 1) × (seat.old.me.0.known.phase ≡ Idle) × (seat.old.me.0.scan ≡ 0) }
+    ensures { (seat.new.table_id ≡ seat.old.table_id) × (seat.new.id ≡ seat.old.id) × (seat.new.me ≡ (record seat.old.me.0 { known = reading result seat.old.me.0.known }, seat.old.me.1)) }
 {
-    words.load::<OnRead>(place, COUNT)
+    words.load::<OnRead>(seat, COUNT)
 }
 
 /// Publishes the count that was read, and with it does the rotation that is due.
-pub fn publish<T, H: Holding<T>>(
-    words: &Words<T, H>,
-    place: &mut Place<T>,
-    number: usize,
-    epoch: u64,
-)
-    requires table { (place.old.table_id ≡ words.now.table_id) × (number < 2 ^ 30) × (claim_word number < words.now.table_id.words) }
-    requires read { (place.old.me.0.kind ≡ 1) × (place.old.me.0.number ≡ number) × (place.old.me.0.known.phase ≡ HasRead epoch) × (place.old.me.0.scan ≡ 0) }
-    ensures seat { (place.new.table_id ≡ place.old.table_id) × (place.new.id ≡ place.old.id) }
-    ensures published { HasPublished epoch place.old.me place.new.me }
+pub fn publish<T, H: Holding<T>>(words: &Words<T, H>, seat: &mut Seat<T>, number: usize, epoch: u64)
+    requires table { (seat.old.table_id ≡ words.now.table_id) × (number < 2 ^ 30) × (claim_word number < words.now.table_id.words) }
+    requires read { (seat.old.me.0.kind ≡ 1) × (seat.old.me.0.number ≡ number) × (seat.old.me.0.known.phase ≡ HasRead epoch) × (seat.old.me.0.scan ≡ 0) }
+    ensures seat { (seat.new.table_id ≡ seat.old.table_id) × (seat.new.id ≡ seat.old.id) }
+    ensures published { HasPublished epoch seat.old.me seat.new.me }
 {
-    words.store::<OnPublish>(place, STRIDE * number + STATE, word_of(epoch));
+    words.store::<OnPublish>(seat, STRIDE * number + STATE, word_of(epoch));
 }
 
 /// Reads the count of raises under an open guard.
-pub fn count_under<T, H: Holding<T>>(words: &Words<T, H>, place: &mut Place<T>, epoch: u64) -> u64
-    requires table { (place.old.table_id ≡ words.now.table_id) × (0 < words.now.table_id.words) }
-    requires open { (place.old.me.0.kind ≡ 1) × (place.old.me.0.known.phase ≡ Opened epoch) }
-    ensures seat { (place.new.table_id ≡ place.old.table_id) × (place.new.id ≡ place.old.id) × (place.new.me ≡ place.old.me) }
-    ensures least { place.old.me.0.born ≤ result }
-    ensures most { result ≤ place.old.me.0.born + 1 }
+pub fn count_under<T, H: Holding<T>>(words: &Words<T, H>, seat: &mut Seat<T>, epoch: u64) -> u64
+    requires table { (seat.old.table_id ≡ words.now.table_id) × (0 < words.now.table_id.words) }
+    requires open { (seat.old.me.0.kind ≡ 1) × (seat.old.me.0.known.phase ≡ Opened epoch) }
+    ensures seat { (seat.new.table_id ≡ seat.old.table_id) × (seat.new.id ≡ seat.old.id) × (seat.new.me ≡ seat.old.me) }
+    ensures least { seat.old.me.0.born ≤ result }
+    ensures most { result ≤ seat.old.me.0.born + 1 }
 {
-    words.load::<OnCount>(place, COUNT)
+    words.load::<OnCount>(seat, COUNT)
 }
 
 /// That the scan lock was tried for once, and whether it was free. Only `take_lock` makes one.
@@ -241,83 +236,83 @@ impl Tried {
 /// Tries once for the scan lock.
 pub(crate) fn take_lock<T, H: Holding<T>>(
     words: &Words<T, H>,
-    place: &mut Place<T>,
+    seat: &mut Seat<T>,
     number: usize,
     epoch: u64,
 ) -> Tried
-    requires { (place.old.table_id ≡ words.now.table_id) × (lock_word < words.now.table_id.words) × Scans place.old number epoch 0 }
-    ensures seat { (place.new.table_id ≡ place.old.table_id) × (place.new.id ≡ place.old.id) × Steady place.old.me place.new.me }
-    ensures stage { MatchBool result.got (Scans place.new number epoch 1) (Scans place.new number epoch 0) }
+    requires { (seat.old.table_id ≡ words.now.table_id) × (lock_word < words.now.table_id.words) × Scans seat.old number epoch 0 }
+    ensures seat { (seat.new.table_id ≡ seat.old.table_id) × (seat.new.id ≡ seat.old.id) × Steady seat.old.me seat.new.me }
+    ensures stage { MatchBool result.got (Scans seat.new number epoch 1) (Scans seat.new number epoch 0) }
 {
-    let found = words.compare_exchange::<OnLock>(place, LOCK, 0, 1);
+    let found = words.compare_exchange::<OnLock>(seat, LOCK, 0, 1);
     Tried { got: found == 0 }
 }
 
 /// Whether the count is still the published one, under the scan lock.
 pub(crate) fn is_present<T, H: Holding<T>>(
     words: &Words<T, H>,
-    place: &mut Place<T>,
+    seat: &mut Seat<T>,
     number: usize,
     epoch: u64,
 ) -> bool
-    requires { (place.old.table_id ≡ words.now.table_id) × (0 < words.now.table_id.words) × Scans place.old number epoch 1 }
-    ensures seat { (place.new.table_id ≡ place.old.table_id) × (place.new.id ≡ place.old.id) × Steady place.old.me place.new.me }
-    ensures stage { MatchBool result (Scans place.new number epoch 2) (Scans place.new number epoch 1) }
+    requires { (seat.old.table_id ≡ words.now.table_id) × (0 < words.now.table_id.words) × Scans seat.old number epoch 1 }
+    ensures seat { (seat.new.table_id ≡ seat.old.table_id) × (seat.new.id ≡ seat.old.id) × Steady seat.old.me seat.new.me }
+    ensures stage { MatchBool result (Scans seat.new number epoch 2) (Scans seat.new number epoch 1) }
 {
-    words.load::<OnAgree>(place, COUNT) == epoch
+    words.load::<OnAgree>(seat, COUNT) == epoch
 }
 
 /// Gives the scan lock back. Condition: what ended participants left was looked for at each number.
 pub(crate) fn give_lock<T, H: Holding<T>>(
     words: &Words<T, H>,
-    place: &mut Place<T>,
+    seat: &mut Seat<T>,
     number: usize,
     epoch: u64,
     looks: Looks,
 )
-    requires lock { (place.old.table_id ≡ words.now.table_id) × (lock_word < words.now.table_id.words) × (Scans place.old number epoch 1 ⊎ Scans place.old number epoch 2) }
+    requires lock { (seat.old.table_id ≡ words.now.table_id) × (lock_word < words.now.table_id.words) × (Scans seat.old number epoch 1 ⊎ Scans seat.old number epoch 2) }
     requires looked { HasLookedAtAll words.now.key.sizes.participants looks }
-    ensures { (place.new.table_id ≡ place.old.table_id) × (place.new.id ≡ place.old.id) × Steady place.old.me place.new.me × Scans place.new number epoch 0 }
+    ensures { (seat.new.table_id ≡ seat.old.table_id) × (seat.new.id ≡ seat.old.id) × Steady seat.old.me seat.new.me × Scans seat.new number epoch 0 }
 {
     drop(looks);
-    words.store::<OnUnlock>(place, LOCK, 0);
+    words.store::<OnUnlock>(seat, LOCK, 0);
 }
 
 /// Whether the other is closed or has published the same count. It is asked under the scan lock, while the count is
 /// the published one.
 fn look_at<T, H: Holding<T>>(
     words: &Words<T, H>,
-    place: &mut Place<T>,
+    seat: &mut Seat<T>,
     other: usize,
     epoch: u64,
 ) -> bool
-    requires table { HasEpochOf words.now.table_id words.now.key.sizes place.old.table_id other }
-    requires open { (place.old.me.0.kind ≡ 1) × (place.old.me.0.number ≢ other) × (place.old.me.0.known.phase ≡ Opened epoch) × (place.old.me.0.known.found ≡ epoch) × (place.old.me.0.scan ≡ 2) }
+    requires table { HasEpochOf words.now.table_id words.now.key.sizes seat.old.table_id other }
+    requires open { (seat.old.me.0.kind ≡ 1) × (seat.old.me.0.number ≢ other) × (seat.old.me.0.known.phase ≡ Opened epoch) × (seat.old.me.0.known.found ≡ epoch) × (seat.old.me.0.scan ≡ 2) }
     requires below { epoch < 2 ^ 64 - 1 }
-    ensures seat { (place.new.table_id ≡ place.old.table_id) × (place.new.id ≡ place.old.id) }
-    ensures noted { IsTrue result → place.new.me ≡ (record place.old.me.0 { known = looking other place.old.me.0.known }, place.old.me.1) }
-    ensures not_noted { IsFalse result → place.new.me ≡ place.old.me }
+    ensures seat { (seat.new.table_id ≡ seat.old.table_id) × (seat.new.id ≡ seat.old.id) }
+    ensures noted { IsTrue result → seat.new.me ≡ (record seat.old.me.0 { known = looking other seat.old.me.0.known }, seat.old.me.1) }
+    ensures not_noted { IsFalse result → seat.new.me ≡ seat.old.me }
 {
-    let found = words.load::<OnLook>(place, STRIDE * other + STATE);
+    let found = words.load::<OnLook>(seat, STRIDE * other + STATE);
     found == 0 || found == epoch + 1
 }
 
 /// The same, for what a scan needs of it: who was looked at before stays so.
 pub(crate) fn look<T, H: Holding<T>>(
     words: &Words<T, H>,
-    place: &mut Place<T>,
+    seat: &mut Seat<T>,
     number: usize,
     other: usize,
     epoch: u64,
 ) -> bool
-    requires table { HasEpochOf words.now.table_id words.now.key.sizes place.old.table_id other }
-    requires open { Scans place.old number epoch 2 × (number ≢ other) }
+    requires table { HasEpochOf words.now.table_id words.now.key.sizes seat.old.table_id other }
+    requires open { Scans seat.old number epoch 2 × (number ≢ other) }
     requires below { epoch < 2 ^ 64 - 1 }
-    ensures seat { (place.new.table_id ≡ place.old.table_id) × (place.new.id ≡ place.old.id) × Steady place.old.me place.new.me × Scans place.new number epoch 2 }
-    ensures noted { IsTrue result → Has place.new.me.0.known.looked other }
-    ensures more { (q : ℕ) → Has place.old.me.0.known.looked q → Has place.new.me.0.known.looked q }
+    ensures seat { (seat.new.table_id ≡ seat.old.table_id) × (seat.new.id ≡ seat.old.id) × Steady seat.old.me seat.new.me × Scans seat.new number epoch 2 }
+    ensures noted { IsTrue result → Has seat.new.me.0.known.looked other }
+    ensures more { (q : ℕ) → Has seat.old.me.0.known.looked q → Has seat.new.me.0.known.looked q }
 {
-    if look_at(words, place, other, epoch) {
+    if look_at(words, seat, other, epoch) {
         true
     } else {
         false
@@ -327,15 +322,15 @@ pub(crate) fn look<T, H: Holding<T>>(
 /// Raises the count by one, where everybody else was looked at.
 pub(crate) fn raise<T, H: Holding<T>>(
     words: &Words<T, H>,
-    place: &mut Place<T>,
+    seat: &mut Seat<T>,
     number: usize,
     epoch: u64,
 )
-    requires table { (place.old.table_id ≡ words.now.table_id) × (0 < words.now.table_id.words) }
-    requires open { Scans place.old number epoch 2 }
-    requires all { (q : ℕ) → q < words.now.key.sizes.participants → q ≢ number → Has place.old.me.0.known.looked q }
+    requires table { (seat.old.table_id ≡ words.now.table_id) × (0 < words.now.table_id.words) }
+    requires open { Scans seat.old number epoch 2 }
+    requires all { (q : ℕ) → q < words.now.key.sizes.participants → q ≢ number → Has seat.old.me.0.known.looked q }
     requires below { epoch < 2 ^ 64 - 1 }
-    ensures { (place.new.table_id ≡ place.old.table_id) × (place.new.id ≡ place.old.id) × Steady place.old.me place.new.me × Scans place.new number epoch 1 }
+    ensures { (seat.new.table_id ≡ seat.old.table_id) × (seat.new.id ≡ seat.old.id) × Steady seat.old.me seat.new.me × Scans seat.new number epoch 1 }
 {
-    words.store::<OnRaise>(place, COUNT, epoch + 1);
+    words.store::<OnRaise>(seat, COUNT, epoch + 1);
 }

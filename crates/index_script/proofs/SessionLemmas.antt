@@ -4,19 +4,19 @@ use Rattle.std.specs.List.{All, AllByRecursion}
 use Rattle.std.proofs.lemmas.List.Elements.{All-from_recursion}
 use Rattle.local_index.specs.Store.{Version}
 use Rattle.local_index.specs.Desk.{Machine, KeepsAll, Serves, cleared}
-use Rattle.local_index.specs.declared.desk.Seat.{Seat}
+use Rattle.local_index.specs.declared.desk.Ticket.{Ticket}
 
--- each session of the places sits in the seats
-abbrev Sits : {K V : Type 0} → List (Option (Seat K V)) → List (Option (Version K V)) → Type 0
-Sits {K} {V} seats places = (place : ℕ) (version : Version K V) → slice_get places place ≡ Some (Some version) → (seat : Seat K V) × (slice_get seats place ≡ Some (Some seat))
+-- each session of the places has its ticket
+abbrev Sits : {K V : Type 0} → List (Option (Ticket K V)) → List (Option (Version K V)) → Type 0
+Sits {K} {V} tickets places = (place : ℕ) (version : Version K V) → slice_get places place ≡ Some (Some version) → (ticket : Ticket K V) × (slice_get tickets place ≡ Some (Some ticket))
 
-none_left : {K V : Type 0} (seats : List (Option (Seat K V))) (places : List (Option (Version K V))) → length places ≤ length seats → Sits seats places → AllByRecursion (λ p. p ≡ None) (cleared seats places)
-none_left [] [] room sits = tt
-none_left [] (place ∷ places) room sits = absurd (omega (arith, room))
-none_left (seat ∷ seats) [] room sits = tt
-none_left (None ∷ seats) (None ∷ places) room sits = (refl, none_left seats places (omega (arith, room)) (λ place version h. sits (suc place) version h))
-none_left (None ∷ seats) (Some version ∷ places) room sits = let s = sits zero version refl in absurd (let e = s.1 in cc)
-none_left (Some seat ∷ seats) (place ∷ places) room sits = (refl, none_left seats places (omega (arith, room)) (λ place version h. sits (suc place) version h))
+none_left : {K V : Type 0} (tickets : List (Option (Ticket K V))) (places : List (Option (Version K V))) → length places ≤ length tickets → Sits tickets places → AllByRecursion (λ p. p ≡ None) (cleared tickets places)
+none_left [] [] room keeps = tt
+none_left [] (place ∷ places) room keeps = absurd (omega (arith, room))
+none_left (ticket ∷ tickets) [] room keeps = tt
+none_left (None ∷ tickets) (None ∷ places) room keeps = (refl, none_left tickets places (omega (arith, room)) (λ place version h. keeps (suc place) version h))
+none_left (None ∷ tickets) (Some version ∷ places) room keeps = let s = keeps zero version refl in absurd (let e = s.1 in cc)
+none_left (Some ticket ∷ tickets) (place ∷ places) room keeps = (refl, none_left tickets places (omega (arith, room)) (λ place version h. keeps (suc place) version h))
 
 -- no session is left where the desk had them all
 pub cleared_idle : {K V : Type 0} (m : Machine K V) → Serves m → KeepsAll m → All (λ p. p ≡ None) (cleared m.desk m.index.places)
@@ -37,8 +37,8 @@ pub fresh_serves : {K V : Type 0} (m : Machine K V) (n : ℕ) → m.desk ≡ rep
 fresh_serves m n desk places = (
   record {
     room = rw (desk, places) (no_shorter n None None);
-    placed = λ place seat h. absurd (none_taken n place seat m.desk desk h);
-    opened = λ place seat h. absurd (none_taken n place seat m.desk desk h);
+    placed = λ place ticket h. absurd (none_taken n place ticket m.desk desk h);
+    opened = λ place ticket h. absurd (none_taken n place ticket m.desk desk h);
   },
   λ place version h. absurd (none_taken n place version m.index.places places h),
 )

@@ -28,7 +28,7 @@ pub struct Script<const S: usize> {
     line: u64,
 }
 
-/// Invariant: `local_index`'s specs/Desk.antt, Serves and KeepsAll: each session of the desk is open, and each open one sits
+/// Invariant: `local_index`'s specs/Desk.antt, Serves and KeepsAll: each session of the desk is open, and each open one is
 /// at the desk.
 impl<const S: usize> Model for Script<S> {
     ghost use Rattle.local_index.specs.Desk.{Serves, KeepsAll};

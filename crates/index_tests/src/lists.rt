@@ -318,7 +318,7 @@ impl Lists {
     ) -> Result<(), AllocError> {
         self.meets(met_by(&turn.call, reply, self.start.number, self.number()));
         match (&turn.call, reply) {
-            (DeskCall::Open(label), DeskReply::Opened(_)) => self.sit(alloc, *label),
+            (DeskCall::Open(label), DeskReply::Opened(_)) => self.keep(alloc, *label),
             (DeskCall::Close(label), DeskReply::Closed(_)) => {
                 let left = *label;
                 self.sessions.retain(|session| session.label != left);
@@ -347,7 +347,7 @@ impl Lists {
     }
 
     // A session opens on the present list.
-    fn sit(&mut self, alloc: Global, label: u64) -> Result<(), AllocError> {
+    fn keep(&mut self, alloc: Global, label: u64) -> Result<(), AllocError> {
         let sitting = Sitting {
             label,
             number: self.number(),

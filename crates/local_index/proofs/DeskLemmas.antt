@@ -11,8 +11,8 @@ use Rattle.serial_history.specs.declared.query.Query.{Query}
 use Rattle.serial_history.specs.declared.query.Answer.{Answer}
 use Rattle.local_versions.specs.Store.{Version}
 use Rattle.local_index.specs.State.{State, OpenSession, IsSessionAt, IsSessionOf, IsOpenAt, Opens, Closes, Reads, list_read, list_there, present}
-use Rattle.local_index.specs.Desk.{Step, Run, Machine, Serves, KeepsAll, SitsAt, IsUnknown, LeavesSeat, TakesSeat, cleared, reply_of}
-use Rattle.local_index.specs.declared.desk.Seat.{Seat}
+use Rattle.local_index.specs.Desk.{Step, Run, Machine, Serves, KeepsAll, IsTicketAt, IsUnknown, ReturnsTicket, TakesTicket, cleared, reply_of}
+use Rattle.local_index.specs.declared.desk.Ticket.{Ticket}
 use Rattle.local_index.specs.declared.play.DeskCall.{DeskCall}
 use Rattle.local_index.specs.declared.play.DeskReply.{DeskReply}
 use Rattle.local_index.specs.declared.play.DeskReply.TheVariants as replies
@@ -85,7 +85,7 @@ lent_some P None x e = absurd cc
 lent_some P (Some b) x e = tt
 
 module _ {K V : Type 0} where
-  kept-room : (old new : State K V) (desk : List (Option (Seat K V))) (place : ℕ) (p : Option (Version K V)) (s : Option (Seat K V)) → Serves (record { index = old; desk = desk }) → new ≡ record old { places = set old.places place p } → length new.places ≤ length (set desk place s)
+  kept-room : (old new : State K V) (desk : List (Option (Ticket K V))) (place : ℕ) (p : Option (Version K V)) (s : Option (Ticket K V)) → Serves (record { index = old; desk = desk }) → new ≡ record old { places = set old.places place p } → length new.places ≤ length (set desk place s)
   kept-room old new desk place p s serves e = let k = serves.room in omega (arith, ap (λ (n : State K V). length n.places) e, length-set old.places place p, length-set desk place s)
 
   -- a session stands where the write didn't go
@@ -102,176 +102,176 @@ module _ {K V : Type 0} where
       let v : Version K V = record { number = session.receipt.number; pairs = present cmp old } in
       session_there new session.place v (ap (λ (x : State K V). slice_get x.places session.place) opens.changed ∙ set-there old.places session.place (Some v) None opens.free)
 
-  -- the same of a seat, whose session is at the seat's place
-  kept-seat : (old new : State K V) (place : ℕ) (p : Option (Version K V)) (at : ℕ) (seat : Seat K V) → new ≡ record old { places = set old.places place p } → place ≢ at → seat.session.place ≡ at → IsSessionOf old seat.session → IsSessionOf new seat.session
-  kept-seat old new place p at seat e n here h =
-      let v : Version K V = record { number = seat.session.receipt.number; pairs = list_read old seat.session } in
-      session_there new seat.session.place v (kept-open old new place p seat.session.place v e (λ same. n (same ∙ here)) h)
+  -- the same of a ticket, whose session is at the ticket's place
+  kept-ticket : (old new : State K V) (place : ℕ) (p : Option (Version K V)) (at : ℕ) (ticket : Ticket K V) → new ≡ record old { places = set old.places place p } → place ≢ at → ticket.session.place ≡ at → IsSessionOf old ticket.session → IsSessionOf new ticket.session
+  kept-ticket old new place p at ticket e n here h =
+      let v : Version K V = record { number = ticket.session.receipt.number; pairs = list_read old ticket.session } in
+      session_there new ticket.session.place v (kept-open old new place p ticket.session.place v e (λ same. n (same ∙ here)) h)
 
-  serves-leave : (old new : State K V) (desk : List (Option (Seat K V))) (place : ℕ) → Serves (record { index = old; desk = desk }) → Closes old place new → Serves (record { index = new; desk = set desk place None })
+  serves-leave : (old new : State K V) (desk : List (Option (Ticket K V))) (place : ℕ) → Serves (record { index = old; desk = desk }) → Closes old place new → Serves (record { index = new; desk = set desk place None })
   serves-leave old new desk place s closes = record {
     room = kept-room old new desk place None None s closes;
-    placed = λ at seat h. ⊎_elim (λ q. absurd (let d = q.1 in cc)) (λ q. s.placed at seat q.1) (get-set desk place None at (Some seat) h);
-    opened = λ at seat h. ⊎_elim (λ q. absurd (let d = q.1 in cc)) (λ q. kept-seat old new place None at seat closes q.0 (s.placed at seat q.1) (s.opened at seat q.1)) (get-set desk place None at (Some seat) h);
+    placed = λ at ticket h. ⊎_elim (λ q. absurd (let d = q.1 in cc)) (λ q. s.placed at ticket q.1) (get-set desk place None at (Some ticket) h);
+    opened = λ at ticket h. ⊎_elim (λ q. absurd (let d = q.1 in cc)) (λ q. kept-ticket old new place None at ticket closes q.0 (s.placed at ticket q.1) (s.opened at ticket q.1)) (get-set desk place None at (Some ticket) h);
   }
 
-  pub serves-sit : (cmp : K → K → Ordering) (old new : State K V) (desk : List (Option (Seat K V))) (seat : Seat K V) → Serves (record { index = old; desk = desk }) → Opens cmp old seat.session new → Serves (record { index = new; desk = set desk seat.session.place (Some seat) })
-  serves-sit cmp old new desk seat s opens =
-      let place : ℕ = seat.session.place in
-      let v : Version K V = record { number = seat.session.receipt.number; pairs = present cmp old } in
-      let here : IsSessionOf new seat.session = session_opened cmp old new seat.session opens in
+  pub serves-keep : (cmp : K → K → Ordering) (old new : State K V) (desk : List (Option (Ticket K V))) (ticket : Ticket K V) → Serves (record { index = old; desk = desk }) → Opens cmp old ticket.session new → Serves (record { index = new; desk = set desk ticket.session.place (Some ticket) })
+  serves-keep cmp old new desk ticket s opens =
+      let place : ℕ = ticket.session.place in
+      let v : Version K V = record { number = ticket.session.receipt.number; pairs = present cmp old } in
+      let here : IsSessionOf new ticket.session = session_opened cmp old new ticket.session opens in
       record {
-        room = kept-room old new desk place (Some v) (Some seat) s opens.changed;
-        placed = λ at one h. ⊎_elim (λ q. let same : one ≡ seat = (let d = q.1 in cc) in ap (λ (x : Seat K V). x.session.place) same ∙ q.0) (λ q. s.placed at one q.1) (get-set desk place (Some seat) at (Some one) h);
+        room = kept-room old new desk place (Some v) (Some ticket) s opens.changed;
+        placed = λ at one h. ⊎_elim (λ q. let same : one ≡ ticket = (let d = q.1 in cc) in ap (λ (x : Ticket K V). x.session.place) same ∙ q.0) (λ q. s.placed at one q.1) (get-set desk place (Some ticket) at (Some one) h);
         opened = λ at one h. ⊎_elim
-            (λ q. let same : one ≡ seat = (let d = q.1 in cc) in subst (λ (x : Seat K V). IsSessionOf new x.session) (sym same) here)
-            (λ q. kept-seat old new place (Some v) at one opens.changed q.0 (s.placed at one q.1) (s.opened at one q.1))
-            (get-set desk place (Some seat) at (Some one) h);
+            (λ q. let same : one ≡ ticket = (let d = q.1 in cc) in subst (λ (x : Ticket K V). IsSessionOf new x.session) (sym same) here)
+            (λ q. kept-ticket old new place (Some v) at one opens.changed q.0 (s.placed at one q.1) (s.opened at one q.1))
+            (get-set desk place (Some ticket) at (Some one) h);
       }
 
   -- a commit moves no session
-  pub serves-same : (old new : State K V) (desk : List (Option (Seat K V))) → Serves (record { index = old; desk = desk }) → new.places ≡ old.places → Serves (record { index = new; desk = desk })
+  pub serves-same : (old new : State K V) (desk : List (Option (Ticket K V))) → Serves (record { index = old; desk = desk }) → new.places ≡ old.places → Serves (record { index = new; desk = desk })
   serves-same old new desk s e = record {
     room = let k = s.room in omega (arith, ap length e);
     placed = s.placed;
-    opened = λ at seat h. subst (λ (ps : List (Option (Version K V))). slice_get ps seat.session.place ≡ Some (Some (record { number = seat.session.receipt.number; pairs = list_there (slice_get ps seat.session.place) }))) (sym e) (s.opened at seat h);
+    opened = λ at ticket h. subst (λ (ps : List (Option (Version K V))). slice_get ps ticket.session.place ≡ Some (Some (record { number = ticket.session.receipt.number; pairs = list_there (slice_get ps ticket.session.place) }))) (sym e) (s.opened at ticket h);
   }
 
-  empty : (old : State K V) (desk : List (Option (Seat K V))) (place : ℕ) (x : Option (Seat K V)) → Serves (record { index = old; desk = desk }) → slice_get old.places place ≡ Some None → slice_get desk place ≡ Some x → slice_get desk place ≡ Some None
+  empty : (old : State K V) (desk : List (Option (Ticket K V))) (place : ℕ) (x : Option (Ticket K V)) → Serves (record { index = old; desk = desk }) → slice_get old.places place ≡ Some None → slice_get desk place ≡ Some x → slice_get desk place ≡ Some None
   empty old desk place None s free h = h
-  empty old desk place (Some seat) s free h = absurd (let o = s.opened place seat h in let p = s.placed place seat h in cc)
+  empty old desk place (Some ticket) s free h = absurd (let o = s.opened place ticket h in let p = s.placed place ticket h in cc)
 
-  -- the seat of a free place is free
-  pub serves-free : (old : State K V) (desk : List (Option (Seat K V))) (place : ℕ) → Serves (record { index = old; desk = desk }) → slice_get old.places place ≡ Some None → slice_get desk place ≡ Some None
+  -- the desk has no ticket at a free place
+  pub serves-free : (old : State K V) (desk : List (Option (Ticket K V))) (place : ℕ) → Serves (record { index = old; desk = desk }) → slice_get old.places place ≡ Some None → slice_get desk place ≡ Some None
   serves-free old desk place s free =
       let k = s.room in
       let w = slice_get_within old.places place None free in
       ⊎_elim (λ q. empty old desk place q.0 s free q.2) (λ q. absurd (omega (arith, q.0))) (slice_get_cases desk place).1
 
   -- a session that closes has left
-  pub leaves : (old new : State K V) (desk desk' : List (Option (Seat K V))) (label : ℕ) (receipt : Receipt K V) (seat : Seat K V) → Serves (record { index = old; desk = desk }) → (place : ℕ) × SitsAt desk label place seat × (desk' ≡ set desk place None) → receipt ≡ seat.session.receipt → Closes old seat.session.place new → LeavesSeat (record { index = old; desk = desk }) label receipt (record { index = new; desk = desk' }) × Serves (record { index = new; desk = desk' })
-  leaves old new desk desk' label receipt seat s sat gives closes =
-      let closed : Closes old sat.0 new = subst (λ p. Closes old p new) (s.placed sat.0 seat sat.1.there) closes in (
-        record { place = sat.0; seat = seat; sat = sat.1; gives = gives; closes = closed; left = sat.2 },
-        subst (λ rest. Serves (record { index = new; desk = rest })) (sym sat.2) (serves-leave old new desk sat.0 s closed),
+  pub leaves : (old new : State K V) (desk desk' : List (Option (Ticket K V))) (label : ℕ) (receipt : Receipt K V) (ticket : Ticket K V) → Serves (record { index = old; desk = desk }) → (place : ℕ) × IsTicketAt desk label place ticket × (desk' ≡ set desk place None) → receipt ≡ ticket.session.receipt → Closes old ticket.session.place new → ReturnsTicket (record { index = old; desk = desk }) label receipt (record { index = new; desk = desk' }) × Serves (record { index = new; desk = desk' })
+  leaves old new desk desk' label receipt ticket s shown gives closes =
+      let closed : Closes old shown.0 new = subst (λ p. Closes old p new) (s.placed shown.0 ticket shown.1.there) closes in (
+        record { place = shown.0; ticket = ticket; shown = shown.1; gives = gives; closes = closed; left = shown.2 },
+        subst (λ rest. Serves (record { index = new; desk = rest })) (sym shown.2) (serves-leave old new desk shown.0 s closed),
       )
 
-  -- a session that opens has taken its seat
-  pub takes : (cmp : K → K → Ordering) (old new : State K V) (desk desk' : List (Option (Seat K V))) (label number : ℕ) (session : OpenSession K V) → IsUnknown desk label → Opens cmp old session new → number ≡ session.receipt.number → desk' ≡ set desk session.place (Some (record { label = label; session = session })) → TakesSeat cmp (record { index = old; desk = desk }) label number (record { index = new; desk = desk' })
-  takes cmp old new desk desk' label number session unknown opens told seated = record {
+  -- a session that opens gets a ticket
+  pub takes : (cmp : K → K → Ordering) (old new : State K V) (desk desk' : List (Option (Ticket K V))) (label number : ℕ) (session : OpenSession K V) → IsUnknown desk label → Opens cmp old session new → number ≡ session.receipt.number → desk' ≡ set desk session.place (Some (record { label = label; session = session })) → TakesTicket cmp (record { index = old; desk = desk }) label number (record { index = new; desk = desk' })
+  takes cmp old new desk desk' label number session unknown opens told ticketed = record {
     unknown = unknown;
     session = session;
     opens = opens;
     told = told;
-    seated = seated;
+    ticketed = ticketed;
   }
 
   -- the last session of a desk closes: what is left to clear is cleared of the rest
-  cleared-last : (desk : List (Option (Seat K V))) (seat : Seat K V) (places : List (Option (Version K V))) → cleared (desk ++ Some seat ∷ []) places ≡ cleared desk (set places (length desk) None)
-  cleared-last [] seat [] = refl
-  cleared-last [] seat (p ∷ ps) = refl
-  cleared-last (d ∷ desk) seat [] = refl
-  cleared-last (None ∷ desk) seat (p ∷ ps) = ap (λ l. p ∷ l) (cleared-last desk seat ps)
-  cleared-last (Some s ∷ desk) seat (p ∷ ps) = ap (λ l. None ∷ l) (cleared-last desk seat ps)
+  cleared-last : (desk : List (Option (Ticket K V))) (ticket : Ticket K V) (places : List (Option (Version K V))) → cleared (desk ++ Some ticket ∷ []) places ≡ cleared desk (set places (length desk) None)
+  cleared-last [] ticket [] = refl
+  cleared-last [] ticket (p ∷ ps) = refl
+  cleared-last (d ∷ desk) ticket [] = refl
+  cleared-last (None ∷ desk) ticket (p ∷ ps) = ap (λ l. p ∷ l) (cleared-last desk ticket ps)
+  cleared-last (Some s ∷ desk) ticket (p ∷ ps) = ap (λ l. None ∷ l) (cleared-last desk ticket ps)
 
-  cleared-free : (desk : List (Option (Seat K V))) (places : List (Option (Version K V))) → cleared (desk ++ None ∷ []) places ≡ cleared desk places
+  cleared-free : (desk : List (Option (Ticket K V))) (places : List (Option (Version K V))) → cleared (desk ++ None ∷ []) places ≡ cleared desk places
   cleared-free [] [] = refl
   cleared-free [] (p ∷ ps) = refl
   cleared-free (d ∷ desk) [] = refl
   cleared-free (None ∷ desk) (p ∷ ps) = ap (λ l. p ∷ l) (cleared-free desk ps)
   cleared-free (Some s ∷ desk) (p ∷ ps) = ap (λ l. None ∷ l) (cleared-free desk ps)
 
-  -- a session that closes or opens takes its seat along
-  keeps-all-set : (old new : State K V) (desk : List (Option (Seat K V))) (place : ℕ) (p : Option (Version K V)) (s : Option (Seat K V)) → new ≡ record old { places = set old.places place p } → ((v : Version K V) → slice_get (set old.places place p) place ≡ Some (Some v) → (seat : Seat K V) × (slice_get (set desk place s) place ≡ Some (Some seat))) → KeepsAll (record { index = old; desk = desk }) → KeepsAll (record { index = new; desk = set desk place s })
+  -- a session that closes, or opens, does so with its ticket
+  keeps-all-set : (old new : State K V) (desk : List (Option (Ticket K V))) (place : ℕ) (p : Option (Version K V)) (s : Option (Ticket K V)) → new ≡ record old { places = set old.places place p } → ((v : Version K V) → slice_get (set old.places place p) place ≡ Some (Some v) → (ticket : Ticket K V) × (slice_get (set desk place s) place ≡ Some (Some ticket))) → KeepsAll (record { index = old; desk = desk }) → KeepsAll (record { index = new; desk = set desk place s })
   keeps-all-set old new desk place p s e here keeps at v h =
       let read : slice_get (set old.places place p) at ≡ Some (Some v) = ap (λ (x : State K V). slice_get x.places at) (sym e) ∙ h in
-      ⊎_elim (λ q. subst (λ a. (seat : Seat K V) × (slice_get (set desk place s) a ≡ Some (Some seat))) q.0 (here v (subst (λ a. slice_get (set old.places place p) a ≡ Some (Some v)) (sym q.0) read)))
+      ⊎_elim (λ q. subst (λ a. (ticket : Ticket K V) × (slice_get (set desk place s) a ≡ Some (Some ticket))) q.0 (here v (subst (λ a. slice_get (set old.places place p) a ≡ Some (Some v)) (sym q.0) read)))
       (λ q. let k = keeps at v q.1 in (k.0, set-other desk place s at q.0 ∙ k.1)) (get-set old.places place p at (Some v) read)
 
-  -- a session that has left has taken its seat along
-  pub keeps-all-leave : (old new : Machine K V) (label : ℕ) (receipt : Receipt K V) → LeavesSeat old label receipt new → KeepsAll old → KeepsAll new
+  -- a session that has left has no ticket
+  pub keeps-all-leave : (old new : Machine K V) (label : ℕ) (receipt : Receipt K V) → ReturnsTicket old label receipt new → KeepsAll old → KeepsAll new
   keeps-all-leave old new label receipt l keeps place number h =
-      subst (λ d. (seat : Seat K V) × (slice_get d place ≡ Some (Some seat))) (sym l.left)
+      subst (λ d. (ticket : Ticket K V) × (slice_get d place ≡ Some (Some ticket))) (sym l.left)
       (keeps-all-set old.index new.index old.desk l.place None None l.closes
       (λ n e. absurd (⊎_elim (λ q. let d = q.1 in cc) (λ q. q.0 refl) (get-set old.index.places l.place None l.place (Some n) e))) keeps place number h)
 
-  -- a session that has opened has its seat
-  pub keeps-all-sit : (cmp : K → K → Ordering) (old new : State K V) (desk desk' : List (Option (Seat K V))) (seat : Seat K V) → Opens cmp old seat.session new → desk' ≡ set desk seat.session.place (Some seat) → slice_get desk seat.session.place ≡ Some None → KeepsAll (record { index = old; desk = desk }) → KeepsAll (record { index = new; desk = desk' })
-  keeps-all-sit cmp old new desk desk' seat opens seated free keeps place n h =
-      subst (λ d. (seat : Seat K V) × (slice_get d place ≡ Some (Some seat))) (sym seated)
-      (keeps-all-set old new desk seat.session.place (Some (record { number = seat.session.receipt.number; pairs = present cmp old })) (Some seat) opens.changed
-      (λ m e. (seat, set-there desk seat.session.place (Some seat) None free)) keeps place n h)
+  -- a session that has opened has its ticket
+  pub keeps-all-keep : (cmp : K → K → Ordering) (old new : State K V) (desk desk' : List (Option (Ticket K V))) (ticket : Ticket K V) → Opens cmp old ticket.session new → desk' ≡ set desk ticket.session.place (Some ticket) → slice_get desk ticket.session.place ≡ Some None → KeepsAll (record { index = old; desk = desk }) → KeepsAll (record { index = new; desk = desk' })
+  keeps-all-keep cmp old new desk desk' ticket opens ticketed free keeps place n h =
+      subst (λ d. (ticket : Ticket K V) × (slice_get d place ≡ Some (Some ticket))) (sym ticketed)
+      (keeps-all-set old new desk ticket.session.place (Some (record { number = ticket.session.receipt.number; pairs = present cmp old })) (Some ticket) opens.changed
+      (λ m e. (ticket, set-there desk ticket.session.place (Some ticket) None free)) keeps place n h)
 
-  pub keeps-all-same : (old new : State K V) (desk : List (Option (Seat K V))) → new.places ≡ old.places → KeepsAll (record { index = old; desk = desk }) → KeepsAll (record { index = new; desk = desk })
+  pub keeps-all-same : (old new : State K V) (desk : List (Option (Ticket K V))) → new.places ≡ old.places → KeepsAll (record { index = old; desk = desk }) → KeepsAll (record { index = new; desk = desk })
   keeps-all-same old new desk e keeps place number h = keeps place number (ap (λ ps. slice_get ps place) (sym e) ∙ h)
 
-  -- a session that has read sits where it sat
-  pub serves-read : (index : State K V) (desk : List (Option (Seat K V))) (label place : ℕ) (seat : Seat K V) (session : OpenSession K V) → Serves (record { index = index; desk = desk }) → SitsAt desk label place seat → session.place ≡ seat.session.place → session.receipt.number ≡ seat.session.receipt.number → Serves (record { index = index; desk = set desk place (Some (record seat { session = session })) })
-  serves-read index desk label place seat session s sat same numbered =
-      let moved : Seat K V = record seat { session = session } in
-      let o = s.opened place seat sat.there in
-      let here : IsSessionOf index session = subst (λ p. IsSessionAt index p session.receipt.number) (sym same) (subst (λ n. IsSessionAt index seat.session.place n) (sym numbered) o) in
+  -- a session that has read keeps its place
+  pub serves-read : (index : State K V) (desk : List (Option (Ticket K V))) (label place : ℕ) (ticket : Ticket K V) (session : OpenSession K V) → Serves (record { index = index; desk = desk }) → IsTicketAt desk label place ticket → session.place ≡ ticket.session.place → session.receipt.number ≡ ticket.session.receipt.number → Serves (record { index = index; desk = set desk place (Some (record ticket { session = session })) })
+  serves-read index desk label place ticket session s shown same numbered =
+      let moved : Ticket K V = record ticket { session = session } in
+      let o = s.opened place ticket shown.there in
+      let here : IsSessionOf index session = subst (λ p. IsSessionAt index p session.receipt.number) (sym same) (subst (λ n. IsSessionAt index ticket.session.place n) (sym numbered) o) in
       record {
         room = let k = s.room in omega (arith, k, length-set desk place (Some moved));
         placed = λ at one h. ⊎_elim
-            (λ q. let is : one ≡ moved = (let d = q.1 in cc) in ap (λ (x : Seat K V). x.session.place) is ∙ same ∙ s.placed place seat sat.there ∙ q.0)
+            (λ q. let is : one ≡ moved = (let d = q.1 in cc) in ap (λ (x : Ticket K V). x.session.place) is ∙ same ∙ s.placed place ticket shown.there ∙ q.0)
             (λ q. s.placed at one q.1) (get-set desk place (Some moved) at (Some one) h);
         opened = λ at one h. ⊎_elim
-            (λ q. let is : one ≡ moved = (let d = q.1 in cc) in subst (λ (x : Seat K V). IsSessionOf index x.session) (sym is) here)
+            (λ q. let is : one ≡ moved = (let d = q.1 in cc) in subst (λ (x : Ticket K V). IsSessionOf index x.session) (sym is) here)
             (λ q. s.opened at one q.1) (get-set desk place (Some moved) at (Some one) h);
       }
 
-  pub keeps-all-read : (index : State K V) (desk : List (Option (Seat K V))) (place : ℕ) (seat : Seat K V) → KeepsAll (record { index = index; desk = desk }) → KeepsAll (record { index = index; desk = set desk place (Some seat) })
-  keeps-all-read index desk place seat keeps at number h = let k = keeps at number h in set-some desk place seat at k.0 k.1
+  pub keeps-all-read : (index : State K V) (desk : List (Option (Ticket K V))) (place : ℕ) (ticket : Ticket K V) → KeepsAll (record { index = index; desk = desk }) → KeepsAll (record { index = index; desk = set desk place (Some ticket) })
+  keeps-all-read index desk place ticket keeps at number h = let k = keeps at number h in set-some desk place ticket at k.0 k.1
 
-  -- a session that left and sits down again
-  pub sits-again : (desk left desk' : List (Option (Seat K V))) (place : ℕ) (at : ℕ) (seat : Seat K V) → left ≡ set desk place None → at ≡ place → desk' ≡ set left at (Some seat) → desk' ≡ set desk place (Some seat)
-  sits-again desk left desk' place at seat e same sat = sat ∙ ap (λ p. set left p (Some seat)) same ∙ ap (λ d. set d place (Some seat)) e ∙ set-set desk place None (Some seat)
+  -- a session that left and is kept again
+  pub files-again : (desk left desk' : List (Option (Ticket K V))) (place : ℕ) (at : ℕ) (ticket : Ticket K V) → left ≡ set desk place None → at ≡ place → desk' ≡ set left at (Some ticket) → desk' ≡ set desk place (Some ticket)
+  files-again desk left desk' place at ticket e same shown = shown ∙ ap (λ p. set left p (Some ticket)) same ∙ ap (λ d. set d place (Some ticket)) e ∙ set-set desk place None (Some ticket)
 
-  pub sits-unchanged : (desk desk' : List (Option (Seat K V))) (label place : ℕ) (seat again : Seat K V) → SitsAt desk label place seat → desk' ≡ set desk place (Some again) → again ≡ seat → desk' ≡ desk
-  sits-unchanged desk desk' label place seat again sat e same = e ∙ ap (λ s. set desk place (Some s)) same ∙ set-same desk place (Some seat) sat.there
+  pub files-unchanged : (desk desk' : List (Option (Ticket K V))) (label place : ℕ) (ticket again : Ticket K V) → IsTicketAt desk label place ticket → desk' ≡ set desk place (Some again) → again ≡ ticket → desk' ≡ desk
+  files-unchanged desk desk' label place ticket again shown e same = e ∙ ap (λ s. set desk place (Some s)) same ∙ set-same desk place (Some ticket) shown.there
 
-  -- from old with its desk, the sessions behind the seats that are left are closed
-  pub record Closing (desk : List (Option (Seat K V))) (old : State K V) (seats : List (Option (Seat K V))) (new : State K V) : Type 0 where
-    pub placed : (place : ℕ) (seat : Seat K V) → slice_get seats place ≡ Some (Some seat) → seat.session.place ≡ place
-    pub opened : (place : ℕ) (seat : Seat K V) → slice_get seats place ≡ Some (Some seat) → IsSessionOf new seat.session
-    pub places : cleared seats new.places ≡ cleared desk old.places
+  -- from old with its desk, the sessions behind the tickets that are left are closed
+  pub record Closing (desk : List (Option (Ticket K V))) (old : State K V) (tickets : List (Option (Ticket K V))) (new : State K V) : Type 0 where
+    pub placed : (place : ℕ) (ticket : Ticket K V) → slice_get tickets place ≡ Some (Some ticket) → ticket.session.place ≡ place
+    pub opened : (place : ℕ) (ticket : Ticket K V) → slice_get tickets place ≡ Some (Some ticket) → IsSessionOf new ticket.session
+    pub places : cleared tickets new.places ≡ cleared desk old.places
     pub others : new ≡ record old { places = new.places }
 
-  closing-free : (desk : List (Option (Seat K V))) (old : State K V) (seats rest : List (Option (Seat K V))) (new : State K V) → seats ≡ rest ++ None ∷ [] → Closing desk old seats new → Closing desk old rest new
-  closing-free desk old seats rest new e c = record {
-    placed = λ place seat h. c.placed place seat (rw e (get-front rest (None ∷ []) place (Some seat) h));
-    opened = λ place seat h. c.opened place seat (rw e (get-front rest (None ∷ []) place (Some seat) h));
+  closing-free : (desk : List (Option (Ticket K V))) (old : State K V) (tickets rest : List (Option (Ticket K V))) (new : State K V) → tickets ≡ rest ++ None ∷ [] → Closing desk old tickets new → Closing desk old rest new
+  closing-free desk old tickets rest new e c = record {
+    placed = λ place ticket h. c.placed place ticket (rw e (get-front rest (None ∷ []) place (Some ticket) h));
+    opened = λ place ticket h. c.opened place ticket (rw e (get-front rest (None ∷ []) place (Some ticket) h));
     places = sym (cleared-free rest new.places) ∙ ap (λ s. cleared s new.places) (sym e) ∙ c.places;
     others = c.others;
   }
 
-  closing-seat : (desk : List (Option (Seat K V))) (old : State K V) (seats rest : List (Option (Seat K V))) (seat : Seat K V) (mid new : State K V) → seats ≡ rest ++ Some seat ∷ [] → Closes mid seat.session.place new → Closing desk old seats mid → Closing desk old rest new
-  closing-seat desk old seats rest seat mid new e closes c =
-      let here : seat.session.place ≡ length rest = c.placed (length rest) seat (rw e (get-end rest (Some seat))) in
-      let front : (place : ℕ) (one : Seat K V) → slice_get rest place ≡ Some (Some one) → slice_get seats place ≡ Some (Some one) = λ place one h. rw e (get-front rest (Some seat ∷ []) place (Some one) h) in
+  closing-ticket : (desk : List (Option (Ticket K V))) (old : State K V) (tickets rest : List (Option (Ticket K V))) (ticket : Ticket K V) (mid new : State K V) → tickets ≡ rest ++ Some ticket ∷ [] → Closes mid ticket.session.place new → Closing desk old tickets mid → Closing desk old rest new
+  closing-ticket desk old tickets rest ticket mid new e closes c =
+      let here : ticket.session.place ≡ length rest = c.placed (length rest) ticket (rw e (get-end rest (Some ticket))) in
+      let front : (place : ℕ) (one : Ticket K V) → slice_get rest place ≡ Some (Some one) → slice_get tickets place ≡ Some (Some one) = λ place one h. rw e (get-front rest (Some ticket ∷ []) place (Some one) h) in
       record {
         placed = λ place one h. c.placed place one (front place one h);
         opened = λ place one h.
             let within : place < length rest = slice_get_within rest place (Some one) h in
-            kept-seat mid new seat.session.place None place one closes (λ same. omega (arith, within, same, here)) (c.placed place one (front place one h)) (c.opened place one (front place one h));
+            kept-ticket mid new ticket.session.place None place one closes (λ same. omega (arith, within, same, here)) (c.placed place one (front place one h)) (c.opened place one (front place one h));
         places =
-            ap (λ (s : State K V). cleared rest s.places) closes ∙ ap (λ p. cleared rest (set mid.places p None)) here ∙ sym (cleared-last rest seat mid.places)
+            ap (λ (s : State K V). cleared rest s.places) closes ∙ ap (λ p. cleared rest (set mid.places p None)) here ∙ sym (cleared-last rest ticket mid.places)
             ∙ ap (λ s. cleared s mid.places) (sym e) ∙ c.places;
         others =
-            closes ∙ ap (λ (m : State K V). record m { places = set mid.places seat.session.place None }) c.others
+            closes ∙ ap (λ (m : State K V). record m { places = set mid.places ticket.session.place None }) c.others
             ∙ ap (λ (ps : List (Option (Version K V))). record old { places = ps }) (sym (ap (λ (x : State K V). x.places) closes));
       }
 
-  -- one seat less is left
-  pub closing-one : (desk : List (Option (Seat K V))) (old : State K V) (seats rest : List (Option (Seat K V))) (seat : Option (Seat K V)) (mid new : State K V) → seats ≡ rest ++ seat ∷ [] → MatchOption seat (new ≡ mid) (λ s. Closes mid s.session.place new) → Closing desk old seats mid → Closing desk old rest new
-  closing-one desk old seats rest None mid new e same c = subst (Closing desk old rest) (sym same) (closing-free desk old seats rest mid e c)
-  closing-one desk old seats rest (Some seat) mid new e closes c = closing-seat desk old seats rest seat mid new e closes c
+  -- one ticket less is left
+  pub closing-one : (desk : List (Option (Ticket K V))) (old : State K V) (tickets rest : List (Option (Ticket K V))) (ticket : Option (Ticket K V)) (mid new : State K V) → tickets ≡ rest ++ ticket ∷ [] → MatchOption ticket (new ≡ mid) (λ s. Closes mid s.session.place new) → Closing desk old tickets mid → Closing desk old rest new
+  closing-one desk old tickets rest None mid new e same c = subst (Closing desk old rest) (sym same) (closing-free desk old tickets rest mid e c)
+  closing-one desk old tickets rest (Some ticket) mid new e closes c = closing-ticket desk old tickets rest ticket mid new e closes c
 
-  -- the session of the last seat is open
-  pub closing-open : (desk : List (Option (Seat K V))) (old : State K V) (seats rest : List (Option (Seat K V))) (seat : Option (Seat K V)) (mid : State K V) → seats ≡ rest ++ seat ∷ [] → Closing desk old seats mid → IfSome seat (λ s. IsSessionOf mid s.session)
-  closing-open desk old seats rest None mid e c = tt
-  closing-open desk old seats rest (Some seat) mid e c = c.opened (length rest) seat (rw e (get-end rest (Some seat)))
+  -- the session of the last ticket is open
+  pub closing-open : (desk : List (Option (Ticket K V))) (old : State K V) (tickets rest : List (Option (Ticket K V))) (ticket : Option (Ticket K V)) (mid : State K V) → tickets ≡ rest ++ ticket ∷ [] → Closing desk old tickets mid → IfSome ticket (λ s. IsSessionOf mid s.session)
+  closing-open desk old tickets rest None mid e c = tt
+  closing-open desk old tickets rest (Some ticket) mid e c = c.opened (length rest) ticket (rw e (get-end rest (Some ticket)))
 
 module _ {K V : Type 0} (cmp : K → K → Ordering) (width : ℕ) where
   -- a run goes on by one step

@@ -1,4 +1,4 @@
--- A desk keeps sessions of an index by labels, each in the seat of its place. Calls of both, and runs of calls.
+-- A desk keeps sessions of an index by labels: at the place of each, a ticket with its label. Calls of both, and runs of calls.
 use Rattle.std.specs.Prelude.{◌≡◌, ◌≢◌, ℕ, ◌<◌, ◌≤◌, List, [], ◌∷◌, length, Option, Some, None, Ok, Err, slice_get, slice_set, take}
 use Rattle.std.specs.declared.cmp.Ordering.{Ordering}
 use Rattle.local_versions.specs.Store.{Version}
@@ -9,7 +9,7 @@ use Rattle.version_views.specs.declared.write.Write.{Write}
 use Rattle.serial_history.specs.declared.transaction.Receipt.{Receipt}
 use Rattle.serial_history.specs.declared.commit.Cause.TheVariants as causes
 use Rattle.serial_history.specs.declared.commit.CheckpointRefused.TheVariants as checkpoints
-use Rattle.local_index.specs.declared.desk.Seat.{Seat}
+use Rattle.local_index.specs.declared.desk.Ticket.{Ticket}
 use Rattle.local_index.specs.declared.play.ReadSet.{ReadSet}
 use Rattle.local_index.specs.declared.play.ReadSet.TheVariants as sets
 use Rattle.local_index.specs.declared.play.DeskCall.{DeskCall}
@@ -19,10 +19,10 @@ use Rattle.local_index.specs.declared.play.DeskReply.TheVariants as replies
 use Rattle.local_index.specs.declared.refused.DeskRefused.{DeskRefused}
 use Rattle.local_index.specs.declared.refused.DeskRefused.TheVariants as refusals
 
--- an index, and a desk of sessions of it: the seat of a place has the session that is open there, with its label
+-- an index, and a desk of sessions of it: at each place the ticket of the session that is open there, with its label
 pub record Machine (K V : Type 0) : Type 0 where
   pub index : State K V
-  pub desk : List (Option (Seat K V))
+  pub desk : List (Option (Ticket K V))
 
 module _ {K V : Type 0} where
   -- the reply that says that nothing was done
@@ -38,88 +38,88 @@ module _ {K V : Type 0} where
   abbrev pub IsRefusal : DeskReply K V → Type 0
   IsRefusal reply = (refusal : DeskRefused K V) × (reply_of refusal ≡ reply)
 
-  -- the seat of this place is taken by this session, under this label
-  pub record SitsAt (desk : List (Option (Seat K V))) (label place : ℕ) (seat : Seat K V) : Type 0 where
-    pub there : slice_get desk place ≡ Some (Some seat)
-    pub labelled : seat.label ≡ label
+  -- at this place the desk has this ticket, under this label
+  pub record IsTicketAt (desk : List (Option (Ticket K V))) (label place : ℕ) (ticket : Ticket K V) : Type 0 where
+    pub there : slice_get desk place ≡ Some (Some ticket)
+    pub labelled : ticket.label ≡ label
 
   -- no session has the label
-  abbrev pub IsUnknown : List (Option (Seat K V)) → ℕ → Type 0
-  IsUnknown desk label = (place : ℕ) (seat : Seat K V) → SitsAt desk label place seat → ⊥
+  abbrev pub IsUnknown : List (Option (Ticket K V)) → ℕ → Type 0
+  IsUnknown desk label = (place : ℕ) (ticket : Ticket K V) → IsTicketAt desk label place ticket → ⊥
 
   -- some session has the label
-  abbrev pub IsKnown : List (Option (Seat K V)) → ℕ → Type 0
-  IsKnown desk label = (place : ℕ) × (seat : Seat K V) × SitsAt desk label place seat
+  abbrev pub IsKnown : List (Option (Ticket K V)) → ℕ → Type 0
+  IsKnown desk label = (place : ℕ) × (ticket : Ticket K V) × IsTicketAt desk label place ticket
 
-  -- the desk has a seat for each place, and its sessions are those of the index
+  -- the desk has room for a ticket at each place, and its sessions are those of the index
   pub record Serves (m : Machine K V) : Type 0 where
     pub room : length m.index.places ≤ length m.desk
-    pub placed : (place : ℕ) (seat : Seat K V) → slice_get m.desk place ≡ Some (Some seat) → seat.session.place ≡ place
-    pub opened : (place : ℕ) (seat : Seat K V) → slice_get m.desk place ≡ Some (Some seat) → IsSessionOf m.index seat.session
+    pub placed : (place : ℕ) (ticket : Ticket K V) → slice_get m.desk place ≡ Some (Some ticket) → ticket.session.place ≡ place
+    pub opened : (place : ℕ) (ticket : Ticket K V) → slice_get m.desk place ≡ Some (Some ticket) → IsSessionOf m.index ticket.session
 
-  -- each session of the index sits at the desk
+  -- each session of the index keeps at the desk
   abbrev pub KeepsAll : Machine K V → Type 0
-  KeepsAll m = (place : ℕ) (version : Version K V) → IsOpenAt m.index place version → (seat : Seat K V) × (slice_get m.desk place ≡ Some (Some seat))
+  KeepsAll m = (place : ℕ) (version : Version K V) → IsOpenAt m.index place version → (ticket : Ticket K V) × (slice_get m.desk place ≡ Some (Some ticket))
 
-  -- the places, with those free whose seat is taken
-  abbrev pub cleared : List (Option (Seat K V)) → List (Option (Version K V)) → List (Option (Version K V))
+  -- the places, with those free at which the desk has a ticket
+  abbrev pub cleared : List (Option (Ticket K V)) → List (Option (Version K V)) → List (Option (Version K V))
   cleared [] places = places
-  cleared (seat ∷ seats) [] = []
-  cleared (None ∷ seats) (place ∷ places) = place ∷ cleared seats places
-  cleared (Some seat ∷ seats) (place ∷ places) = None ∷ cleared seats places
+  cleared (ticket ∷ tickets) [] = []
+  cleared (None ∷ tickets) (place ∷ places) = place ∷ cleared tickets places
+  cleared (Some ticket ∷ tickets) (place ∷ places) = None ∷ cleared tickets places
 
   -- the sessions of a desk close, and no other
-  abbrev pub Clears : State K V → List (Option (Seat K V)) → State K V → Type 0
+  abbrev pub Clears : State K V → List (Option (Ticket K V)) → State K V → Type 0
   Clears old desk new = new ≡ record old { places = cleared desk old.places }
 
   -- the session under the label closes, and gives this receipt
-  pub record LeavesSeat (old : Machine K V) (label : ℕ) (receipt : Receipt K V) (new : Machine K V) : Type 0 where
+  pub record ReturnsTicket (old : Machine K V) (label : ℕ) (receipt : Receipt K V) (new : Machine K V) : Type 0 where
     pub place : ℕ
-    pub seat : Seat K V
-    pub sat : SitsAt old.desk label place seat
-    pub gives : receipt ≡ seat.session.receipt
+    pub ticket : Ticket K V
+    pub shown : IsTicketAt old.desk label place ticket
+    pub gives : receipt ≡ ticket.session.receipt
     pub closes : Closes old.index place new.index
     pub left : new.desk ≡ slice_set old.desk place None
 
   -- the receipt with the reads that are meant
-  abbrev pub RestsOn : List (Option (Seat K V)) → ReadSet K V → Receipt K V → Type 0
+  abbrev pub RestsOn : List (Option (Ticket K V)) → ReadSet K V → Receipt K V → Type 0
   RestsOn desk sets.Empty receipt = (receipt.number ≡ 0) × (receipt.reads ≡ [])
   RestsOn desk (sets.Receipt own) receipt = receipt ≡ own
-  RestsOn desk (sets.Session label) receipt = (place : ℕ) × (seat : Seat K V) × SitsAt desk label place seat × (receipt ≡ seat.session.receipt)
+  RestsOn desk (sets.Session label) receipt = (place : ℕ) × (ticket : Ticket K V) × IsTicketAt desk label place ticket × (receipt ≡ ticket.session.receipt)
 
   -- they are a session's, and there is no such session
-  abbrev pub RestsOnNone : List (Option (Seat K V)) → ReadSet K V → Type 0
+  abbrev pub RestsOnNone : List (Option (Ticket K V)) → ReadSet K V → Type 0
   RestsOnNone desk sets.Empty = ⊥
   RestsOnNone desk (sets.Receipt receipt) = ⊥
   RestsOnNone desk (sets.Session label) = IsUnknown desk label
 
   module _ (cmp : K → K → Ordering) where
-    -- a session opens, and sits down under the label
-    pub record TakesSeat (old : Machine K V) (label number : ℕ) (new : Machine K V) : Type 0 where
+    -- a session opens, and keeps down under the label
+    pub record TakesTicket (old : Machine K V) (label number : ℕ) (new : Machine K V) : Type 0 where
       pub unknown : IsUnknown old.desk label
       pub session : OpenSession K V
       pub opens : Opens cmp old.index session new.index
       pub told : number ≡ session.receipt.number
-      pub seated : new.desk ≡ slice_set old.desk session.place (Some (record { label = label; session = session }))
+      pub ticketed : new.desk ≡ slice_set old.desk session.place (Some (record { label = label; session = session }))
 
   module _ (cmp : K → K → Ordering) (width : ℕ) where
     -- a used label is busy, before a place is sought
     abbrev pub OpenStep : Machine K V → ℕ → DeskReply K V → Machine K V → Type 0
-    OpenStep old label (replies.Opened number) new = TakesSeat cmp old label number new
+    OpenStep old label (replies.Opened number) new = TakesTicket cmp old label number new
     OpenStep old label replies.NoPlace new = IsUnknown old.desk label × HasNoPlace old.index × (new ≡ old)
     OpenStep old label replies.Busy new = IsKnown old.desk label × (new ≡ old)
     OpenStep old label reply new = ⊥
 
     abbrev pub CloseStep : Machine K V → ℕ → DeskReply K V → Machine K V → Type 0
-    CloseStep old label (replies.Closed receipt) new = LeavesSeat old label receipt new
+    CloseStep old label (replies.Closed receipt) new = ReturnsTicket old label receipt new
     CloseStep old label (replies.NoSession back) new = IsUnknown old.desk label × (back.items ≡ []) × (new ≡ old)
     CloseStep old label reply new = ⊥
 
     -- the answer is that of the list at the session's opening, and the session's receipt has it with its query
     abbrev pub ReadStep : Machine K V → ℕ → Query K → DeskReply K V → Machine K V → Type 0
     ReadStep old label query (replies.Answer answer) new =
-        (place : ℕ) × (seat : Seat K V) × (session : OpenSession K V) × SitsAt old.desk label place seat
-        × Reads cmp old.index seat.session query answer session × (new ≡ record old { desk = slice_set old.desk place (Some (record seat { session = session })) })
+        (place : ℕ) × (ticket : Ticket K V) × (session : OpenSession K V) × IsTicketAt old.desk label place ticket
+        × Reads cmp old.index ticket.session query answer session × (new ≡ record old { desk = slice_set old.desk place (Some (record ticket { session = session })) })
     ReadStep old label query (replies.NoSession back) new = IsUnknown old.desk label × (back.items ≡ []) × (new ≡ old)
     ReadStep old label query reply new = ⊥
 
@@ -148,14 +148,14 @@ module _ {K V : Type 0} where
 
     abbrev pub NumberStep : Machine K V → ℕ → DeskReply K V → Machine K V → Type 0
     NumberStep old label (replies.Number number) new =
-        (place : ℕ) × (seat : Seat K V) × SitsAt old.desk label place seat × (number ≡ seat.session.receipt.number) × (new ≡ old)
+        (place : ℕ) × (ticket : Ticket K V) × IsTicketAt old.desk label place ticket × (number ≡ ticket.session.receipt.number) × (new ≡ old)
     NumberStep old label (replies.NoSession back) new = IsUnknown old.desk label × (back.items ≡ []) × (new ≡ old)
     NumberStep old label reply new = ⊥
 
     -- as many pairs as the list has at the session's opening
     abbrev pub LenStep : Machine K V → ℕ → DeskReply K V → Machine K V → Type 0
     LenStep old label (replies.Len count) new =
-        (place : ℕ) × (seat : Seat K V) × SitsAt old.desk label place seat × (count ≡ length (list_read old.index seat.session)) × (new ≡ old)
+        (place : ℕ) × (ticket : Ticket K V) × IsTicketAt old.desk label place ticket × (count ≡ length (list_read old.index ticket.session)) × (new ≡ old)
     LenStep old label (replies.NoSession back) new = IsUnknown old.desk label × (back.items ≡ []) × (new ≡ old)
     LenStep old label reply new = ⊥
 

@@ -5,7 +5,7 @@ ghost use Rattle.leaf_array.specs.Values.{ClonesAreSame, EqualsAreSame};
 ghost use Rattle.local_index.specs.Desk.{Serves, KeepsAll, RestsOn, RestsOnNone, OpenStep, CloseStep, ReadStep, AuditStep, NumberStep, LenStep, CommitStep, CheckpointStep, IsKnown, MayWantMemory, Step, Run, RunsUpTo};
 ghost use Rattle.local_index.specs.State.{Has, MayAccept, latest_number};
 
-use crate::desk::{Desk, Seat};
+use crate::desk::{Desk, Ticket};
 use crate::index::{LocalIndex, NoPlace};
 use local_versions::Write;
 use serial_history::{Accepted, Answer, Audit, Cause, CheckpointRefused, Query, Receipt, Refused};
@@ -198,13 +198,13 @@ fn play_open<K: Clone + Ord, V: Clone + Eq, const S: usize>(
     ensures serves { Serves (record { index = index.new; desk = desk.new }) }
     ensures keeps_all { KeepsAll (record { index = index.old; desk = desk.old }) → KeepsAll (record { index = index.new; desk = desk.new }) }
 {
-    if let Some(_) = desk.seat(label) {
+    if let Some(_) = desk.ticket(label) {
         return DeskReply::Busy;
     }
     match index.open() {
         Ok(session) => {
             let number = index.number(&session);
-            desk.sit(label, session);
+            desk.keep(label, session);
             DeskReply::Opened(number)
         }
         Err(NoPlace) => DeskReply::NoPlace,
@@ -224,7 +224,7 @@ fn play_close<K: Clone + Ord, V: Clone + Eq, const S: usize>(
     ensures keeps_all { KeepsAll (record { index = index.old; desk = desk.old }) → KeepsAll (record { index = index.new; desk = desk.new }) }
 {
     match desk.leave(label) {
-        Some(Seat { label: _, session }) => DeskReply::Closed(index.close_session(session)),
+        Some(Ticket { label: _, session }) => DeskReply::Closed(index.close_session(session)),
         None => DeskReply::NoSession(Vec::new(alloc)),
     }
 }
@@ -246,11 +246,11 @@ fn play_read<K: Clone + Ord, V: Clone + Eq, const S: usize>(
     ensures serves { Serves (record { index = index.now; desk = desk.new }) }
     ensures keeps_all { KeepsAll (record { index = index.now; desk = desk.old }) → KeepsAll (record { index = index.now; desk = desk.new }) }
 {
-    let Some(Seat { label, mut session }) = desk.leave(label) else {
+    let Some(Ticket { label, mut session }) = desk.leave(label) else {
         return Ok(DeskReply::NoSession(Vec::new(alloc)));
     };
     let answer = index.read(&mut session, query);
-    desk.sit(label, session);
+    desk.keep(label, session);
     match answer {
         Ok(answer) => Ok(DeskReply::Answer(answer)),
         Err(refused) => Err(refused),
@@ -287,10 +287,10 @@ fn play_number<K: Clone + Ord, V: Clone + Eq, const S: usize>(
 ) -> DeskReply<K, V>
     ensures { NumberStep K.cmp S (record { index = index.now; desk = desk.now }) label result (record { index = index.now; desk = desk.now }) }
 {
-    let Some(seat) = desk.seat(label) else {
+    let Some(ticket) = desk.ticket(label) else {
         return DeskReply::NoSession(Vec::new(alloc));
     };
-    DeskReply::Number(index.number(&seat.session))
+    DeskReply::Number(index.number(&ticket.session))
 }
 
 // Tells how many pairs the session under a label reads.
@@ -303,10 +303,10 @@ fn play_len<K: Clone + Ord, V: Clone + Eq, const S: usize>(
     requires { Serves (record { index = index.now; desk = desk.now }) }
     ensures { LenStep K.cmp S (record { index = index.now; desk = desk.now }) label result (record { index = index.now; desk = desk.now }) }
 {
-    let Some(seat) = desk.seat(label) else {
+    let Some(ticket) = desk.ticket(label) else {
         return DeskReply::NoSession(Vec::new(alloc));
     };
-    DeskReply::Len(index.len(&seat.session))
+    DeskReply::Len(index.len(&ticket.session))
 }
 
 // Commits writes on these reads.
@@ -378,8 +378,8 @@ fn reads_of<'a, K, V>(
     match on {
         ReadSet::Empty => Some(blank),
         ReadSet::Receipt(receipt) => Some(receipt),
-        ReadSet::Session(label) => match desk.seat(*label) {
-            Some(seat) => Some(seat.session.receipt()),
+        ReadSet::Session(label) => match desk.ticket(*label) {
+            Some(ticket) => Some(ticket.session.receipt()),
             None => None,
         },
     }

@@ -19,16 +19,16 @@ use Rattle.sdd_steps.proofs.ListLemmas.{has_map}
 use Rattle.sdd_domain.specs.Collecting.{IsSwept, IsSweptOf}
 use Rattle.sdd_domain.specs.declared.local.Local.{Local}
 
-module _ {T : Type 0} (l : Local T) (note : ℕ) (ws0 : List Garbage) (m1 m2 : Me (Home T) Acting) (taken : m1 ≡ (record l.place.me.0 { collected = ws0 }, l.place.me.1)) (reread : m2 ≡ (record m1.0 { known = rereading note m1.0.known }, m1.1)) where
+module _ {T : Type 0} (l : Local T) (note : ℕ) (ws0 : List Garbage) (m1 m2 : Me (Home T) Acting) (taken : m1 ≡ (record l.seat.me.0 { collected = ws0 }, l.seat.me.1)) (reread : m2 ≡ (record m1.0 { known = rereading note m1.0.known }, m1.1)) where
   abbrev d : Acting
-  d = l.place.me.0
+  d = l.seat.me.0
 
-  pub noted : m2 ≡ (record d { known = rereading note d.known; collected = ws0 }, l.place.me.1)
+  pub noted : m2 ≡ (record d { known = rereading note d.known; collected = ws0 }, l.seat.me.1)
   noted = reread ∙ ap (λ (z : Me (Home T) Acting). (record z.0 { known = rereading note z.0.known }, z.1)) taken
 
   -- what was due is reclaimed
   module _ (m3 : Me (Home T) Acting) (k : ℕ) (ws : List Garbage) (ls : List Lease) (cs : List Garbage) (at : AreAt m2.0.leases ls) (swept : m3 ≡ (record m2.0 { slot = k; leases = ls; waits = ws; collected = cs }, m2.1)) where
-    pub left : m3 ≡ (record d { known = rereading note d.known; slot = k; leases = ls; waits = ws; collected = cs }, l.place.me.1)
+    pub left : m3 ≡ (record d { known = rereading note d.known; slot = k; leases = ls; waits = ws; collected = cs }, l.seat.me.1)
     left = swept ∙ ap (λ (z : Me (Home T) Acting). (record z.0 { slot = k; leases = ls; waits = ws; collected = cs }, z.1)) noted
 
     pub same_at : AreAt d.leases ls
@@ -36,13 +36,13 @@ module _ {T : Type 0} (l : Local T) (note : ℕ) (ws0 : List Garbage) (m1 m2 : M
 
     -- an owner comes into the hand, and is released
     module _ (o : Owner) (m4 m5 m6 : Me (Home T) Acting) (came : m4 ≡ (record m3.0 { hand = o ∷ m3.0.hand }, m3.1)) (cs' : List Garbage) (ls' : List Lease) (at' : AreAt m4.0.leases ls') (put : m5 ≡ (record m4.0 { hand = m3.0.hand; leases = ls'; collected = cs' }, m4.1)) (parted : m6 ≡ (record m5.0 { collected = [] }, m5.1)) where
-      pub in_hand : m4 ≡ (record d { known = rereading note d.known; hand = o ∷ d.hand; slot = k; leases = ls; waits = ws; collected = cs }, l.place.me.1)
+      pub in_hand : m4 ≡ (record d { known = rereading note d.known; hand = o ∷ d.hand; slot = k; leases = ls; waits = ws; collected = cs }, l.seat.me.1)
       in_hand = came ∙ ap (λ (z : Me (Home T) Acting). (record z.0 { hand = o ∷ z.0.hand }, z.1)) left
 
-      pub given : m5 ≡ (record d { known = rereading note d.known; slot = k; leases = ls'; waits = ws; collected = cs' }, l.place.me.1)
+      pub given : m5 ≡ (record d { known = rereading note d.known; slot = k; leases = ls'; waits = ws; collected = cs' }, l.seat.me.1)
       given = put ∙ (λ j. (record (in_hand j).0 { hand = (left j).0.hand; leases = ls'; collected = cs' }, (in_hand j).1))
 
-      pub all : m6 ≡ (record d { known = rereading note d.known; slot = k; leases = ls'; waits = ws; collected = [] }, l.place.me.1)
+      pub all : m6 ≡ (record d { known = rereading note d.known; slot = k; leases = ls'; waits = ws; collected = [] }, l.seat.me.1)
       all = parted ∙ ap (λ (z : Me (Home T) Acting). (record z.0 { collected = [] }, z.1)) given
 
       pub at_last : AreAt d.leases ls'
@@ -50,7 +50,7 @@ module _ {T : Type 0} (l : Local T) (note : ℕ) (ws0 : List Garbage) (m1 m2 : M
 
       pub spare_there : has_all is_blank (own_spare m6.0 l.spare ∷ leased_homes m6.0 m6.0.leases) m6.1 ≡ true
       spare_there = subst (λ (z : Me (Home T) Acting). has_all is_blank (own_spare z.0 l.spare ∷ leased_homes z.0 z.0.leases) z.1 ≡ true) (sym all)
-          (ap (λ ks. has_all is_blank (own_spare d l.spare ∷ ks) l.place.me.1) (same_homes d ls' d.leases at_last) ∙ l.has_spare.2)
+          (ap (λ ks. has_all is_blank (own_spare d l.spare ∷ ks) l.seat.me.1) (same_homes d ls' d.leases at_last) ∙ l.has_spare.2)
 
 -- a list whose images end with t ends with what that is the image of
 last_mapped : (ws : List Garbage) (ts : List (ℕ × ℕ)) (t : ℕ × ℕ) → map garbage_told ws ≡ ts ++ t ∷ [] → (vs : List Garbage) × (w : Garbage) × (ws ≡ vs ++ w ∷ []) × (garbage_told w ≡ t)

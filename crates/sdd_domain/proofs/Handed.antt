@@ -12,13 +12,13 @@ use Rattle.sdd_domain.specs.declared.local.Local.{Local}
 use Rattle.sdd_domain.specs.declared.shared.Shared.{Shared}
 
 abbrev pub owner : {T : Type 0} → Shared T → Owner
-owner s = record { item = item_in s.seat.badge.views; slot = s.slot; round = s.part.part.life.id }
+owner s = record { item = item_in s.calm.badge.views; slot = s.slot; round = s.part.part.life.id }
 
-module _ {T : Type 0} (l : Local T) (s : Shared T) (m1 : Me (Home T) Acting) (taken : (o : Owner) → s.seat.badge.views ≡ holding o ∷ [] → m1 ≡ (record l.place.me.0 { hand = o ∷ l.place.me.0.hand }, l.place.me.1)) where
+module _ {T : Type 0} (l : Local T) (s : Shared T) (m1 : Me (Home T) Acting) (taken : (o : Owner) → s.calm.badge.views ≡ holding o ∷ [] → m1 ≡ (record l.seat.me.0 { hand = o ∷ l.seat.me.0.hand }, l.seat.me.1)) where
   abbrev pub d : Acting
-  d = l.place.me.0
+  d = l.seat.me.0
 
-  pub mine : m1 ≡ (record d { hand = owner s ∷ d.hand }, l.place.me.1)
+  pub mine : m1 ≡ (record d { hand = owner s ∷ d.hand }, l.seat.me.1)
   mine = taken (owner s) s.owns
 
   pub first : m1.0.hand ≡ owner s ∷ d.hand

@@ -10,8 +10,8 @@ use Rattle.sdd_domain.specs.declared.local.Local.{Local}
 use Rattle.domain_table.specs.declared.row.Row.{Row}
 
 -- nothing is leased while no guard is open
-pub none_leased : {T : Type 0} (l : Local T) → l.own.nesting ≡ 0 → l.place.me.0.leases ≡ []
-none_leased l none = (elim l.life as (λ x. l.life ≡ x → l.place.me.0.leases ≡ []) [
+pub none_leased : {T : Type 0} (l : Local T) → l.own.nesting ≡ 0 → l.seat.me.0.leases ≡ []
+none_leased l none = (elim l.life as (λ x. l.life ≡ x → l.seat.me.0.leases ≡ []) [
   | None ↦ λ e. (l.shut e).1
   | Some f ↦ λ e. let some = (l.alive f e).0 in absurd (omega arith)
 ]) refl

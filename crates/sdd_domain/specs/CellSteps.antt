@@ -8,7 +8,7 @@ use Rattle.sdd_domain.specs.declared.local.Local.{Local}
 
 -- its steps on cells, in their order
 abbrev pub cell_steps_of : {T : Type 0} → Local T → List CellStep
-cell_steps_of l = l.place.me.0.cell_steps
+cell_steps_of l = l.seat.me.0.cell_steps
 
 -- it made no step on a cell
 abbrev pub StepsOnNoCell : {T : Type 0} → Local T → Local T → Type 0

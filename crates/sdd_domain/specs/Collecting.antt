@@ -16,11 +16,11 @@ use Rattle.sdd_domain.specs.declared.shared.Shared.{Shared}
 
 -- the place of a collector, with its sizes
 abbrev pub collects_in : PrivateCollector → TableId × Sizes
-collects_in c = (c.seat.badge.table_id, c.sizes)
+collects_in c = (c.calm.badge.table_id, c.sizes)
 
 -- what is in it, by the slot and the note, what came last in front
 abbrev pub held_in : PrivateCollector → List (ℕ × ℕ)
-held_in c = map garbage_told (bag_in c.seat.badge.views)
+held_in c = map garbage_told (bag_in c.calm.badge.views)
 
 -- the slot of an owner's item
 abbrev pub slot_in : {T : Type 0} → Shared T → ℕ

@@ -8,7 +8,7 @@ use Rattle.sdd_domain.specs.declared.shared.Shared.{Shared}
 
 -- the place of its item
 abbrev pub kept_in : {T : Type 0} → Shared T → TableId
-kept_in s = s.seat.badge.table_id
+kept_in s = s.calm.badge.table_id
 
 -- it is an owner of an item with this value
 abbrev pub IsOwnerOf : {T : Type 0} → Shared T → T → Type 0

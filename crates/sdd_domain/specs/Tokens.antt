@@ -31,7 +31,7 @@ abbrev pub place_of : {T : Type 0} → Domain T → TableId × Sizes
 place_of d = (d.table.shared.table_id, d.table.shared.key.sizes)
 
 abbrev pub home_of : {T : Type 0} → Local T → TableId × Sizes
-home_of l = (l.place.table_id, l.place.me.0.sizes)
+home_of l = (l.seat.table_id, l.seat.me.0.sizes)
 
 abbrev pub number_of : {T : Type 0} → Local T → ℕ
 number_of l = l.number
@@ -41,11 +41,11 @@ own_of l = l.own
 
 -- the count of raises when the open guard was published
 abbrev pub born_of : {T : Type 0} → Local T → ℕ
-born_of l = l.place.me.0.born
+born_of l = l.seat.me.0.born
 
 -- the owners in its hand, by slot and round: they are on their way into an item, or out of one
 abbrev pub hand_of : {T : Type 0} → Local T → List (ℕ × ℕ)
-hand_of l = map told l.place.me.0.hand
+hand_of l = map told l.seat.me.0.hand
 
 -- how often the participant was refused: for want of a slot, of a cell, or of one more owner
 abbrev pub misses_of : {T : Type 0} → Local T → ℕ
@@ -53,7 +53,7 @@ misses_of l = l.misses.count
 
 -- how many items the participant has retired that aren't reclaimed yet
 abbrev pub waiting_of : {T : Type 0} → Local T → ℕ
-waiting_of l = length l.place.me.0.waits
+waiting_of l = length l.seat.me.0.waits
 
 -- the participant whose guard it is
 abbrev pub participant_of : Guard → ℕ

@@ -280,8 +280,8 @@ impl<T: Holds> AtomicShared<T> {
         ensures exchanged { HasExchanged local.old (cell_number self.now) (tag_number result.1) (owner_code result.0) (tag_number new.1) (owner_code new.0) local.new }
         ensures same { IsInNest local.old local.new × (own_of local.new ≡ own_of local.old) × (born_of local.new ≡ born_of local.old) × (waiting_of local.new ≡ waiting_of local.old) }
     {
-        let Local { place, spare, .. } = local;
-        let (free, old) = swap_owner(domain.words(), place, &domain.sizes, *spare, self.cell, new);
+        let Local { seat, spare, .. } = local;
+        let (free, old) = swap_owner(domain.words(), seat, &domain.sizes, *spare, self.cell, new);
         *spare = free;
         old
     }

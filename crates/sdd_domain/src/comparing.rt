@@ -24,7 +24,7 @@ use crate::local::Local;
 use crate::pointer::{Loaded, Named, Ptr};
 use crate::shared::Shared;
 use crate::swapping::{bring, take_back};
-use domain_table::board::{Home, Place};
+use domain_table::board::{Home, Seat};
 use domain_table::cells;
 use domain_table::leases::seen_at;
 use domain_table::loading::{note_found, slot_named};
@@ -80,7 +80,7 @@ pub(crate) fn try_tag<T: Holds>(
 {
     cells::change_tag(
         domain.words(),
-        &mut local.place,
+        &mut local.seat,
         domain.sizes.participants,
         cell,
         expected,
@@ -93,7 +93,7 @@ pub(crate) fn try_tag<T: Holds>(
 /// found, if one was, and the tag that was. First comes the number of the spare slot that is the participant's now.
 pub(crate) fn exchange_owner<T: Holds>(
     words: &Words<T>,
-    place: &mut Place<T>,
+    seat: &mut Seat<T>,
     sizes: &Sizes,
     number: usize,
     spare: u64,
@@ -106,28 +106,28 @@ pub(crate) fn exchange_owner<T: Holds>(
     u64,
     Result<Option<Shared<T>>, (Option<Shared<T>>, Option<usize>, Tag)>,
 )
-    requires table { FitsSizes words.now.table_id words.now.key.sizes place.old.table_id place.old.me.0.sizes sizes.now × (number < sizes.now.participants) × (cell < sizes.now.cells) }
-    requires ready { CanExchange number spare place.old.me.0 }
-    requires rows { HasRows life.now.id sizes.now.slots place.old.me.0.leases rows.old.items (deque_capacity rows.old) }
-    requires out { (tail : List (ℕ × Home T)) × (place.old.me.1 ≡ (own_spare place.old.me.0 spare, Blank) ∷ tail) }
+    requires table { FitsSizes words.now.table_id words.now.key.sizes seat.old.table_id seat.old.me.0.sizes sizes.now × (number < sizes.now.participants) × (cell < sizes.now.cells) }
+    requires ready { CanExchange number spare seat.old.me.0 }
+    requires rows { HasRows life.now.id sizes.now.slots seat.old.me.0.leases rows.old.items (deque_capacity rows.old) }
+    requires out { (tail : List (ℕ × Home T)) × (seat.old.me.1 ≡ (own_spare seat.old.me.0 spare, Blank) ∷ tail) }
     requires mine { IfSome new.0 (λ s. kept_in s ≡ words.now.table_id) }
-    ensures seat { (place.new.table_id ≡ place.old.table_id) × (place.new.id ≡ place.old.id) }
+    ensures seat { (seat.new.table_id ≡ seat.old.table_id) × (seat.new.id ≡ seat.old.id) }
     ensures spare { result.0 < 2 ^ 31 }
-    ensures tried { (w : ℕ) × (v : ℕ) × ((tail : List (ℕ × Home T)) → place.old.me.1 ≡ (own_spare place.old.me.0 spare, Blank) ∷ tail → HasTried (with_step (cell_word words.now.key.sizes cell) w v place.old.me) result.0 tail place.new.me) × IfOk result.1 (λ _. (w ≡ expected) × (v ≡ packed spare (tag_number new.1) (owner_code new.0)) × (tag_number new.1 < 4)) × IfErr result.1 (λ t. (v ≡ w) × IsFoundAs w (tag_number t.2) rows.new.items t.1) }
-    ensures rows { KeepsRows life.now.id sizes.now.slots place.new.me.0.leases rows.new.items (deque_capacity rows.old) (deque_capacity rows.new) }
+    ensures tried { (w : ℕ) × (v : ℕ) × ((tail : List (ℕ × Home T)) → seat.old.me.1 ≡ (own_spare seat.old.me.0 spare, Blank) ∷ tail → HasTried (with_step (cell_word words.now.key.sizes cell) w v seat.old.me) result.0 tail seat.new.me) × IfOk result.1 (λ _. (w ≡ expected) × (v ≡ packed spare (tag_number new.1) (owner_code new.0)) × (tag_number new.1 < 4)) × IfErr result.1 (λ t. (v ≡ w) × IsFoundAs w (tag_number t.2) rows.new.items t.1) }
+    ensures rows { KeepsRows life.now.id sizes.now.slots seat.new.me.0.leases rows.new.items (deque_capacity rows.old) (deque_capacity rows.new) }
     ensures mine { IfOk result.1 (λ old. IfSome old (λ s. kept_in s ≡ words.now.table_id)) }
     ensures hit { IfOk result.1 (λ old. (y t c : ℕ) → y < 2 ^ 31 → t < 4 → expected ≡ packed y t c → owner_code old ≡ c) }
     ensures back { IfErr result.1 (λ t. IsBack new.0 t.0) }
     ensures row { IfErr result.1 (λ t. IfSome t.1 (λ at. at < deque_len rows.new)) }
 {
-    let word = bring(words, place, sizes, spare, new);
-    let found = cells::compare_exchange(words, place, sizes.participants, cell, expected, word);
+    let word = bring(words, seat, sizes, spare, new);
+    let found = cells::compare_exchange(words, seat, sizes.participants, cell, expected, word);
     if found == expected {
-        let (free, (old, _)) = take_back(words, place, sizes, found);
+        let (free, (old, _)) = take_back(words, seat, sizes, found);
         return (free, Ok(old));
     }
-    let at = note_found(words, place, sizes, number, rows, life, found);
-    let (free, (back, _)) = take_back(words, place, sizes, word);
+    let at = note_found(words, seat, sizes, number, rows, life, found);
+    let (free, (back, _)) = take_back(words, seat, sizes, word);
     (free, Err((back, at, tag_in(found))))
 }
 
@@ -170,7 +170,7 @@ pub(crate) fn try_exchange<T: Holds>(
     ensures same { IsInNest local.old local.new × (own_of local.new ≡ own_of local.old) × (born_of local.new ≡ born_of local.old) × (waiting_of local.new ≡ waiting_of local.old) }
 {
     let Local {
-        place,
+        seat,
         number,
         spare,
         life,
@@ -180,7 +180,7 @@ pub(crate) fn try_exchange<T: Holds>(
     let Some(life) = life else { unreachable!() };
     let (free, tried) = exchange_owner(
         domain.words(),
-        place,
+        seat,
         &domain.sizes,
         *number,
         *spare,

@@ -118,12 +118,12 @@ impl<T: Holds> Domain<T> {
         ensures fresh { IfOk result (λ l. (own_of l ≡ no_local) × (hand_of l ≡ [])) }
         ensures refused { IfErr result (λ back. back ≡ ledger) }
     {
-        let mut place = sit(self.words());
-        let Some(spare) = claim(self.words(), &mut place, number) else {
+        let mut seat = sit(self.words());
+        let Some(spare) = claim(self.words(), &mut seat, number) else {
             return Err(ledger);
         };
-        learn(self.words(), &mut place, self.sizes);
-        Ok(Local::registered(place, number, spare, ledger))
+        learn(self.words(), &mut seat, self.sizes);
+        Ok(Local::registered(seat, number, spare, ledger))
     }
 
     /// Opens and closes accelerated guards of a participant, the first of which takes over what others left, and reclaims

@@ -78,7 +78,7 @@ impl Guard {
         ensures cells { StepsOnNoCell local.old local.new }
     {
         let epoch = local.own.previous;
-        Epoch::of_count(steps::count_under(domain.words(), &mut local.place, epoch))
+        Epoch::of_count(steps::count_under(domain.words(), &mut local.seat, epoch))
     }
 
     /// Whether the flag was set since the participant's bags were last found empty.

@@ -49,7 +49,7 @@ impl<T> Held<T> {
         ensures cells { StepsOnNoCell local.old local.new }
     {
         let Held { slot, part } = self;
-        let seat = part_with(domain.words(), &mut local.place);
-        Shared { slot, part, seat }
+        let calm = part_with(domain.words(), &mut local.seat);
+        Shared { slot, part, calm }
     }
 }

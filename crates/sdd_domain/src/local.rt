@@ -19,7 +19,7 @@ use crate::domain::Domain;
 use crate::holds::Holds;
 use crate::reclaiming::reclaim_due;
 use domain_table::bags::Bags;
-use domain_table::board::{Place, Stored};
+use domain_table::board::{Seat, Stored};
 use domain_table::leases::{give_home, seen_at};
 use domain_table::ledger::Ledger;
 use domain_table::left::leave;
@@ -36,7 +36,7 @@ use std::collections::VecDeque;
 
 /// A registered participant. It must be consumed by `end`.
 pub struct Local<T> {
-    pub(crate) place: Place<T>,
+    pub(crate) seat: Seat<T>,
     pub(crate) number: usize,
     pub(crate) spare: u64,
     pub(crate) own: LocalState,
@@ -50,16 +50,16 @@ pub struct Local<T> {
     pub(crate) rows: VecDeque<Row<T>>,
     /// How often it was refused for want of a slot, a cell or a part of an item.
     pub(crate) misses: Tally,
-    ghost acts: { (place.me.0.kind ≡ 1) × (place.me.0.number ≡ number) × (place.me.0.scan ≡ 0) × (number < 2 ^ 30) × (claim_word number < place.table_id.words) × (place.me.0.releasing ≡ 0) },
-    ghost has_spare: { (place.me.0.spare ≡ spare) × (spare < 2 ^ 31) × (has_all is_blank (own_spare place.me.0 spare ∷ leased_homes place.me.0 place.me.0.leases) place.me.1 ≡ true) },
-    ghost lends: { (map row_told rows.items ≡ map (lease_told (life_number life)) place.me.0.leases) × (place.me.0.sizes.slots ≤ deque_capacity rows) × (all_below place.me.0.sizes.slots (row_slots rows.items) ≡ true) },
-    ghost shut: { ForNone life ((own.nesting ≡ 0) × (place.me.0.leases ≡ [])) },
+    ghost acts: { (seat.me.0.kind ≡ 1) × (seat.me.0.number ≡ number) × (seat.me.0.scan ≡ 0) × (number < 2 ^ 30) × (claim_word number < seat.table_id.words) × (seat.me.0.releasing ≡ 0) },
+    ghost has_spare: { (seat.me.0.spare ≡ spare) × (spare < 2 ^ 31) × (has_all is_blank (own_spare seat.me.0 spare ∷ leased_homes seat.me.0 seat.me.0.leases) seat.me.1 ≡ true) },
+    ghost lends: { (map row_told rows.items ≡ map (lease_told (life_number life)) seat.me.0.leases) × (seat.me.0.sizes.slots ≤ deque_capacity rows) × (all_below seat.me.0.sizes.slots (row_slots rows.items) ≡ true) },
+    ghost shut: { ForNone life ((own.nesting ≡ 0) × (seat.me.0.leases ≡ [])) },
     ghost alive: { ForSome life (λ f. (0 < own.nesting) × (f.count + own.nesting ≡ 2 ^ 63)) },
-    ghost phase: { place.me.0.known.phase ≡ cond (own.nesting == 0) Idle (Opened own.previous) },
-    ghost found: { place.me.0.known.found ≡ own.previous },
+    ghost phase: { seat.me.0.known.phase ≡ cond (own.nesting == 0) Idle (Opened own.previous) },
+    ghost found: { seat.me.0.known.found ≡ own.previous },
     ghost noted: { own.published ≡ own.previous },
-    ghost fills: { (place.me.0.filling ≡ None) × (next < 2 ^ 63) × (number < place.me.0.sizes.participants) },
-    ghost waits: { WaitsIn place.me.0.sizes.slots place.me.0.waits bags × (bags.due ≡ None) },
+    ghost fills: { (seat.me.0.filling ≡ None) × (next < 2 ^ 63) × (number < seat.me.0.sizes.participants) },
+    ghost waits: { WaitsIn seat.me.0.sizes.slots seat.me.0.waits bags × (bags.due ≡ None) },
 }
 
 /// Turns the bags by one, and reclaims what is due then: whether anything waits still. It is compiled by itself, since few
@@ -67,23 +67,23 @@ pub struct Local<T> {
 #[inline(never)]
 fn rotate_and_reclaim<T: Holds>(
     words: &Words<T>,
-    place: &mut Place<T>,
+    seat: &mut Seat<T>,
     sizes: &Sizes,
     number: usize,
     bags: &mut Bags,
 ) -> bool
-    requires table { FitsSizes words.now.table_id words.now.key.sizes place.old.table_id place.old.me.0.sizes sizes.now × (number < sizes.now.participants) }
-    requires ready { IsAtRest number place.old.me.0 × (place.old.me.0.filling ≡ None) }
-    requires waits { (ws : List Garbage) × (place.old.me.0.waits ≡ older_waits ws) × WaitsIn sizes.now.slots ws bags.old }
+    requires table { FitsSizes words.now.table_id words.now.key.sizes seat.old.table_id seat.old.me.0.sizes sizes.now × (number < sizes.now.participants) }
+    requires ready { IsAtRest number seat.old.me.0 × (seat.old.me.0.filling ≡ None) }
+    requires waits { (ws : List Garbage) × (seat.old.me.0.waits ≡ older_waits ws) × WaitsIn sizes.now.slots ws bags.old }
     requires done { bags.old.due ≡ None }
-    ensures seat { (place.new.table_id ≡ place.old.table_id) × (place.new.id ≡ place.old.id) }
-    ensures reclaimed { (k : ℕ) × (ws : List Garbage) × (place.new.me ≡ (record place.old.me.0 { slot = k; waits = ws }, place.old.me.1)) }
-    ensures waits { WaitsIn sizes.now.slots place.new.me.0.waits bags.new }
+    ensures seat { (seat.new.table_id ≡ seat.old.table_id) × (seat.new.id ≡ seat.old.id) }
+    ensures reclaimed { (k : ℕ) × (ws : List Garbage) × (seat.new.me ≡ (record seat.old.me.0 { slot = k; waits = ws }, seat.old.me.1)) }
+    ensures waits { WaitsIn sizes.now.slots seat.new.me.0.waits bags.new }
     ensures bags { bags.new.due ≡ None }
-    ensures some { result ≡ nat_lt 0 (length place.new.me.0.waits) }
+    ensures some { result ≡ nat_lt 0 (length seat.new.me.0.waits) }
 {
     bags.rotate();
-    reclaim_due(words, place, sizes, number, bags);
+    reclaim_due(words, seat, sizes, number, bags);
     bags.has_some()
 }
 
@@ -91,55 +91,55 @@ fn rotate_and_reclaim<T: Holds>(
 #[inline(always)]
 fn turn_bags<T: Holds>(
     words: &Words<T>,
-    place: &mut Place<T>,
+    seat: &mut Seat<T>,
     sizes: &Sizes,
     number: usize,
     bags: &mut Bags,
 ) -> bool
-    requires table { FitsSizes words.now.table_id words.now.key.sizes place.old.table_id place.old.me.0.sizes sizes.now × (number < sizes.now.participants) }
-    requires ready { IsAtRest number place.old.me.0 × (place.old.me.0.filling ≡ None) }
-    requires waits { (ws : List Garbage) × (place.old.me.0.waits ≡ older_waits ws) × WaitsIn sizes.now.slots ws bags.old }
+    requires table { FitsSizes words.now.table_id words.now.key.sizes seat.old.table_id seat.old.me.0.sizes sizes.now × (number < sizes.now.participants) }
+    requires ready { IsAtRest number seat.old.me.0 × (seat.old.me.0.filling ≡ None) }
+    requires waits { (ws : List Garbage) × (seat.old.me.0.waits ≡ older_waits ws) × WaitsIn sizes.now.slots ws bags.old }
     requires done { bags.old.due ≡ None }
-    ensures seat { (place.new.table_id ≡ place.old.table_id) × (place.new.id ≡ place.old.id) }
-    ensures reclaimed { (k : ℕ) × (ws : List Garbage) × (place.new.me ≡ (record place.old.me.0 { slot = k; waits = ws }, place.old.me.1)) }
-    ensures waits { WaitsIn sizes.now.slots place.new.me.0.waits bags.new }
+    ensures seat { (seat.new.table_id ≡ seat.old.table_id) × (seat.new.id ≡ seat.old.id) }
+    ensures reclaimed { (k : ℕ) × (ws : List Garbage) × (seat.new.me ≡ (record seat.old.me.0 { slot = k; waits = ws }, seat.old.me.1)) }
+    ensures waits { WaitsIn sizes.now.slots seat.new.me.0.waits bags.new }
     ensures bags { bags.new.due ≡ None }
-    ensures some { result ≡ nat_lt 0 (length place.new.me.0.waits) }
+    ensures some { result ≡ nat_lt 0 (length seat.new.me.0.waits) }
 {
     if !bags.has_some() {
         return false;
     }
-    rotate_and_reclaim(words, place, sizes, number, bags)
+    rotate_and_reclaim(words, seat, sizes, number, bags)
 }
 
 /// Behind a publication: turns the bags if the count isn't the one that was found before, and reclaims what is due then.
 #[inline(always)]
 pub(crate) fn turn<T: Holds>(
     words: &Words<T>,
-    place: &mut Place<T>,
+    seat: &mut Seat<T>,
     sizes: &Sizes,
     number: usize,
     own: &mut LocalState,
     bags: &mut Bags,
     epoch: u64,
 )
-    requires table { FitsSizes words.now.table_id words.now.key.sizes place.old.table_id place.old.me.0.sizes sizes.now × (number < sizes.now.participants) }
-    requires open { (place.old.me.0.known.phase ≡ Opened epoch) × (place.old.me.0.known.found ≡ epoch) }
-    requires rest { (place.old.me.0.kind ≡ 1) × (place.old.me.0.number ≡ number) × (place.old.me.0.releasing ≡ 0) × (place.old.me.0.leases ≡ []) × (place.old.me.0.filling ≡ None) }
+    requires table { FitsSizes words.now.table_id words.now.key.sizes seat.old.table_id seat.old.me.0.sizes sizes.now × (number < sizes.now.participants) }
+    requires open { (seat.old.me.0.known.phase ≡ Opened epoch) × (seat.old.me.0.known.found ≡ epoch) }
+    requires rest { (seat.old.me.0.kind ≡ 1) × (seat.old.me.0.number ≡ number) × (seat.old.me.0.releasing ≡ 0) × (seat.old.me.0.leases ≡ []) × (seat.old.me.0.filling ≡ None) }
     requires noted { own.old.published ≡ own.old.previous }
-    requires waits { (ws : List Garbage) × (place.old.me.0.waits ≡ rotated epoch own.old.previous ws) × WaitsIn sizes.now.slots ws bags.old }
+    requires waits { (ws : List Garbage) × (seat.old.me.0.waits ≡ rotated epoch own.old.previous ws) × WaitsIn sizes.now.slots ws bags.old }
     requires done { bags.old.due ≡ None }
-    ensures seat { (place.new.table_id ≡ place.old.table_id) × (place.new.id ≡ place.old.id) }
-    ensures reclaimed { (k : ℕ) × (ws : List Garbage) × (place.new.me ≡ (record place.old.me.0 { slot = k; waits = ws }, place.old.me.1)) }
-    ensures waits { WaitsIn sizes.now.slots place.new.me.0.waits bags.new }
+    ensures seat { (seat.new.table_id ≡ seat.old.table_id) × (seat.new.id ≡ seat.old.id) }
+    ensures reclaimed { (k : ℕ) × (ws : List Garbage) × (seat.new.me ≡ (record seat.old.me.0 { slot = k; waits = ws }, seat.old.me.1)) }
+    ensures waits { WaitsIn sizes.now.slots seat.new.me.0.waits bags.new }
     ensures bags { bags.new.due ≡ None }
-    ensures own { own.new ≡ record own.old { garbage = cond (own.old.previous == epoch) own.old.garbage (nat_lt 0 (length place.new.me.0.waits)); published = epoch; previous = epoch } }
+    ensures own { own.new ≡ record own.old { garbage = cond (own.old.previous == epoch) own.old.garbage (nat_lt 0 (length seat.new.me.0.waits)); published = epoch; previous = epoch } }
 {
     // Most openings find the count of the one before.
     if own.previous == epoch {
         return;
     }
-    own.garbage = turn_bags(words, place, sizes, number, bags);
+    own.garbage = turn_bags(words, seat, sizes, number, bags);
     own.published = epoch;
     own.previous = epoch;
 }
@@ -154,19 +154,19 @@ impl<T: Holds> Local<T> {
 
     /// The participant that a seat has just come to act for.
     pub(crate) fn registered(
-        place: Place<T>,
+        seat: Seat<T>,
         number: usize,
         spare: u64,
         ledger: Ledger<T>,
     ) -> Local<T>
-        requires acts { HasRegistered (IsIn T.holds) (spent, []) number spare place.me × (spare < 2 ^ 31) }
-        requires table { (claim_word number < place.table_id.words) × (number < 2 ^ 30) × (number < place.me.0.sizes.participants) }
-        requires empty { IsEmpty place.me.0.sizes.slots ledger }
-        ensures { (home_of result ≡ (place.table_id, place.me.0.sizes)) × (number_of result ≡ number) × (own_of result ≡ no_local) × (hand_of result ≡ []) }
+        requires acts { HasRegistered (IsIn T.holds) (spent, []) number spare seat.me × (spare < 2 ^ 31) }
+        requires table { (claim_word number < seat.table_id.words) × (number < 2 ^ 30) × (number < seat.me.0.sizes.participants) }
+        requires empty { IsEmpty seat.me.0.sizes.slots ledger }
+        ensures { (home_of result ≡ (seat.table_id, seat.me.0.sizes)) × (number_of result ≡ number) × (own_of result ≡ no_local) × (hand_of result ≡ []) }
     {
         let Ledger { rows } = ledger;
         Local {
-            place,
+            seat,
             number,
             spare,
             own: LocalState {
@@ -210,18 +210,18 @@ impl<T: Holds> Local<T> {
         ensures cells { StepsOnNoCell self.old self.new }
     {
         let Local {
-            place,
+            seat,
             number,
             own,
             bags,
             life,
             ..
         } = self;
-        let epoch = steps::read_count(domain.words(), place);
-        steps::publish(domain.words(), place, *number, epoch);
+        let epoch = steps::read_count(domain.words(), seat);
+        steps::publish(domain.words(), seat, *number, epoch);
         turn(
             domain.words(),
-            place,
+            seat,
             &domain.sizes,
             *number,
             own,
@@ -274,7 +274,7 @@ impl<T: Holds> Local<T> {
     {
         cells::read_cell(
             domain.words(),
-            &mut self.place,
+            &mut self.seat,
             domain.sizes.participants,
             cell,
         )
@@ -295,7 +295,7 @@ impl<T: Holds> Local<T> {
         ensures same { IsInNest self.old self.new × (own_of self.new ≡ own_of self.old) × (born_of self.new ≡ born_of self.old) × (waiting_of self.new ≡ waiting_of self.old) }
     {
         let Local {
-            place,
+            seat,
             number,
             life,
             rows,
@@ -304,7 +304,7 @@ impl<T: Holds> Local<T> {
         let Some(life) = life else { unreachable!() };
         let (at, tag) = lease(
             domain.words(),
-            place,
+            seat,
             &domain.sizes,
             *number,
             rows,
@@ -325,7 +325,7 @@ impl<T: Holds> Local<T> {
         ensures cells { StepsOnNoCell self.old self.new }
     {
         let Local {
-            place,
+            seat,
             number,
             own,
             bags,
@@ -334,17 +334,17 @@ impl<T: Holds> Local<T> {
             ..
         } = self;
         let epoch = own.previous;
-        let _ = scan_due(domain.words(), place, &domain.sizes, *number, bags, own);
+        let _ = scan_due(domain.words(), seat, &domain.sizes, *number, bags, own);
         let ended = last_token(life, token);
         give_home(
             domain.words(),
-            place,
+            seat,
             domain.sizes.slots,
             *number,
             rows,
             &ended,
         );
-        cells::close(domain.words(), place, *number, epoch);
+        cells::close(domain.words(), seat, *number, epoch);
         own.nesting = 0;
     }
 
@@ -366,7 +366,7 @@ impl<T: Holds> Local<T> {
         ensures { IsEmpty domain.now.sizes.slots result }
     {
         let Local {
-            mut place,
+            mut seat,
             number,
             spare,
             own: _,
@@ -377,8 +377,8 @@ impl<T: Holds> Local<T> {
             misses: _,
         } = self;
         no_token(life);
-        leave(domain.words(), &mut place, &domain.sizes, number, bags);
-        steps::end(domain.words(), &mut place, number, spare);
+        leave(domain.words(), &mut seat, &domain.sizes, number, bags);
+        steps::end(domain.words(), &mut seat, number, spare);
         Ledger { rows }
     }
 }

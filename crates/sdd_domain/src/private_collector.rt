@@ -24,9 +24,9 @@ use std::alloc::AllocError;
 pub struct PrivateCollector {
     pub(crate) sizes: Sizes,
     pub(crate) kept: NotedChain,
-    pub(crate) seat: Calm<Acting>,
-    ghost at: { seat.badge.views ≡ gathering (bag_in seat.badge.views) ∷ [] },
-    ghost told: { IsKept sizes.slots (bag_in seat.badge.views) kept },
+    pub(crate) calm: Calm<Acting>,
+    ghost at: { calm.badge.views ≡ gathering (bag_in calm.badge.views) ∷ [] },
+    ghost told: { IsKept sizes.slots (bag_in calm.badge.views) kept },
 }
 
 impl PrivateCollector {
@@ -42,11 +42,11 @@ impl PrivateCollector {
         ensures made { IsOk result }
     {
         let sizes = domain.sizes;
-        let seat = new_bag(domain.words());
+        let calm = new_bag(domain.words());
         Ok(PrivateCollector {
             sizes,
             kept: NotedChain::new(),
-            seat,
+            calm,
         })
     }
 
@@ -74,10 +74,10 @@ impl PrivateCollector {
         let PrivateCollector {
             sizes,
             mut kept,
-            seat,
+            calm,
         } = self;
         let Local {
-            place,
+            seat,
             number,
             own,
             bags,
@@ -85,11 +85,11 @@ impl PrivateCollector {
             ..
         } = local;
         let words = domain.words();
-        take_bag(words, place, seat);
-        let note = reread(words, place);
+        take_bag(words, seat, calm);
+        let note = reread(words, seat);
         sweep(
             words,
-            place,
+            seat,
             &domain.sizes,
             *number,
             rows,
@@ -97,11 +97,11 @@ impl PrivateCollector {
             &mut kept,
             note,
         );
-        let Shared { slot, part, seat } = shared;
-        take_in(words, place, seat);
+        let Shared { slot, part, calm } = shared;
+        take_in(words, seat, calm);
         let last = put_in(
             words,
-            place,
+            seat,
             &domain.sizes,
             *number,
             rows,
@@ -109,9 +109,9 @@ impl PrivateCollector {
             Noted { slot, note },
             part,
         );
-        let seat = part_bag(words, place);
+        let calm = part_bag(words, seat);
         flag_waiting(own, bags);
-        (PrivateCollector { sizes, kept, seat }, last)
+        (PrivateCollector { sizes, kept, calm }, last)
     }
 
     /// Ends the collector: the participant has retired what was in it.
@@ -126,16 +126,16 @@ impl PrivateCollector {
         let PrivateCollector {
             sizes: _,
             kept,
-            seat,
+            calm,
         } = self;
         let Local {
-            place,
+            seat,
             own,
             bags,
             ..
         } = local;
-        take_bag(domain.words(), place, seat);
-        hand_all(domain.words(), place, &domain.sizes, kept, bags);
+        take_bag(domain.words(), seat, calm);
+        hand_all(domain.words(), seat, &domain.sizes, kept, bags);
         flag_waiting(own, bags);
     }
 }

@@ -24,7 +24,7 @@ use domain_garbage::private::{NotedChain, give_back, take_due};
 use domain_garbage::reclaiming::{reclaim, reclaim_noted};
 use domain_table::aim::Retire;
 use domain_table::bags::Bags;
-use domain_table::board::Place;
+use domain_table::board::Seat;
 use domain_table::owners::release_home;
 use domain_table::row::Row;
 use sdd_plain::sizes::Sizes;
@@ -34,48 +34,48 @@ use std::collections::VecDeque;
 /// item.
 fn release_held<T: Holds>(
     words: &Words<T>,
-    place: &mut Place<T>,
+    seat: &mut Seat<T>,
     sizes: &Sizes,
     number: usize,
     bags: &mut Bags,
     held: Held<T>,
 )
-    requires table { FitsSizes words.now.table_id words.now.key.sizes place.old.table_id place.old.me.0.sizes sizes.now × (number < sizes.now.participants) }
-    requires ready { IsAtRest number place.old.me.0 }
-    requires owner { IsFirst place.old.me.0 (told_of held).0 (told_of held).1 }
-    requires waits { WaitsIn sizes.now.slots place.old.me.0.waits bags.old }
-    ensures seat { (place.new.table_id ≡ place.old.table_id) × (place.new.id ≡ place.old.id) }
-    ensures released { (o : Owner) (os : List Owner) → place.old.me.0.hand ≡ o ∷ os → (ws : List Garbage) × (place.new.me ≡ (record place.old.me.0 { hand = os; waits = ws }, place.old.me.1)) }
-    ensures waits { WaitsIn sizes.now.slots place.new.me.0.waits bags.new }
-    ensures bags { (bags.new.due ≡ bags.old.due) × (aged 3 place.new.me.0.waits ≡ aged 3 place.old.me.0.waits) }
+    requires table { FitsSizes words.now.table_id words.now.key.sizes seat.old.table_id seat.old.me.0.sizes sizes.now × (number < sizes.now.participants) }
+    requires ready { IsAtRest number seat.old.me.0 }
+    requires owner { IsFirst seat.old.me.0 (told_of held).0 (told_of held).1 }
+    requires waits { WaitsIn sizes.now.slots seat.old.me.0.waits bags.old }
+    ensures seat { (seat.new.table_id ≡ seat.old.table_id) × (seat.new.id ≡ seat.old.id) }
+    ensures released { (o : Owner) (os : List Owner) → seat.old.me.0.hand ≡ o ∷ os → (ws : List Garbage) × (seat.new.me ≡ (record seat.old.me.0 { hand = os; waits = ws }, seat.old.me.1)) }
+    ensures waits { WaitsIn sizes.now.slots seat.new.me.0.waits bags.new }
+    ensures bags { (bags.new.due ≡ bags.old.due) × (aged 3 seat.new.me.0.waits ≡ aged 3 seat.old.me.0.waits) }
 {
     let Held { slot, part } = held;
-    if release_home::<T, Told, Retire>(words, place, sizes, number, slot, part) == 0 {
-        bags.retire(words, place, sizes, slot);
+    if release_home::<T, Told, Retire>(words, seat, sizes, number, slot, part) == 0 {
+        bags.retire(words, seat, sizes, slot);
     }
 }
 
 /// Spends a reclaimed item, whose owners are the first in hand: each is released.
 fn give_up<T: Holds>(
     words: &Words<T>,
-    place: &mut Place<T>,
+    seat: &mut Seat<T>,
     sizes: &Sizes,
     number: usize,
     bags: &mut Bags,
     item: T,
 )
-    requires table { FitsSizes words.now.table_id words.now.key.sizes place.old.table_id place.old.me.0.sizes sizes.now × (number < sizes.now.participants) }
-    requires ready { IsAtRest number place.old.me.0 }
-    requires owners { (hs : List Owner) × (os : List Owner) × (T.holds item ≡ map told hs) × (place.old.me.0.hand ≡ hs ++ os) }
-    requires waits { WaitsIn sizes.now.slots place.old.me.0.waits bags.old }
-    ensures seat { (place.new.table_id ≡ place.old.table_id) × (place.new.id ≡ place.old.id) }
-    ensures released { HasGivenUp T.holds item place.old.me place.new.me }
-    ensures waits { WaitsIn sizes.now.slots place.new.me.0.waits bags.new }
-    ensures bags { (bags.new.due ≡ bags.old.due) × (aged 3 place.new.me.0.waits ≡ aged 3 place.old.me.0.waits) }
+    requires table { FitsSizes words.now.table_id words.now.key.sizes seat.old.table_id seat.old.me.0.sizes sizes.now × (number < sizes.now.participants) }
+    requires ready { IsAtRest number seat.old.me.0 }
+    requires owners { (hs : List Owner) × (os : List Owner) × (T.holds item ≡ map told hs) × (seat.old.me.0.hand ≡ hs ++ os) }
+    requires waits { WaitsIn sizes.now.slots seat.old.me.0.waits bags.old }
+    ensures seat { (seat.new.table_id ≡ seat.old.table_id) × (seat.new.id ≡ seat.old.id) }
+    ensures released { HasGivenUp T.holds item seat.old.me seat.new.me }
+    ensures waits { WaitsIn sizes.now.slots seat.new.me.0.waits bags.new }
+    ensures bags { (bags.new.due ≡ bags.old.due) × (aged 3 seat.new.me.0.waits ≡ aged 3 seat.old.me.0.waits) }
 {
     let mut item = item;
     while let Some(held) = item.give_up() {
-        release_held(words, place, sizes, number, bags, held);
+        release_held(words, seat, sizes, number, bags, held);
     }
     item.end();
 }
@@ -83,49 +83,49 @@ fn give_up<T: Holds>(
 /// Reclaims all that is due, of what the participant retired, and releases what these items held.
 pub(crate) fn reclaim_due<T: Holds>(
     words: &Words<T>,
-    place: &mut Place<T>,
+    seat: &mut Seat<T>,
     sizes: &Sizes,
     number: usize,
     bags: &mut Bags,
 )
-    requires table { FitsSizes words.now.table_id words.now.key.sizes place.old.table_id place.old.me.0.sizes sizes.now × (number < sizes.now.participants) }
-    requires ready { IsAtRest number place.old.me.0 × (place.old.me.0.filling ≡ None) }
-    requires waits { WaitsIn sizes.now.slots place.old.me.0.waits bags.old }
-    ensures seat { (place.new.table_id ≡ place.old.table_id) × (place.new.id ≡ place.old.id) }
-    ensures reclaimed { (k : ℕ) × (ws : List Garbage) × (place.new.me ≡ (record place.old.me.0 { slot = k; waits = ws }, place.old.me.1)) }
-    ensures waits { WaitsIn sizes.now.slots place.new.me.0.waits bags.new }
+    requires table { FitsSizes words.now.table_id words.now.key.sizes seat.old.table_id seat.old.me.0.sizes sizes.now × (number < sizes.now.participants) }
+    requires ready { IsAtRest number seat.old.me.0 × (seat.old.me.0.filling ≡ None) }
+    requires waits { WaitsIn sizes.now.slots seat.old.me.0.waits bags.old }
+    ensures seat { (seat.new.table_id ≡ seat.old.table_id) × (seat.new.id ≡ seat.old.id) }
+    ensures reclaimed { (k : ℕ) × (ws : List Garbage) × (seat.new.me ≡ (record seat.old.me.0 { slot = k; waits = ws }, seat.old.me.1)) }
+    ensures waits { WaitsIn sizes.now.slots seat.new.me.0.waits bags.new }
     ensures bags { bags.new.due ≡ None }
 {
-    while let Some(slot) = bags.take_due(words, place, sizes) {
-        let item = reclaim(words, place, sizes, slot);
-        give_up(words, place, sizes, number, bags, item);
+    while let Some(slot) = bags.take_due(words, seat, sizes) {
+        let item = reclaim(words, seat, sizes, slot);
+        give_up(words, seat, sizes, number, bags, item);
     }
 }
 
 /// Spends a reclaimed item, as `give_up` does, under open guards: what it held may be leased.
 fn give_up_under<T: Holds>(
     words: &Words<T>,
-    place: &mut Place<T>,
+    seat: &mut Seat<T>,
     sizes: &Sizes,
     number: usize,
     rows: &mut VecDeque<Row<T>>,
     bags: &mut Bags,
     item: T,
 )
-    requires table { FitsSizes words.now.table_id words.now.key.sizes place.old.table_id place.old.me.0.sizes sizes.now × (number < sizes.now.participants) }
-    requires ready { CanRelease number place.old.me.0 }
-    requires owners { (hs : List Owner) × (os : List Owner) × (T.holds item ≡ map told hs) × (place.old.me.0.hand ≡ hs ++ os) }
-    requires rows { ((life : ℕ) × (map row_told rows.old.items ≡ map (lease_told life) place.old.me.0.leases)) × (all_below sizes.now.slots (row_slots rows.old.items) ≡ true) }
-    requires waits { WaitsIn sizes.now.slots place.old.me.0.waits bags.old }
-    ensures seat { (place.new.table_id ≡ place.old.table_id) × (place.new.id ≡ place.old.id) }
-    ensures released { GivesUpUnder T.holds item place.old.me place.new.me }
-    ensures rows { ((life : ℕ) → map row_told rows.old.items ≡ map (lease_told life) place.old.me.0.leases → map row_told rows.new.items ≡ map (lease_told life) place.new.me.0.leases) × (deque_capacity rows.new ≡ deque_capacity rows.old) × (row_slots rows.new.items ≡ row_slots rows.old.items) }
-    ensures waits { WaitsIn sizes.now.slots place.new.me.0.waits bags.new × (bags.new.due ≡ bags.old.due) }
+    requires table { FitsSizes words.now.table_id words.now.key.sizes seat.old.table_id seat.old.me.0.sizes sizes.now × (number < sizes.now.participants) }
+    requires ready { CanRelease number seat.old.me.0 }
+    requires owners { (hs : List Owner) × (os : List Owner) × (T.holds item ≡ map told hs) × (seat.old.me.0.hand ≡ hs ++ os) }
+    requires rows { ((life : ℕ) × (map row_told rows.old.items ≡ map (lease_told life) seat.old.me.0.leases)) × (all_below sizes.now.slots (row_slots rows.old.items) ≡ true) }
+    requires waits { WaitsIn sizes.now.slots seat.old.me.0.waits bags.old }
+    ensures seat { (seat.new.table_id ≡ seat.old.table_id) × (seat.new.id ≡ seat.old.id) }
+    ensures released { GivesUpUnder T.holds item seat.old.me seat.new.me }
+    ensures rows { ((life : ℕ) → map row_told rows.old.items ≡ map (lease_told life) seat.old.me.0.leases → map row_told rows.new.items ≡ map (lease_told life) seat.new.me.0.leases) × (deque_capacity rows.new ≡ deque_capacity rows.old) × (row_slots rows.new.items ≡ row_slots rows.old.items) }
+    ensures waits { WaitsIn sizes.now.slots seat.new.me.0.waits bags.new × (bags.new.due ≡ bags.old.due) }
 {
     let mut item = item;
     while let Some(held) = item.give_up() {
         let Held { slot, part } = held;
-        give_back(words, place, sizes, number, rows, bags, slot, part);
+        give_back(words, seat, sizes, number, rows, bags, slot, part);
     }
     item.end();
 }
@@ -134,7 +134,7 @@ fn give_up_under<T: Holds>(
 /// three or more below the count, which was read again under the open guard. What these items held is released.
 pub(crate) fn sweep<T: Holds>(
     words: &Words<T>,
-    place: &mut Place<T>,
+    seat: &mut Seat<T>,
     sizes: &Sizes,
     number: usize,
     rows: &mut VecDeque<Row<T>>,
@@ -142,20 +142,20 @@ pub(crate) fn sweep<T: Holds>(
     kept: &mut NotedChain,
     count: u64,
 )
-    requires table { FitsSizes words.now.table_id words.now.key.sizes place.old.table_id place.old.me.0.sizes sizes.now × (number < sizes.now.participants) }
-    requires ready { CanRelease number place.old.me.0 × (place.old.me.0.filling ≡ None) × (is_inside place.old.me.0.known ≡ true) × (place.old.me.0.known.reread ≡ Some count) }
-    requires rows { ((life : ℕ) × (map row_told rows.old.items ≡ map (lease_told life) place.old.me.0.leases)) × (all_below sizes.now.slots (row_slots rows.old.items) ≡ true) }
-    requires waits { WaitsIn sizes.now.slots place.old.me.0.waits bags.old }
-    requires kept { IsKept sizes.now.slots place.old.me.0.collected kept.old }
-    ensures seat { (place.new.table_id ≡ place.old.table_id) × (place.new.id ≡ place.old.id) }
-    ensures swept { (k : ℕ) × (ws : List Garbage) × (ls : List Lease) × (cs : List Garbage) × AreAt place.old.me.0.leases ls × (place.new.me ≡ (record place.old.me.0 { slot = k; leases = ls; waits = ws; collected = cs }, place.old.me.1)) }
-    ensures rows { ((life : ℕ) → map row_told rows.old.items ≡ map (lease_told life) place.old.me.0.leases → map row_told rows.new.items ≡ map (lease_told life) place.new.me.0.leases) × (deque_capacity rows.new ≡ deque_capacity rows.old) × (row_slots rows.new.items ≡ row_slots rows.old.items) }
-    ensures waits { WaitsIn sizes.now.slots place.new.me.0.waits bags.new × (bags.new.due ≡ bags.old.due) }
-    ensures kept { IsKept sizes.now.slots place.new.me.0.collected kept.new }
-    ensures left { IsSweptOf count place.old.me.0.collected place.new.me.0.collected }
+    requires table { FitsSizes words.now.table_id words.now.key.sizes seat.old.table_id seat.old.me.0.sizes sizes.now × (number < sizes.now.participants) }
+    requires ready { CanRelease number seat.old.me.0 × (seat.old.me.0.filling ≡ None) × (is_inside seat.old.me.0.known ≡ true) × (seat.old.me.0.known.reread ≡ Some count) }
+    requires rows { ((life : ℕ) × (map row_told rows.old.items ≡ map (lease_told life) seat.old.me.0.leases)) × (all_below sizes.now.slots (row_slots rows.old.items) ≡ true) }
+    requires waits { WaitsIn sizes.now.slots seat.old.me.0.waits bags.old }
+    requires kept { IsKept sizes.now.slots seat.old.me.0.collected kept.old }
+    ensures seat { (seat.new.table_id ≡ seat.old.table_id) × (seat.new.id ≡ seat.old.id) }
+    ensures swept { (k : ℕ) × (ws : List Garbage) × (ls : List Lease) × (cs : List Garbage) × AreAt seat.old.me.0.leases ls × (seat.new.me ≡ (record seat.old.me.0 { slot = k; leases = ls; waits = ws; collected = cs }, seat.old.me.1)) }
+    ensures rows { ((life : ℕ) → map row_told rows.old.items ≡ map (lease_told life) seat.old.me.0.leases → map row_told rows.new.items ≡ map (lease_told life) seat.new.me.0.leases) × (deque_capacity rows.new ≡ deque_capacity rows.old) × (row_slots rows.new.items ≡ row_slots rows.old.items) }
+    ensures waits { WaitsIn sizes.now.slots seat.new.me.0.waits bags.new × (bags.new.due ≡ bags.old.due) }
+    ensures kept { IsKept sizes.now.slots seat.new.me.0.collected kept.new }
+    ensures left { IsSweptOf count seat.old.me.0.collected seat.new.me.0.collected }
 {
-    while let Some(slot) = take_due(words, place, sizes, kept, count) {
-        let item = reclaim_noted(words, place, sizes, slot);
-        give_up_under(words, place, sizes, number, rows, bags, item);
+    while let Some(slot) = take_due(words, seat, sizes, kept, count) {
+        let item = reclaim_noted(words, seat, sizes, slot);
+        give_up_under(words, seat, sizes, number, rows, bags, item);
     }
 }

@@ -25,8 +25,8 @@ use sdd_plain::refusal::NoSlot;
 pub struct Shared<T> {
     pub(crate) slot: usize,
     pub(crate) part: One<Stored<T>>,
-    pub(crate) seat: Calm<Acting>,
-    ghost owns: { seat.badge.views ≡ holding (record { item = item_in seat.badge.views; slot = slot; round = part.part.life.id }) ∷ [] },
+    pub(crate) calm: Calm<Acting>,
+    ghost owns: { calm.badge.views ≡ holding (record { item = item_in calm.badge.views; slot = slot; round = part.part.life.id }) ∷ [] },
     ghost there: { IsSome part.part.seen.value },
     ghost low: { slot + 1 < 2 ^ 31 },
 }
@@ -56,15 +56,15 @@ impl<T: Holds> Shared<T> {
         ensures cells { StepsOnNoCell local.old local.new }
     {
         let Local {
-            place,
+            seat,
             next,
             misses,
             ..
         } = local;
-        let (slot, part) = place_item(domain.words(), place, &domain.sizes, *next, item, misses)?;
+        let (slot, part) = place_item(domain.words(), seat, &domain.sizes, *next, item, misses)?;
         *next = slot + 1;
-        let seat = part_with(domain.words(), place);
-        Ok(Shared { slot, part, seat })
+        let calm = part_with(domain.words(), seat);
+        Ok(Shared { slot, part, calm })
     }
 
     /// Places what `f` gives, as [`new`](Shared::new) does with an item that is there: `f` is called once a slot is claimed
@@ -86,11 +86,11 @@ impl<T: Holds> Shared<T> {
         ensures same { IsSameButHandAndMisses local.old local.new }
         ensures cells { StepsOnNoCell local.old local.new }
     {
-        let (place, from, misses) = (&mut local.place, local.next, &mut local.misses);
-        let (slot, part) = place_made(domain.words(), place, &domain.sizes, from, f, misses)?;
+        let (seat, from, misses) = (&mut local.seat, local.next, &mut local.misses);
+        let (slot, part) = place_made(domain.words(), seat, &domain.sizes, from, f, misses)?;
         local.next = slot + 1;
-        let seat = part_with(domain.words(), place);
-        Ok(Shared { slot, part, seat })
+        let calm = part_with(domain.words(), seat);
+        Ok(Shared { slot, part, calm })
     }
 
     /// The item.
@@ -128,18 +128,18 @@ impl<T: Holds> Shared<T> {
         ensures same { IsInNestButMisses local.old local.new × (own_of local.new ≡ own_of local.old) × (born_of local.new ≡ born_of local.old) × (waiting_of local.new ≡ waiting_of local.old) }
         ensures cells { StepsOnNoCell local.old local.new }
     {
-        let Shared { slot, part, seat } = self;
+        let Shared { slot, part, calm } = self;
         let Local {
-            place,
+            seat,
             number,
             rows,
             misses,
             ..
         } = local;
-        take_in(domain.words(), place, seat);
+        take_in(domain.words(), seat, calm);
         match clone(
             domain.words(),
-            place,
+            seat,
             &domain.sizes,
             *number,
             rows,
@@ -147,22 +147,22 @@ impl<T: Holds> Shared<T> {
             misses,
         ) {
             Some(more) => {
-                let seat = part_with(domain.words(), place);
-                let other = part_with(domain.words(), place);
+                let calm = part_with(domain.words(), seat);
+                let other = part_with(domain.words(), seat);
                 let like = One::from_part(part.part.like(more.into_part()));
-                let both = Shared { slot, part, seat };
+                let both = Shared { slot, part, calm };
                 Ok((
                     both,
                     Shared {
                         slot,
                         part: like,
-                        seat: other,
+                        calm: other,
                     },
                 ))
             }
             None => {
-                let seat = part_with(domain.words(), place);
-                Err(Shared { slot, part, seat })
+                let calm = part_with(domain.words(), seat);
+                Err(Shared { slot, part, calm })
             }
         }
     }
@@ -180,10 +180,10 @@ impl<T: Holds> Shared<T> {
         ensures same { IsInNest local.old local.new × (own_of local.new ≡ own_of local.old) × (born_of local.new ≡ born_of local.old) × (waiting_of local.new ≡ waiting_of local.old) }
         ensures cells { StepsOnNoCell local.old local.new }
     {
-        let Local { place, rows, .. } = local;
-        let part = own_leased(domain.words(), place, &domain.sizes, rows, slot)?;
-        let seat = part_with(domain.words(), place);
-        Some(Shared { slot, part, seat })
+        let Local { seat, rows, .. } = local;
+        let part = own_leased(domain.words(), seat, &domain.sizes, rows, slot)?;
+        let calm = part_with(domain.words(), seat);
+        Some(Shared { slot, part, calm })
     }
 
     /// An owner of the item that a pointer is to, as `Ptr::get_shared` gives it; else the pointer is back.
@@ -265,32 +265,32 @@ impl<T: Holds> Shared<T> {
         ensures same { IsInNest local.old local.new × (own_of local.new ≡ own_of local.old) × (born_of local.new ≡ born_of local.old) × (waiting_of local.new ≡ waiting_of local.old) }
         ensures cells { StepsOnNoCell local.old local.new }
     {
-        let Shared { slot, part, seat } = self;
+        let Shared { slot, part, calm } = self;
         let Local {
-            place,
+            seat,
             number,
             life,
             rows,
             ..
         } = local;
         let Some(life) = life else { unreachable!() };
-        take_in(domain.words(), place, seat);
+        take_in(domain.words(), seat, calm);
         let at = lease_own(
             domain.words(),
-            place,
+            seat,
             &domain.sizes,
             *number,
             rows,
             life,
             slot,
         );
-        let seat = part_with(domain.words(), place);
+        let calm = part_with(domain.words(), seat);
         let seen = seen_like(rows, at, &part);
         let loaded = Loaded {
             slot,
             seen: Some(seen),
         };
-        (Shared { slot, part, seat }, loaded)
+        (Shared { slot, part, calm }, loaded)
     }
 
     /// Takes the owner into the participant's hand, for an item to hold: the next one that is placed holds it, and all
@@ -303,8 +303,8 @@ impl<T: Holds> Shared<T> {
         ensures same { IsSameButHand local.old local.new }
         ensures cells { StepsOnNoCell local.old local.new }
     {
-        let Shared { slot, part, seat } = self;
-        take_in(domain.words(), &mut local.place, seat);
+        let Shared { slot, part, calm } = self;
+        take_in(domain.words(), &mut local.seat, calm);
         Held { slot, part }
     }
 
@@ -319,19 +319,19 @@ impl<T: Holds> Shared<T> {
         ensures same { IsInNest local.old local.new × (born_of local.new ≡ born_of local.old) }
         ensures cells { StepsOnNoCell local.old local.new }
     {
-        let Shared { slot, part, seat } = self;
+        let Shared { slot, part, calm } = self;
         let Local {
-            place,
+            seat,
             number,
             own,
             bags,
             rows,
             ..
         } = local;
-        take_in(domain.words(), place, seat);
+        take_in(domain.words(), seat, calm);
         let left = release::<T, Told, Retire>(
             domain.words(),
-            place,
+            seat,
             &domain.sizes,
             *number,
             rows,
@@ -341,7 +341,7 @@ impl<T: Holds> Shared<T> {
         if left > 0 {
             return false;
         }
-        bags.retire(domain.words(), place, &domain.sizes, slot);
+        bags.retire(domain.words(), seat, &domain.sizes, slot);
         own.garbage = true;
         true
     }

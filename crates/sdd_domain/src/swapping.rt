@@ -20,7 +20,7 @@ ghost use Rattle.sdd_domain.specs.declared.shared.Shared.{Shared};
 use crate::board::{Told, Words};
 use crate::holds::Holds;
 use crate::shared::Shared;
-use domain_table::board::{Home, Place};
+use domain_table::board::{Home, Seat};
 use domain_table::cells::swap;
 use domain_table::homes::{let_go, parts_of, spare_at};
 use domain_table::owners::{part_with, take_in};
@@ -33,28 +33,28 @@ use sdd_plain::tag::Tag;
 /// word that says so in a cell, with this tag, is the answer.
 pub(crate) fn bring<T: Holds>(
     words: &Words<T>,
-    place: &mut Place<T>,
+    seat: &mut Seat<T>,
     sizes: &Sizes,
     spare: u64,
     new: (Option<Shared<T>>, Tag),
 ) -> u64
-    requires table { FitsSizes words.now.table_id words.now.key.sizes place.old.table_id place.old.me.0.sizes sizes.now }
-    requires ready { (place.old.me.0.kind ≡ 1) × (place.old.me.0.spare ≡ spare) × (spare < 2 ^ 31) }
-    requires out { (tail : List (ℕ × Home T)) × (place.old.me.1 ≡ (own_spare place.old.me.0 spare, Blank) ∷ tail) }
+    requires table { FitsSizes words.now.table_id words.now.key.sizes seat.old.table_id seat.old.me.0.sizes sizes.now }
+    requires ready { (seat.old.me.0.kind ≡ 1) × (seat.old.me.0.spare ≡ spare) × (spare < 2 ^ 31) }
+    requires out { (tail : List (ℕ × Home T)) × (seat.old.me.1 ≡ (own_spare seat.old.me.0 spare, Blank) ∷ tail) }
     requires mine { IfSome new.0 (λ s. kept_in s ≡ words.now.table_id) }
-    ensures seat { (place.new.table_id ≡ place.old.table_id) × (place.new.id ≡ place.old.id) }
+    ensures seat { (seat.new.table_id ≡ seat.old.table_id) × (seat.new.id ≡ seat.old.id) }
     ensures code { (result ≡ packed spare (tag_number new.1) (owner_code new.0)) × (tag_number new.1 < 4) }
-    ensures lies { IfSome new.0 (λ s. IsInFront s place.new.me.1) }
-    ensures brings { BringsOne (IsIn T.holds) place.old.me spare result place.new.me }
+    ensures lies { IfSome new.0 (λ s. IsInFront s seat.new.me.1) }
+    ensures brings { BringsOne (IsIn T.holds) seat.old.me spare result seat.new.me }
 {
     let (owner, tag) = new;
     let Some(owner) = owner else {
         return word_with(spare, tag, 0);
     };
-    let Shared { slot, part, seat } = owner;
-    take_in(words, place, seat);
+    let Shared { slot, part, calm } = owner;
+    take_in(words, seat, calm);
     let at = spare_at(sizes, spare);
-    let_go(words.exchange(place, at, Home::Part(part.into_part(), 1)));
+    let_go(words.exchange(seat, at, Home::Part(part.into_part(), 1)));
     word_with(spare, tag, slot as u64 + 1)
 }
 
@@ -62,18 +62,18 @@ pub(crate) fn bring<T: Holds>(
 /// in it, if there was one, with the cell's tag.
 pub(crate) fn take_back<T: Holds>(
     words: &Words<T>,
-    place: &mut Place<T>,
+    seat: &mut Seat<T>,
     sizes: &Sizes,
     word: u64,
 ) -> (u64, (Option<Shared<T>>, Tag))
-    requires table { FitsSizes words.now.table_id words.now.key.sizes place.old.table_id place.old.me.0.sizes sizes.now }
-    requires ready { (place.old.me.0.kind ≡ 1) × (place.old.me.0.releasing ≡ 0) }
-    requires back { (m : Me (Home T) Acting) × (os : List Owner) × (tail : List (ℕ × Home T)) × GetsBack (IsIn T.holds) m os word tail place.old.me }
-    ensures seat { (place.new.table_id ≡ place.old.table_id) × (place.new.id ≡ place.old.id) }
+    requires table { FitsSizes words.now.table_id words.now.key.sizes seat.old.table_id seat.old.me.0.sizes sizes.now }
+    requires ready { (seat.old.me.0.kind ≡ 1) × (seat.old.me.0.releasing ≡ 0) }
+    requires back { (m : Me (Home T) Acting) × (os : List Owner) × (tail : List (ℕ × Home T)) × GetsBack (IsIn T.holds) m os word tail seat.old.me }
+    ensures seat { (seat.new.table_id ≡ seat.old.table_id) × (seat.new.id ≡ seat.old.id) }
     ensures spare { result.0 < 2 ^ 31 }
     ensures code { (word ≡ packed result.0 (tag_number result.1.1) (owner_code result.1.0)) × (tag_number result.1.1 < 4) }
-    ensures whose { (s : Shared T) → IsInFront s place.old.me.1 → IfSome result.1.0 (λ back. back.part.part ≡ s.part.part) }
-    ensures back { TakesBack (IsIn T.holds) word place.old.me result.0 place.new.me }
+    ensures whose { (s : Shared T) → IsInFront s seat.old.me.1 → IfSome result.1.0 (λ back. back.part.part ≡ s.part.part) }
+    ensures back { TakesBack (IsIn T.holds) word seat.old.me result.0 seat.new.me }
     ensures mine { IfSome result.1.0 (λ s. kept_in s ≡ words.now.table_id) }
 {
     let spare = word % (1 << 31);
@@ -83,12 +83,12 @@ pub(crate) fn take_back<T: Holds>(
         return (spare, (None, tag));
     }
     let at = spare_at(sizes, spare);
-    let (part, _) = parts_of::<T, Told>(words.exchange(place, at, Home::Blank));
-    let seat = part_with(words, place);
+    let (part, _) = parts_of::<T, Told>(words.exchange(seat, at, Home::Blank));
+    let calm = part_with(words, seat);
     let owner = Shared {
         slot: code as usize - 1,
         part: One::from_part(part),
-        seat,
+        calm,
     };
     (spare, (Some(owner), tag))
 }
@@ -96,23 +96,23 @@ pub(crate) fn take_back<T: Holds>(
 /// Swaps what a cell owns and its tag, in one step. The number of the participant's spare slot is another one then.
 pub(crate) fn swap_owner<T: Holds>(
     words: &Words<T>,
-    place: &mut Place<T>,
+    seat: &mut Seat<T>,
     sizes: &Sizes,
     spare: u64,
     cell: usize,
     new: (Option<Shared<T>>, Tag),
 ) -> (u64, (Option<Shared<T>>, Tag))
-    requires table { FitsSizes words.now.table_id words.now.key.sizes place.old.table_id place.old.me.0.sizes sizes.now × (cell < sizes.now.cells) }
-    requires ready { (place.old.me.0.kind ≡ 1) × (is_ready place.old.me.0.known ≡ true) × (place.old.me.0.releasing ≡ 0) × (place.old.me.0.spare ≡ spare) × (spare < 2 ^ 31) }
-    requires out { (tail : List (ℕ × Home T)) × (place.old.me.1 ≡ (own_spare place.old.me.0 spare, Blank) ∷ tail) }
+    requires table { FitsSizes words.now.table_id words.now.key.sizes seat.old.table_id seat.old.me.0.sizes sizes.now × (cell < sizes.now.cells) }
+    requires ready { (seat.old.me.0.kind ≡ 1) × (is_ready seat.old.me.0.known ≡ true) × (seat.old.me.0.releasing ≡ 0) × (seat.old.me.0.spare ≡ spare) × (spare < 2 ^ 31) }
+    requires out { (tail : List (ℕ × Home T)) × (seat.old.me.1 ≡ (own_spare seat.old.me.0 spare, Blank) ∷ tail) }
     requires mine { IfSome new.0 (λ s. kept_in s ≡ words.now.table_id) }
-    ensures seat { (place.new.table_id ≡ place.old.table_id) × (place.new.id ≡ place.old.id) }
+    ensures seat { (seat.new.table_id ≡ seat.old.table_id) × (seat.new.id ≡ seat.old.id) }
     ensures spare { result.0 < 2 ^ 31 }
-    ensures swapped { (w : ℕ) × (v : ℕ) × HasSwapped (with_step (cell_word sizes.now cell) w v place.old.me) spare result.0 place.new.me × (w ≡ packed result.0 (tag_number result.1.1) (owner_code result.1.0)) × (v ≡ packed spare (tag_number new.1) (owner_code new.0)) }
+    ensures swapped { (w : ℕ) × (v : ℕ) × HasSwapped (with_step (cell_word sizes.now cell) w v seat.old.me) spare result.0 seat.new.me × (w ≡ packed result.0 (tag_number result.1.1) (owner_code result.1.0)) × (v ≡ packed spare (tag_number new.1) (owner_code new.0)) }
     ensures few { (tag_number result.1.1 < 4) × (tag_number new.1 < 4) }
     ensures mine { IfSome result.1.0 (λ s. kept_in s ≡ words.now.table_id) }
 {
-    let word = bring(words, place, sizes, spare, new);
-    let found = swap(words, place, sizes.participants, cell, word);
-    take_back(words, place, sizes, found)
+    let word = bring(words, seat, sizes, spare, new);
+    let found = swap(words, seat, sizes.participants, cell, word);
+    take_back(words, seat, sizes, found)
 }

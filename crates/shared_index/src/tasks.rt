@@ -79,14 +79,14 @@ pub struct RunRefused<A> {
 }
 
 // A task at its share.
-struct Seat<L: Naming, A> {
+struct Assigned<L: Naming, A> {
     task: A,
     share: Share<L>,
 }
 
-// Where seats, and then shares and tasks, find room.
+// Where tasks at their shares, and then shares and ended tasks, find room.
 struct Rooms<L: Naming, A> {
-    seats: Vec<Seat<L, A>>,
+    assigned: Vec<Assigned<L, A>>,
     shares: Vec<Share<L>>,
     ended: Vec<Ended<A>>,
 }
@@ -218,20 +218,20 @@ fn run_over<
     rooms: Rooms<L, A>,
 ) -> Ran<A>
     requires parts { (length shares.items ≡ L.parts) × (length tasks.items ≡ L.parts) }
-    requires empty { (rooms.seats.items ≡ []) × (rooms.shares.items ≡ []) × (rooms.ended.items ≡ []) }
-    requires room { (L.parts ≤ vec_capacity rooms.seats) × (L.parts ≤ vec_capacity rooms.shares) × (L.parts ≤ vec_capacity rooms.ended) }
+    requires empty { (rooms.assigned.items ≡ []) × (rooms.shares.items ≡ []) × (rooms.ended.items ≡ []) }
+    requires room { (L.parts ≤ vec_capacity rooms.assigned) × (L.parts ≤ vec_capacity rooms.shares) × (L.parts ≤ vec_capacity rooms.ended) }
     ensures all { length result.ended.items ≡ length tasks.items }
     ensures number { result.number ≡ commits_of result.ended.items }
 {
     let domain = index.domain();
     let Rooms {
-        seats,
+        assigned,
         shares: room,
         ended,
     } = rooms;
-    let mut seats = seated(tasks, shares, seats);
-    for_each_over(rt, &index, seats.as_mut_slice());
-    let (shares, ended) = unseated(seats, room, ended);
+    let mut assigned = assigned_to(tasks, shares, assigned);
+    for_each_over(rt, &index, assigned.as_mut_slice());
+    let (shares, ended) = taken_apart(assigned, room, ended);
     match index.close(shares) {
         Ok((local, number)) => {
             local.end(domain);
@@ -243,23 +243,23 @@ fn run_over<
 
 // Room for so many tasks. None where memory was refused.
 fn made_room<L: Naming, A>(alloc: Global, count: usize) -> Option<Rooms<L, A>>
-    ensures empty { IfSome result (λ r. (r.seats.items ≡ []) × (r.shares.items ≡ []) × (r.ended.items ≡ [])) }
-    ensures room { IfSome result (λ r. (count ≤ vec_capacity r.seats) × (count ≤ vec_capacity r.shares) × (count ≤ vec_capacity r.ended)) }
+    ensures empty { IfSome result (λ r. (r.assigned.items ≡ []) × (r.shares.items ≡ []) × (r.ended.items ≡ [])) }
+    ensures room { IfSome result (λ r. (count ≤ vec_capacity r.assigned) × (count ≤ vec_capacity r.shares) × (count ≤ vec_capacity r.ended)) }
 {
-    let Ok(seats) = Vec::with_capacity(alloc, count) else {
+    let Ok(assigned) = Vec::with_capacity(alloc, count) else {
         return None;
     };
     let Ok(shares) = Vec::with_capacity(alloc, count) else {
-        seats.destroy_empty();
+        assigned.destroy_empty();
         return None;
     };
     let Ok(ended) = Vec::with_capacity(alloc, count) else {
-        seats.destroy_empty();
+        assigned.destroy_empty();
         shares.destroy_empty();
         return None;
     };
     Some(Rooms {
-        seats,
+        assigned,
         shares,
         ended,
     })
@@ -267,24 +267,24 @@ fn made_room<L: Naming, A>(alloc: Global, count: usize) -> Option<Rooms<L, A>>
 
 // Lets room go that nobody took.
 fn leave<L: Naming, A>(rooms: Rooms<L, A>)
-    requires { (rooms.seats.items ≡ []) × (rooms.shares.items ≡ []) × (rooms.ended.items ≡ []) }
+    requires { (rooms.assigned.items ≡ []) × (rooms.shares.items ≡ []) × (rooms.ended.items ≡ []) }
 {
     let Rooms {
-        seats,
+        assigned,
         shares,
         ended,
     } = rooms;
-    seats.destroy_empty();
+    assigned.destroy_empty();
     shares.destroy_empty();
     ended.destroy_empty();
 }
 
 // Tasks at shares, the last one first.
-fn seated<L: Naming, A>(
+fn assigned_to<L: Naming, A>(
     mut tasks: Vec<A>,
     mut shares: Vec<Share<L>>,
-    mut room: Vec<Seat<L, A>>,
-) -> Vec<Seat<L, A>>
+    mut room: Vec<Assigned<L, A>>,
+) -> Vec<Assigned<L, A>>
     requires many { length tasks.items ≡ length shares.items }
     requires empty { room.items ≡ [] }
     requires fits { length tasks.items ≤ vec_capacity room }
@@ -294,7 +294,7 @@ fn seated<L: Naming, A>(
         let Some(share) = shares.pop() else {
             unreachable!()
         };
-        room.push_reserved(Seat { task, share });
+        room.push_reserved(Assigned { task, share });
     }
     tasks.destroy_empty();
     shares.destroy_empty();
@@ -302,31 +302,31 @@ fn seated<L: Naming, A>(
 }
 
 // Shares, and the tasks that had them, the last one first.
-fn unseated<L: Naming, A>(
-    mut seats: Vec<Seat<L, A>>,
+fn taken_apart<L: Naming, A>(
+    mut assigned: Vec<Assigned<L, A>>,
     mut shares: Vec<Share<L>>,
     mut ended: Vec<Ended<A>>,
 ) -> (Vec<Share<L>>, Vec<Ended<A>>)
     requires empty { (shares.items ≡ []) × (ended.items ≡ []) }
-    requires fits { (length seats.items ≤ vec_capacity shares) × (length seats.items ≤ vec_capacity ended) }
-    ensures shares { length result.0.items ≡ length seats.items }
-    ensures ended { length result.1.items ≡ length seats.items }
+    requires fits { (length assigned.items ≤ vec_capacity shares) × (length assigned.items ≤ vec_capacity ended) }
+    ensures shares { length result.0.items ≡ length assigned.items }
+    ensures ended { length result.1.items ≡ length assigned.items }
     ensures counts { sum result.0.items ≡ commits_of result.1.items }
 {
-    while let Some(Seat { task, share }) = seats.pop() {
+    while let Some(Assigned { task, share }) = assigned.pop() {
         ended.push_reserved(Ended {
             task,
             commits: share.count(),
         });
         shares.push_reserved(share);
     }
-    seats.destroy_empty();
+    assigned.destroy_empty();
     (shares, ended)
 }
 
 // Runs a task with its share.
 impl<'d, L: Naming, K: Clone + Ord, V: Clone + Eq, A: Task<K, V>> Sits<SharedIndex<'d, L, K, V, 64>>
-    for Seat<L, A> {
+    for Assigned<L, A> {
     fn sit<R: Wait>(&mut self, rt: &R, shared: &SharedIndex<'d, L, K, V, 64>) {
         self.task.run(rt, shared, &mut self.share);
     }

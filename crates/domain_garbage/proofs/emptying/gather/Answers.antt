@@ -3,4 +3,4 @@ use Rattle.domain_table.proofs.Gathers.{gathers}
 use Rattle.domain_garbage.proofs.emptying.gather.Goals as goal
 
 pub load-requires : goal.load-requires
-load-requires g c = let t = c.requires.table in let plan = c.args.words.now.key in let place = c.args.place.now in let f = c.requires.filled.1 in (t.0, t.1, gathers _ (IsIn g.H.Holding.holds) plan c.args.words.now.table_id.slots place.id 0 place.me f.0 c.requires.filled.0 f.1 f.2 f.3)
+load-requires g c = let t = c.requires.table in let plan = c.args.words.now.key in let seat = c.args.seat.now in let f = c.requires.filled.1 in (t.0, t.1, gathers _ (IsIn g.H.Holding.holds) plan c.args.words.now.table_id.slots seat.id 0 seat.me f.0 c.requires.filled.0 f.1 f.2 f.3)

@@ -3,8 +3,8 @@ use Rattle.domain_table.proofs.Reclaims.{opens_noted}
 use Rattle.domain_garbage.proofs.emptying.open_noted.Goals as goal
 
 pub load-requires : goal.load-requires
-load-requires g c = let t = c.requires.table in let plan = c.args.words.now.key in let place = c.args.place.now in let w = c.requires.noted in
-    (t.0, t.1, opens_noted _ (IsIn g.H.Holding.holds) plan c.args.words.now.table_id.slots place.id 0 place.me w.0 w.1 c.requires.ready.0 c.requires.ready.1 c.requires.ready.2 w.2 w.3)
+load-requires g c = let t = c.requires.table in let plan = c.args.words.now.key in let seat = c.args.seat.now in let w = c.requires.noted in
+    (t.0, t.1, opens_noted _ (IsIn g.H.Holding.holds) plan c.args.words.now.table_id.slots seat.id 0 seat.me w.0 w.1 c.requires.ready.0 c.requires.ready.1 c.requires.ready.2 w.2 w.3)
 
 pub returns-clause-inside : goal.returns-clause-inside
 returns-clause-inside g c = λ w ws last. (c.load.ensures.2 w ws last).0

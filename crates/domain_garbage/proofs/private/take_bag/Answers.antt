@@ -9,7 +9,7 @@ use Rattle.domain_table.proofs.BagSeats.{takes_bag}
 use Rattle.domain_garbage.proofs.private.take_bag.Goals as goal
 
 pub join_seat-requires : goal.join_seat-requires
-join_seat-requires g c = let q = c.requires.bag in let seat = c.args.place.now in let d = seat.me.0 in let plan = c.args.words.now.key in let e = c.into_seat.ensures in let badge = c.into_badge.ensures in
+join_seat-requires g c = let q = c.requires.bag in let seat = c.args.seat.now in let d = seat.me.0 in let plan = c.args.words.now.key in let e = c.into_seat.ensures in let badge = c.into_badge.ensures in
     let lists : gathering q.0 ∷ [] ≡ c.into_seat.result.me.0 ∷ [] = sym q.1 ∙ (sym (ap (λ (b : Badge Acting). b.views) badge) ∙ e.2) in let same : gathering q.0 ≡ c.into_seat.result.me.0 = cc in (
       c.requires.table.0,
       e.0 ∙ (ap (λ (b : Badge Acting). b.table_id) badge ∙ c.requires.table.1),

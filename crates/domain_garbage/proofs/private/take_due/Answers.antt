@@ -8,7 +8,7 @@ use Rattle.domain_table.proofs.Reclaims.{snoc_same}
 use Rattle.domain_garbage.proofs.private.take_due.Goals as goal
 
 pub returns-clause-taken : goal.returns-clause-taken
-returns-clause-taken g c = let k = c.requires.kept in let m = c.args.place.now.me in let cs = m.0.collected in let o = c.in-Some.ensures.some in
+returns-clause-taken g c = let k = c.requires.kept in let m = c.args.seat.now.me in let cs = m.0.collected in let o = c.in-Some.ensures.some in
     some_on c.take_noted-slot.result.0 _ _ (λ slot h. let t = h [] cs refl k.chain in let ds = t.0 in let w = t.1 in
     let ages : map (λ (v : Garbage). v.age) ds ++ w.age ∷ [] ≡ o.0 ++ c.in-Some.note ∷ [] = sym (map-append (λ (v : Garbage). v.age) ds (w ∷ [])) ∙ (ap (map (λ (v : Garbage). v.age)) (sym t.2) ∙ (sym k.notes ∙ o.1)) in
     let same = snoc_same (map (λ (v : Garbage). v.age) ds) o.0 w.age c.in-Some.note ages in let note = same.1 in

@@ -31,26 +31,26 @@ module _ {T : Type 0} (holds : T → List (ℕ × ℕ)) (d : Acting) (xs : List 
       ∙ λ j. (filling_at (here j) (record f { filled = low j; left = f.left + a; out = sym out j }) d, xs))
 
 pub parts_of-part-requires : goal.parts_of-part-requires
-parts_of-part-requires g c = let m = c.args.place.now.me in let q = c.requires.filled in let f = q.0 in let t = c.gather.ensures.taken f q.1 in let e = c.exchange.ensures in
-    (f.round, t.0, had g.H.Holding.holds m.0 m.1 c.gather.new.place.me c.exchange.new.seat.me f t.0 t.1 c.exchange.result (c.args.at * c.args.sizes.now.slots + c.args.slot) t.5 e.2 e.3 f.round t.2)
+parts_of-part-requires g c = let m = c.args.seat.now.me in let q = c.requires.filled in let f = q.0 in let t = c.gather.ensures.taken f q.1 in let e = c.exchange.ensures in
+    (f.round, t.0, had g.H.Holding.holds m.0 m.1 c.gather.new.seat.me c.exchange.new.seat.me f t.0 t.1 c.exchange.result (c.args.at * c.args.sizes.now.slots + c.args.slot) t.5 e.2 e.3 f.round t.2)
 
 pub empty-requires-clause-emptied : goal.empty-requires-clause-emptied
-empty-requires-clause-emptied g c = let m = c.args.place.now.me in let q = c.requires.filled in let f = q.0 in let t = c.gather.ensures.taken f q.1 in let e = c.exchange.ensures in let r = c.exchange.result in let i : ℕ = c.args.at * c.args.sizes.now.slots + c.args.slot in let m1 = c.gather.new.place.me in let m2 = c.exchange.new.seat.me in
+empty-requires-clause-emptied g c = let m = c.args.seat.now.me in let q = c.requires.filled in let f = q.0 in let t = c.gather.ensures.taken f q.1 in let e = c.exchange.ensures in let r = c.exchange.result in let i : ℕ = c.args.at * c.args.sizes.now.slots + c.args.slot in let m1 = c.gather.new.seat.me in let m2 = c.exchange.new.seat.me in
     let wide = ap (λ (z : Sizes). z.participants) c.requires.table.3 in let last = q.2 in let less = q.3 in
     (ap (λ (z : Me _ Acting). z.0.kind) (emptied g.H.Holding.holds m.0 m.1 m1 m2 f t.0 t.1 r i t.5 e.2 e.3) ∙ c.requires.table.2, (gathered t.0 f, m.1, can g.H.Holding.holds m.0 m.1 m1 m2 f t.0 t.1 r i t.5 e.2 e.3 (omega arith)))
 
 pub returns-clause-gathered : goal.returns-clause-gathered
-returns-clause-gathered g c = λ f' is'. let m = c.args.place.now.me in let q = c.requires.filled in let f = q.0 in let t = c.gather.ensures.taken f q.1 in let e = c.exchange.ensures in let r = c.exchange.result in let i : ℕ = c.args.at * c.args.sizes.now.slots + c.args.slot in let m1 = c.gather.new.place.me in let m2 = c.exchange.new.seat.me in
+returns-clause-gathered g c = λ f' is'. let m = c.args.seat.now.me in let q = c.requires.filled in let f = q.0 in let t = c.gather.ensures.taken f q.1 in let e = c.exchange.ensures in let r = c.exchange.result in let i : ℕ = c.args.at * c.args.sizes.now.slots + c.args.slot in let m1 = c.gather.new.seat.me in let m2 = c.exchange.new.seat.me in
     let wide = ap (λ (z : Sizes). z.participants) c.requires.table.3 in let last = q.2 in let less = q.3 in let heads : Some f ≡ Some f' = sym q.1 ∙ is' in let same : f ≡ f' = cc in
     let p = c.parts_of-part.ensures f.round t.0 (had g.H.Holding.holds m.0 m.1 m1 m2 f t.0 t.1 r i t.5 e.2 e.3 f.round t.2) in let many = p.1 in let most = t.3 in let whole = t.4 in
-    let n : ℕ = c.parts_of-part.result.0.life.count in subst (λ (z : Filling). (c.parts_of-part.result.0.life.id ≡ z.round) × (z.left + n ≤ 2 ^ 63) × (c.args.at ≡ 0 → z.left + n ≡ 2 ^ 63) × (c.empty.new.place.me ≡ (filling_at c.args.slot (emptying c.args.at n z) m.0, m.1))) same (
+    let n : ℕ = c.parts_of-part.result.0.life.count in subst (λ (z : Filling). (c.parts_of-part.result.0.life.id ≡ z.round) × (z.left + n ≤ 2 ^ 63) × (c.args.at ≡ 0 → z.left + n ≡ 2 ^ 63) × (c.empty.new.seat.me ≡ (filling_at c.args.slot (emptying c.args.at n z) m.0, m.1))) same (
       p.0,
       omega arith,
       (λ none. let all = whole (omega arith) in omega arith),
-      after g.H.Holding.holds m.0 m.1 m1 m2 f t.0 t.1 r i t.5 e.2 e.3 c.args.at c.args.slot c.empty.new.place.me q.2 (q.4 ∙ sym wide) c.requires.table.5 (c.empty.ensures.given (gathered t.0 f) m.1 (can g.H.Holding.holds m.0 m.1 m1 m2 f t.0 t.1 r i t.5 e.2 e.3 (omega arith)))
+      after g.H.Holding.holds m.0 m.1 m1 m2 f t.0 t.1 r i t.5 e.2 e.3 c.args.at c.args.slot c.empty.new.seat.me q.2 (q.4 ∙ sym wide) c.requires.table.5 (c.empty.ensures.given (gathered t.0 f) m.1 (can g.H.Holding.holds m.0 m.1 m1 m2 f t.0 t.1 r i t.5 e.2 e.3 (omega arith)))
           ∙ ap (λ z. (filling_at c.args.slot (emptying c.args.at z f) m.0, m.1)) (sym many),
     )
 
 pub returns-clause-some : goal.returns-clause-some
-returns-clause-some g c = let m = c.args.place.now.me in let q = c.requires.filled in let f = q.0 in let t = c.gather.ensures.taken f q.1 in let e = c.exchange.ensures in
-    let p = c.parts_of-part.ensures f.round t.0 (had g.H.Holding.holds m.0 m.1 c.gather.new.place.me c.exchange.new.seat.me f t.0 t.1 c.exchange.result (c.args.at * c.args.sizes.now.slots + c.args.slot) t.5 e.2 e.3 f.round t.2) in let many = p.1 in let some = p.3 in (omega arith, p.4)
+returns-clause-some g c = let m = c.args.seat.now.me in let q = c.requires.filled in let f = q.0 in let t = c.gather.ensures.taken f q.1 in let e = c.exchange.ensures in
+    let p = c.parts_of-part.ensures f.round t.0 (had g.H.Holding.holds m.0 m.1 c.gather.new.seat.me c.exchange.new.seat.me f t.0 t.1 c.exchange.result (c.args.at * c.args.sizes.now.slots + c.args.slot) t.5 e.2 e.3 f.round t.2) in let many = p.1 in let some = p.3 in (omega arith, p.4)

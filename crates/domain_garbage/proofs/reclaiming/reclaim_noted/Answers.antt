@@ -27,18 +27,18 @@ opened holds k m m1 w ws hs u here is_in is = subst (λ z. IsOpened (IsIn holds)
 })
 
 pub take_whole-requires-clause-table : goal.take_whole-requires-clause-table
-take_whole-requires-clause-table g c = let m = c.args.place.now.me in let q = c.requires.noted in let t = c.open_noted.ensures.opened q.0 q.1 q.2 in let table = c.requires.table in let sizes = ap (λ (z : Me _ Acting). z.0.sizes) t.3 in
+take_whole-requires-clause-table g c = let m = c.args.seat.now.me in let q = c.requires.noted in let t = c.open_noted.ensures.opened q.0 q.1 q.2 in let table = c.requires.table in let sizes = ap (λ (z : Me _ Acting). z.0.sizes) t.3 in
     ((c.open_noted.ensures.seat.0 ∙ table.0, table.1, sizes ∙ table.2, table.3, table.4), subst (λ (z : Sizes). c.args.slot < z.slots) table.2 (subst (λ z. z < m.0.sizes.slots) q.4 (c.open_noted.ensures.inside q.0 q.1 q.2)))
 
 pub take_whole-requires-clause-acts : goal.take_whole-requires-clause-acts
 take_whole-requires-clause-acts g c = let q = c.requires.noted in let t = c.open_noted.ensures.opened q.0 q.1 q.2 in ap (λ (z : Me _ Acting). z.0.kind) t.3 ∙ c.requires.ready.0
 
 pub take_whole-requires-clause-opened : goal.take_whole-requires-clause-opened
-take_whole-requires-clause-opened g c = let m = c.args.place.now.me in let q = c.requires.noted in let t = c.open_noted.ensures.opened q.0 q.1 q.2 in (t.0, m.1, opened g.H.Holding.holds c.args.slot m c.open_noted.new.place.me q.0 q.1 t.0 t.1 q.4 t.2 t.3)
+take_whole-requires-clause-opened g c = let m = c.args.seat.now.me in let q = c.requires.noted in let t = c.open_noted.ensures.opened q.0 q.1 q.2 in (t.0, m.1, opened g.H.Holding.holds c.args.slot m c.open_noted.new.seat.me q.0 q.1 t.0 t.1 q.4 t.2 t.3)
 
 pub returns-clause-reclaimed : goal.returns-clause-reclaimed
-returns-clause-reclaimed g c = λ w' ws' last'. let m = c.args.place.now.me in let q = c.requires.noted in let t = c.open_noted.ensures.opened q.0 q.1 q.2 in
-    let r = c.take_whole.ensures.taken t.0 m.1 (opened g.H.Holding.holds c.args.slot m c.open_noted.new.place.me q.0 q.1 t.0 t.1 q.4 t.2 t.3) in let free = c.requires.ready.3 in (
+returns-clause-reclaimed g c = λ w' ws' last'. let m = c.args.seat.now.me in let q = c.requires.noted in let t = c.open_noted.ensures.opened q.0 q.1 q.2 in
+    let r = c.take_whole.ensures.taken t.0 m.1 (opened g.H.Holding.holds c.args.slot m c.open_noted.new.seat.me q.0 q.1 t.0 t.1 q.4 t.2 t.3) in let free = c.requires.ready.3 in (
       t.0,
       r.0,
       r.1 ∙ (ap (λ (z : Me _ Acting). (record z.0 { filling = None }, m.1)) t.3 ∙ λ j. (record m.0 { hand = t.0 ++ m.0.hand; slot = q.4 j; filling = sym free j; collected = (snoc_same q.1 ws' q.0 w' (sym q.2 ∙ last')).0 j }, m.1)),

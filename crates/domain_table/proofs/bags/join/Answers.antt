@@ -25,5 +25,5 @@ returns-clause-joined g c = λ fs bs rest is new old. let m = newest fs c.args.n
       ap (λ (xs : List Garbage). map without_next xs) (sym n.2),
       subst (λ (zs : List Garbage). IsBag (zs ++ cs) (Some (record { first = c.in-Some-older.front.first; last = c.in-Some.behind.last }))) (sym m.2) (joins m.0 m.1 n.0 n.1 (o.oldest.slot + 1) c.in-Some.behind c.in-Some-older.front m.3 n.4 m.5 n.5 (let a = o.slot in omega arith)),
       c.follow.ensures.followed o.others o.oldest n.0 (n.1 ++ rest) (is ∙ ((λ j. m.2 j ++ (n.2 j ++ rest)) ∙ at_link m.0 m.1 (n.0 ∷ n.1) rest o)) (o.slot ∙ sym m.4) (sym n.3)
-          ∙ (λ j. (record c.args.place.now.me.0 { waits = (sym (at_link m.0 m.1 cs rest o) ∙ ap (λ (zs : List Garbage). zs ++ (cs ++ rest)) (sym m.2)) j }, c.args.place.now.me.1)),
+          ∙ (λ j. (record c.args.seat.now.me.0 { waits = (sym (at_link m.0 m.1 cs rest o) ∙ ap (λ (zs : List Garbage). zs ++ (cs ++ rest)) (sym m.2)) j }, c.args.seat.now.me.1)),
     )

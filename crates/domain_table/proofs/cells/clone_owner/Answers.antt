@@ -10,10 +10,10 @@ use Rattle.domain_table.proofs.Clones.{makes_owner}
 use Rattle.domain_table.proofs.cells.clone_owner.Goals as goal
 
 pub compare_exchange-requires : goal.compare_exchange-requires
-compare_exchange-requires g c = let t = c.requires.table in let plan = c.args.words.now.key in let place = c.args.place.now in let slots = c.args.words.now.table_id.slots in let same = t.1 in let cells = t.2 in let few = t.3 in let small = t.4 in let inside = t.5 in let low = t.6 in let room = t.7 in let l = c.requires.leased in let owners : ℕ = c.args.owners in
+compare_exchange-requires g c = let t = c.requires.table in let plan = c.args.words.now.key in let seat = c.args.seat.now in let slots = c.args.words.now.table_id.slots in let same = t.1 in let cells = t.2 in let few = t.3 in let small = t.4 in let inside = t.5 in let low = t.6 in let room = t.7 in let l = c.requires.leased in let owners : ℕ = c.args.owners in
     let is = l.2 in let word : slot_word plan.sizes l.0.slot ≡ 8 * c.args.participants + 16 + c.args.cells + c.args.slot = omega arith in (
       t.0,
       omega arith,
-      subst (λ i. Allows (Shows (IsIn g.H.Holding.holds) plan) slots place.id place.me i (λ n. either (eqb n (2 + owners)) (3 + owners) n) (clone_then (step slots i (2 + owners) (3 + owners) none) place.me)) word
-          (makes_owner _ (IsIn g.H.Holding.holds) plan slots place.id owners place.me l.0 c.requires.ready.0 c.requires.ready.1 l.1 l.3 c.requires.counted.0 c.requires.counted.1),
+      subst (λ i. Allows (Shows (IsIn g.H.Holding.holds) plan) slots seat.id seat.me i (λ n. either (eqb n (2 + owners)) (3 + owners) n) (clone_then (step slots i (2 + owners) (3 + owners) none) seat.me)) word
+          (makes_owner _ (IsIn g.H.Holding.holds) plan slots seat.id owners seat.me l.0 c.requires.ready.0 c.requires.ready.1 l.1 l.3 c.requires.counted.0 c.requires.counted.1),
     )

@@ -9,12 +9,12 @@ use Rattle.domain_table.proofs.EndedReleases.{ends_one}
 use Rattle.domain_table.proofs.cells.end_release.Goals as goal
 
 pub fetch_sub-requires : goal.fetch_sub-requires
-fetch_sub-requires g c = let t = c.requires.table in let plan = c.args.words.now.key in let place = c.args.place.now in let slots = c.args.words.now.table_id.slots in let same = t.1 in let cells = t.2 in let few = t.3 in let small = t.4 in let inside = t.5 in let low = t.6 in let room = t.7 in let l = c.requires.begun in
+fetch_sub-requires g c = let t = c.requires.table in let plan = c.args.words.now.key in let seat = c.args.seat.now in let slots = c.args.words.now.table_id.slots in let same = t.1 in let cells = t.2 in let few = t.3 in let small = t.4 in let inside = t.5 in let low = t.6 in let room = t.7 in let l = c.requires.begun in
     let is = l.5 in let word : slot_word plan.sizes l.0.slot ≡ 8 * c.args.participants + 16 + c.args.cells + c.args.slot = omega arith in (
       t.0,
       omega arith,
-      subst (λ i. Allows (Shows (IsIn g.H.Holding.holds) plan) slots place.id place.me i (λ n. (n + (18446744073709551616 - 1)) % 18446744073709551616) (end_release_then (IsIn g.H.Holding.holds) g.A.Aim.to (step slots i 1 0 none) place.me)) word
-          (ends_one _ (IsIn g.H.Holding.holds) plan g.A.Aim.to slots place.id place.me l.0 l.1 l.2 l.3 l.4 c.requires.may c.requires.ready.0 c.requires.ready.1 l.6),
+      subst (λ i. Allows (Shows (IsIn g.H.Holding.holds) plan) slots seat.id seat.me i (λ n. (n + (18446744073709551616 - 1)) % 18446744073709551616) (end_release_then (IsIn g.H.Holding.holds) g.A.Aim.to (step slots i 1 0 none) seat.me)) word
+          (ends_one _ (IsIn g.H.Holding.holds) plan g.A.Aim.to slots seat.id seat.me l.0 l.1 l.2 l.3 l.4 c.requires.may c.requires.ready.0 c.requires.ready.1 l.6),
     )
 
 -- the released owner was counted
@@ -23,7 +23,7 @@ overflow_sub-result g c = let l = c.requires.begun in let told = c.fetch_sub.ens
 
 pub returns-clause-ended : goal.returns-clause-ended
 returns-clause-ended g c = λ l ls o os tail can. let t = c.fetch_sub.ensures.2 l ls o os tail can in let more = t.0 in let n : ℕ = c.fetch_sub.result in let same : n ≡ n - 3 + 3 = omega arith in
-    t.2 ∙ ap (λ z. (ended_release (g.A.Aim.to c.args.place.now.me.0.known) z l ls os c.args.place.now.me.0, tail)) same
+    t.2 ∙ ap (λ z. (ended_release (g.A.Aim.to c.args.seat.now.me.0.known) z l ls os c.args.seat.now.me.0, tail)) same
 
 pub returns-clause-room : goal.returns-clause-room
 returns-clause-room g c = let l = c.requires.begun in (c.fetch_sub.ensures.2 l.0 l.1 l.2 l.3 l.4 l.6).1

@@ -9,12 +9,12 @@ use Rattle.domain_table.proofs.Releases.{releases_one}
 use Rattle.domain_table.proofs.cells.release_owner.Goals as goal
 
 pub fetch_sub-requires : goal.fetch_sub-requires
-fetch_sub-requires g c = let t = c.requires.table in let plan = c.args.words.now.key in let place = c.args.place.now in let slots = c.args.words.now.table_id.slots in let same = t.1 in let cells = t.2 in let few = t.3 in let small = t.4 in let inside = t.5 in let low = t.6 in let room = t.7 in let l = c.requires.owner in
+fetch_sub-requires g c = let t = c.requires.table in let plan = c.args.words.now.key in let seat = c.args.seat.now in let slots = c.args.words.now.table_id.slots in let same = t.1 in let cells = t.2 in let few = t.3 in let small = t.4 in let inside = t.5 in let low = t.6 in let room = t.7 in let l = c.requires.owner in
     let is = l.4 in let word : slot_word plan.sizes l.0.slot ≡ 8 * c.args.participants + 16 + c.args.cells + c.args.slot = omega arith in (
       t.0,
       omega arith,
-      subst (λ i. Allows (Shows (IsIn g.H.Holding.holds) plan) slots place.id place.me i (λ n. (n + (18446744073709551616 - 1)) % 18446744073709551616) (release_then g.A.Aim.to (step slots i 1 0 none) place.me)) word
-          (releases_one _ (IsIn g.H.Holding.holds) plan g.A.Aim.to slots place.id place.me l.0 l.1 l.2 c.requires.may c.requires.ready.0 c.requires.ready.1 c.requires.ready.2 l.3 l.6 l.5),
+      subst (λ i. Allows (Shows (IsIn g.H.Holding.holds) plan) slots seat.id seat.me i (λ n. (n + (18446744073709551616 - 1)) % 18446744073709551616) (release_then g.A.Aim.to (step slots i 1 0 none) seat.me)) word
+          (releases_one _ (IsIn g.H.Holding.holds) plan g.A.Aim.to slots seat.id seat.me l.0 l.1 l.2 c.requires.may c.requires.ready.0 c.requires.ready.1 c.requires.ready.2 l.3 l.6 l.5),
     )
 
 -- the released owner was counted
@@ -23,7 +23,7 @@ overflow_sub-result g c = let l = c.requires.owner in let told = c.fetch_sub.ens
 
 pub returns-clause-released : goal.returns-clause-released
 returns-clause-released g c = λ l o os has slot first. let t = c.fetch_sub.ensures.2 l o os has slot first in let more = t.0 in let n : ℕ = c.fetch_sub.result in let same : n ≡ n - 3 + 3 = omega arith in
-    t.5 ∙ ap (λ z. (releasing_one (g.A.Aim.to c.args.place.now.me.0.known) z l os c.args.place.now.me.0, c.args.place.now.me.1)) same
+    t.5 ∙ ap (λ z. (releasing_one (g.A.Aim.to c.args.seat.now.me.0.known) z l os c.args.seat.now.me.0, c.args.seat.now.me.1)) same
 
 pub returns-clause-few : goal.returns-clause-few
 returns-clause-few g c = λ l o os has slot first. let t = c.fetch_sub.ensures.2 l o os has slot first in (t.1, t.2, t.3, t.4)

@@ -22,13 +22,13 @@ pub into_parts-parts-requires : goal.into_parts-parts-requires
 into_parts-parts-requires g c = let i = c.loop-row.invariant.filled in let f = first c.args.ended.now.id c.in-Some.row c.pop_front.new.self.items c.loop-row.rows.items i.1 c.in-Some.ensures.items i.4 in sym (ap (λ (t : ℕ × ℕ × ℕ × ℕ). t.3) f.3)
 
 pub exchange-requires : goal.exchange-requires
-exchange-requires g c = let t = c.requires.table in let i = c.loop-row.invariant.filled in let f = first c.args.ended.now.id c.in-Some.row c.pop_front.new.self.items c.loop-row.rows.items i.1 c.in-Some.ensures.items i.4 in let m = c.args.place.now.me in let d = m.0 in
-    let all : List (ℕ × Home _) = drop (length d.leases) m.1 in let is = i.6 ∙ λ j. (d, blanks (leased_homes d (f.2 j)) ++ (all ++ i.2)) in let there = front c.loop-row.place.me d f.0 f.1 all i.2 is in
+exchange-requires g c = let t = c.requires.table in let i = c.loop-row.invariant.filled in let f = first c.args.ended.now.id c.in-Some.row c.pop_front.new.self.items c.loop-row.rows.items i.1 c.in-Some.ensures.items i.4 in let m = c.args.seat.now.me in let d = m.0 in
+    let all : List (ℕ × Home _) = drop (length d.leases) m.1 in let is = i.6 ∙ λ j. (d, blanks (leased_homes d (f.2 j)) ++ (all ++ i.2)) in let there = front c.loop-row.seat.me d f.0 f.1 all i.2 is in
     let at : own_home d f.0.slot ≡ c.args.number * c.args.slots + c.in-Some.row.slot = λ j. home (t.1 j) (sym (ap (λ (x : ℕ × ℕ × ℕ × ℕ). x.0) f.3) j) (t.3 j) in
     (c.loop-row.invariant.seat.0 ∙ t.0, (Blank, there ∙ λ j. (at j, Blank) ∷ rest (sym there j)))
 
 pub loop-row-preserved : goal.loop-row-preserved
-loop-row-preserved g c = let i = c.loop-row.invariant.filled in let f = first c.args.ended.now.id c.in-Some.row c.pop_front.new.self.items c.loop-row.rows.items i.1 c.in-Some.ensures.items i.4 in let m = c.args.place.now.me in let d = m.0 in let t : List (ℕ × Home _) = drop (length d.leases) m.1 in
+loop-row-preserved g c = let i = c.loop-row.invariant.filled in let f = first c.args.ended.now.id c.in-Some.row c.pop_front.new.self.items c.loop-row.rows.items i.1 c.in-Some.ensures.items i.4 in let m = c.args.seat.now.me in let d = m.0 in let t : List (ℕ × Home _) = drop (length d.leases) m.1 in
     let is = i.6 ∙ λ j. (d, blanks (leased_homes d (f.2 j)) ++ (t ++ i.2)) in let e = c.exchange.ensures in let u = c.turn.ensures in let p = c.into_parts-parts.ensures in let r = c.in-Some.row in let y = Part c.into_parts-parts.result r.count in
     let count = ap (λ (x : ℕ × ℕ × ℕ × ℕ). x.2) f.3 in let round = ap (λ (x : ℕ × ℕ × ℕ × ℕ). x.1) f.3 in let l : Lease = f.0 in
     let good : IsIn g.H.Holding.holds (part l.round l.count) y = (c.into_parts-parts.result, ap (Part c.into_parts-parts.result) count, p.0 ∙ round, p.1 ∙ count, subst (λ n. 0 < n) count p.2, p.3) in record {
@@ -41,6 +41,6 @@ loop-row-preserved g c = let i = c.loop-row.invariant.filled in let f = first c.
         i.3 ∙ (ap (λ ls. i.0 ++ ls) f.2 ∙ sym (append_assoc i.0 (l ∷ []) f.1)),
         f.4,
         more_filled (IsIn g.H.Holding.holds) d i.0 i.2 l y good i.5,
-        turned_on c.loop-row.place.me d l f.1 t i.2 is (c.args.number * c.args.slots + r.slot) c.exchange.result y c.exchange.new.seat.me c.turn.new.self.me e.2 e.3 u.2,
+        turned_on c.loop-row.seat.me d l f.1 t i.2 is (c.args.number * c.args.slots + r.slot) c.exchange.result y c.exchange.new.seat.me c.turn.new.self.me e.2 e.3 u.2,
       );
     }

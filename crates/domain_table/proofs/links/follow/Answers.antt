@@ -10,12 +10,12 @@ use Rattle.domain_table.proofs.Linking.{follows_link}
 use Rattle.domain_table.proofs.links.follow.Goals as goal
 
 pub store-requires : goal.store-requires
-store-requires g c = let t = c.requires.table in let plan = c.args.words.now.key in let place = c.args.place.now in let slots = c.args.words.now.table_id.slots in let h = c.requires.held in let low = t.5 in let room = t.4 in
+store-requires g c = let t = c.requires.table in let plan = c.args.words.now.key in let seat = c.args.seat.now in let slots = c.args.words.now.table_id.slots in let h = c.requires.held in let low = t.5 in let room = t.4 in
     let word : link_word plan.sizes h.2.slot ≡ 8 * c.args.sizes.now.participants + 16 + c.args.sizes.now.cells + c.args.sizes.now.slots + c.args.slot = ap (λ k. link_word plan.sizes k) h.6 ∙ ap (λ (z : Sizes). link_word z c.args.slot) t.1 in
     let value : suc h.1.slot ≡ c.args.next + 1 = omega (arith, h.5) in (
       t.0,
       omega arith,
-      subst (λ (k : ℕ). Allows (Shows (IsIn g.H.Holding.holds) plan) slots place.id place.me k (λ _. c.args.next + 1) (λ _. follow_then (step slots k (c.args.next + 1) 0 none) place.me (c.args.next + 1))) word
-          (subst (λ (n : ℕ). Allows (Shows (IsIn g.H.Holding.holds) plan) slots place.id place.me (link_word plan.sizes h.2.slot) (λ _. n) (λ _. follow_then (step slots (link_word plan.sizes h.2.slot) n 0 none) place.me n)) value
-          (follows_link _ (IsIn g.H.Holding.holds) plan slots place.id place.me h.0 h.1 h.2 h.3 c.requires.acts.0 (t.2 ∙ sym t.1) h.4)),
+      subst (λ (k : ℕ). Allows (Shows (IsIn g.H.Holding.holds) plan) slots seat.id seat.me k (λ _. c.args.next + 1) (λ _. follow_then (step slots k (c.args.next + 1) 0 none) seat.me (c.args.next + 1))) word
+          (subst (λ (n : ℕ). Allows (Shows (IsIn g.H.Holding.holds) plan) slots seat.id seat.me (link_word plan.sizes h.2.slot) (λ _. n) (λ _. follow_then (step slots (link_word plan.sizes h.2.slot) n 0 none) seat.me n)) value
+          (follows_link _ (IsIn g.H.Holding.holds) plan slots seat.id seat.me h.0 h.1 h.2 h.3 c.requires.acts.0 (t.2 ∙ sym t.1) h.4)),
     )

@@ -10,12 +10,12 @@ use Rattle.domain_table.proofs.Linking.{loads_link}
 use Rattle.domain_table.proofs.links.load_link.Goals as goal
 
 pub load-requires : goal.load-requires
-load-requires g c = let t = c.requires.table in let plan = c.args.words.now.key in let place = c.args.place.now in let slots = c.args.words.now.table_id.slots in let low = t.5 in let room = t.4 in
+load-requires g c = let t = c.requires.table in let plan = c.args.words.now.key in let seat = c.args.seat.now in let slots = c.args.words.now.table_id.slots in let low = t.5 in let room = t.4 in
     let word : link_word plan.sizes c.args.slot ≡ 8 * c.args.sizes.now.participants + 16 + c.args.sizes.now.cells + c.args.sizes.now.slots + c.args.slot = ap (λ (z : Sizes). link_word z c.args.slot) t.1 in (
       t.0,
       omega arith,
-      subst (λ i. Allows (Shows (IsIn g.H.Holding.holds) plan) slots place.id place.me i (λ m. m) (load_link_then (step slots i 0 0 none) place.me)) word
-          (loads_link _ (IsIn g.H.Holding.holds) plan slots place.id c.args.slot place.me c.requires.acts (t.2 ∙ sym t.1)),
+      subst (λ i. Allows (Shows (IsIn g.H.Holding.holds) plan) slots seat.id seat.me i (λ m. m) (load_link_then (step slots i 0 0 none) seat.me)) word
+          (loads_link _ (IsIn g.H.Holding.holds) plan slots seat.id c.args.slot seat.me c.requires.acts (t.2 ∙ sym t.1)),
     )
 
 pub returns-clause-told : goal.returns-clause-told

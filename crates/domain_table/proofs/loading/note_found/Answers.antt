@@ -9,17 +9,17 @@ use Rattle.domain_table.proofs.loading.note_found.Goals as goal
 
 -- no item is named, and nothing happened
 pub returns-in_err-slot-clause-noted : goal.returns-in_err-slot-clause-noted
-returns-in_err-slot-clause-noted g c = λ m loaded told. let m1 = c.args.place.now.me in none_noted m m1 (nothing_named (IsIn g.H.Holding.holds) m m1 c.args.word loaded c.in_err-slot.ensures.none)
+returns-in_err-slot-clause-noted g c = λ m loaded told. let m1 = c.args.seat.now.me in none_noted m m1 (nothing_named (IsIn g.H.Holding.holds) m m1 c.args.word loaded c.in_err-slot.ensures.none)
 
 pub returns-in_err-slot-clause-rows : goal.returns-in_err-slot-clause-rows
-returns-in_err-slot-clause-rows g c = let q = c.requires.found in let e = nothing_named (IsIn g.H.Holding.holds) q.0 c.args.place.now.me c.args.word q.1 c.in_err-slot.ensures.none in (q.4 ∙ sym (ap (λ (z : Me _ Acting). map (lease_told c.args.life.now.id) z.0.leases) e), c.requires.rows.0, refl)
+returns-in_err-slot-clause-rows g c = let q = c.requires.found in let e = nothing_named (IsIn g.H.Holding.holds) q.0 c.args.seat.now.me c.args.word q.1 c.in_err-slot.ensures.none in (q.4 ∙ sym (ap (λ (z : Me _ Acting). map (lease_told c.args.life.now.id) z.0.leases) e), c.requires.rows.0, refl)
 
 -- the item of the slot was leased
 pub note_slot-requires-clause-found : goal.note_slot-requires-clause-found
-note_slot-requires-clause-found g c = let q = c.requires.found in (q.0, slot_found (IsIn g.H.Holding.holds) q.0 c.args.place.now.me c.args.word q.1 c.in_ok-slot.slot c.in_ok-slot.ensures.some.1, q.2, q.3, q.4)
+note_slot-requires-clause-found g c = let q = c.requires.found in (q.0, slot_found (IsIn g.H.Holding.holds) q.0 c.args.seat.now.me c.args.word q.1 c.in_ok-slot.slot c.in_ok-slot.ensures.some.1, q.2, q.3, q.4)
 
 pub returns-clause-noted : goal.returns-clause-noted
-returns-clause-noted g c = λ m loaded told. c.note_slot.ensures.noted m (slot_found (IsIn g.H.Holding.holds) m c.args.place.now.me c.args.word loaded c.in_ok-slot.slot c.in_ok-slot.ensures.some.1) told
+returns-clause-noted g c = λ m loaded told. c.note_slot.ensures.noted m (slot_found (IsIn g.H.Holding.holds) m c.args.seat.now.me c.args.word loaded c.in_ok-slot.slot c.in_ok-slot.ensures.some.1) told
 
 -- what the word names is what the row is of
 pub returns-in_err-slot-clause-code : goal.returns-in_err-slot-clause-code

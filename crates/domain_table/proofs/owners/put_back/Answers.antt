@@ -20,9 +20,9 @@ module _ {T : Type 0} (holds : T → List (ℕ × ℕ)) (m m' : Me (Home T) Acti
   can is_in = subst (λ (z : Me (Home T) Acting). CanKeep (IsIn holds) z l ls tail) (sym filled) (e.0, e.1, (y, is_in, refl))
 
 pub keep_home-requires-clause-out : goal.keep_home-requires-clause-out
-keep_home-requires-clause-out g c = let o = c.requires.out in let x = c.exchange.ensures in let m = c.args.place.now.me in let m' = c.exchange.new.seat.me in
+keep_home-requires-clause-out g c = let o = c.requires.out in let x = c.exchange.ensures in let m = c.args.seat.now.me in let m' = c.exchange.new.seat.me in
     (ap (λ (z : Me _ Acting). z.0.kind) x.3 ∙ c.requires.table.2, (o.0, o.1, o.2, can g.H.Holding.holds m m' c.args.home o.0 o.1 o.2 o.3 c.exchange.result c.args.parts x.2 x.3 o.4))
 
 pub returns-clause-kept : goal.returns-clause-kept
-returns-clause-kept g c = λ l ls tail e is_in. let x = c.exchange.ensures in let m = c.args.place.now.me in let m' = c.exchange.new.seat.me in
+returns-clause-kept g c = λ l ls tail e is_in. let x = c.exchange.ensures in let m = c.args.seat.now.me in let m' = c.exchange.new.seat.me in
     c.keep_home.ensures.kept l ls tail (can g.H.Holding.holds m m' c.args.home l ls tail e c.exchange.result c.args.parts x.2 x.3 is_in) ∙ ap (λ (z : Me _ Acting). (record z.0 { leases = ls; releasing = 0 }, tail)) x.3

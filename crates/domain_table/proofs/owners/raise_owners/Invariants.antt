@@ -3,6 +3,6 @@ use Rattle.domain_table.proofs.owners.raise_owners.Given as goal
 
 abbrev pub invariant-loop : goal.invariant-loop
 invariant-loop g l = record {
-  seat : (l.place.table_id ≡ l.initial.place.table_id) × (l.place.id ≡ l.initial.place.id);
-  same : l.place.me ≡ l.initial.place.me;
+  seat : (l.seat.table_id ≡ l.initial.seat.table_id) × (l.seat.id ≡ l.initial.seat.id);
+  same : l.seat.me ≡ l.initial.seat.me;
 }

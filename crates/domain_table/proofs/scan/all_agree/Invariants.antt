@@ -5,7 +5,7 @@ use Rattle.domain_table.proofs.scan.all_agree.Given as goal
 
 abbrev pub invariant-loop-other : goal.invariant-loop-other
 invariant-loop-other g l = record {
-  same : (l.place.table_id ≡ l.fn.place.table_id) × (l.place.id ≡ l.fn.place.id) × Steady l.fn.place.me l.place.me;
-  scans : Scans l.place l.number l.epoch 2;
-  noted : (q : ℕ) → q < l.other → q ≢ l.number → Has l.place.me.0.known.looked q;
+  same : (l.seat.table_id ≡ l.fn.seat.table_id) × (l.seat.id ≡ l.fn.seat.id) × Steady l.fn.seat.me l.seat.me;
+  scans : Scans l.seat l.number l.epoch 2;
+  noted : (q : ℕ) → q < l.other → q ≢ l.number → Has l.seat.me.0.known.looked q;
 }

@@ -4,7 +4,7 @@ use Rattle.domain_table.proofs.SettledWaits.{settled_in}
 use Rattle.domain_table.proofs.settling.settle.Goals as goal
 
 pub returns-then-epoch-lt3-clause-kept : goal.returns-then-epoch-lt3-clause-kept
-returns-then-epoch-lt3-clause-kept g c = λ _. (c.args.place.now.me.0.known.looked, refl, refl)
+returns-then-epoch-lt3-clause-kept g c = λ _. (c.args.seat.now.me.0.known.looked, refl, refl)
 
 pub returns-clause-settled : goal.returns-clause-settled
 returns-clause-settled g c = λ _. let l = c.all_shut.ensures.looked in let j = c.joined-due.ensures.joined in let e = c.settle_all.ensures.2 in let n = c.args.epoch in (

@@ -13,12 +13,12 @@ use Rattle.domain_table.proofs.Claims.{claims_slot}
 use Rattle.domain_table.proofs.slots.claim.Goals as goal
 
 pub compare_exchange-requires : goal.compare_exchange-requires
-compare_exchange-requires g c = let t = c.requires.table in let plan = c.args.words.now.key in let place = c.args.place.now in let slots = c.args.words.now.table_id.slots in let same = t.1 in let cells = t.2 in let few = t.3 in let small = t.4 in let inside = t.5 in let low = t.6 in let room = t.7 in
+compare_exchange-requires g c = let t = c.requires.table in let plan = c.args.words.now.key in let seat = c.args.seat.now in let slots = c.args.words.now.table_id.slots in let same = t.1 in let cells = t.2 in let few = t.3 in let small = t.4 in let inside = t.5 in let low = t.6 in let room = t.7 in
     let word : slot_word plan.sizes c.args.slot ≡ 8 * c.args.participants + 16 + c.args.cells + c.args.slot = omega arith in (
       t.0,
       omega arith,
-      subst (λ i. Allows (Shows (IsIn g.H.Holding.holds) plan) slots place.id place.me i (λ n. either (eqb n 0) 1 n) (claim_slot_then (IsIn g.H.Holding.holds) (step slots i 0 1 none) place.me)) word
-          (claims_slot _ (IsIn g.H.Holding.holds) plan slots place.id c.args.slot place.me c.requires.ready.0 inside),
+      subst (λ i. Allows (Shows (IsIn g.H.Holding.holds) plan) slots seat.id seat.me i (λ n. either (eqb n 0) 1 n) (claim_slot_then (IsIn g.H.Holding.holds) (step slots i 0 1 none) seat.me)) word
+          (claims_slot _ (IsIn g.H.Holding.holds) plan slots seat.id c.args.slot seat.me c.requires.ready.0 inside),
     )
 
 pub returns-clause-claimed : goal.returns-clause-claimed

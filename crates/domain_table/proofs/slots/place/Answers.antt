@@ -9,10 +9,10 @@ use Rattle.domain_table.proofs.Placings.{places_item}
 use Rattle.domain_table.proofs.slots.place.Goals as goal
 
 pub store-requires : goal.store-requires
-store-requires g c = let t = c.requires.table in let plan = c.args.words.now.key in let place = c.args.place.now in let slots = c.args.words.now.table_id.slots in let same = t.1 in let cells = t.2 in let few = t.3 in let small = t.4 in let inside = t.5 in let low = t.6 in let room = t.7 in let r = c.requires.ready in let at = r.3 in let f = c.requires.filled in
-    let word : slot_word plan.sizes place.me.0.slot ≡ 8 * c.args.participants + 16 + c.args.cells + c.args.slot = omega arith in (
+store-requires g c = let t = c.requires.table in let plan = c.args.words.now.key in let seat = c.args.seat.now in let slots = c.args.words.now.table_id.slots in let same = t.1 in let cells = t.2 in let few = t.3 in let small = t.4 in let inside = t.5 in let low = t.6 in let room = t.7 in let r = c.requires.ready in let at = r.3 in let f = c.requires.filled in
+    let word : slot_word plan.sizes seat.me.0.slot ≡ 8 * c.args.participants + 16 + c.args.cells + c.args.slot = omega arith in (
       t.0,
       omega arith,
-      subst (λ i. Allows (Shows (IsIn g.H.Holding.holds) plan) slots place.id place.me i (λ _. 3) (place_then (IsIn g.H.Holding.holds) (step slots i 3 0 none) place.me)) word
-          (places_item _ (IsIn g.H.Holding.holds) plan slots place.id place.me f.0 f.1 r.0 r.1 r.2 t.8 f.2),
+      subst (λ i. Allows (Shows (IsIn g.H.Holding.holds) plan) slots seat.id seat.me i (λ _. 3) (place_then (IsIn g.H.Holding.holds) (step slots i 3 0 none) seat.me)) word
+          (places_item _ (IsIn g.H.Holding.holds) plan slots seat.id seat.me f.0 f.1 r.0 r.1 r.2 t.8 f.2),
     )

@@ -4,8 +4,8 @@ use Rattle.local_index.proofs.play.play_close.Goals as goal
 
 pub close_session-requires : goal.close_session-requires
 close_session-requires g c =
-    let sat = c.in-Some.ensures.some in
-    (lit< tt, c.requires.opened sat.0 c.in-Some.field-0 sat.1.there)
+    let shown = c.in-Some.ensures.some in
+    (lit< tt, c.requires.opened shown.0 c.in-Some.field-0 shown.1.there)
 
 pub returns-in-Some-clause-step : goal.returns-in-Some-clause-step
 returns-in-Some-clause-step g c =

@@ -26,13 +26,13 @@ use Rattle.sdd_domain.proofs.comparing.try_exchange.Goals as goal
 -- the leased homes are behind the spare slot
 module _ {T : Type 0} (l : Local T) where
   abbrev d : Acting
-  d = l.place.me.0
+  d = l.seat.me.0
 
   abbrev behind : List (ℕ × Home T)
   behind = blanks (leased_homes d d.leases)
 
-  out : l.place.me.1 ≡ (own_spare d l.spare, Blank) ∷ behind
-  out = all_there (own_spare d l.spare ∷ leased_homes d d.leases) l.place.me.1 l.has_spare.2
+  out : l.seat.me.1 ≡ (own_spare d l.spare, Blank) ∷ behind
+  out = all_there (own_spare d l.spare ∷ leased_homes d d.leases) l.seat.me.1 l.has_spare.2
 
   -- and those of what is leased besides behind these
   all_behind : (ls : List Lease) → behind ++ blanks (leased_homes d ls) ≡ blanks (leased_homes d (d.leases ++ ls))
@@ -42,7 +42,7 @@ pub exchange_owner-free-requires-clause-out : goal.exchange_owner-free-requires-
 exchange_owner-free-requires-clause-out g c = let l = c.args.local.now in (behind l, out l)
 
 pub invariant_of-local : goal.invariant_of-local
-invariant_of-local g c = let l = c.args.local.now in let d = l.place.me.0 in let m = c.exchange_owner-free.new.place.me in let y : ℕ = c.exchange_owner-free.result.0 in let rows = c.exchange_owner-free.new.rows in let told = c.exchange_owner-free.ensures.rows in
+invariant_of-local g c = let l = c.args.local.now in let d = l.seat.me.0 in let m = c.exchange_owner-free.new.seat.me in let y : ℕ = c.exchange_owner-free.result.0 in let rows = c.exchange_owner-free.new.rows in let told = c.exchange_owner-free.ensures.rows in
     let t = c.exchange_owner-free.ensures.tried.2 (behind l) (out l) in let all = t.2 in let table = c.exchange_owner-free.ensures.seat.0 in let ks : List ℕ = leased_homes d (d.leases ++ t.1) in
     let home : d.sizes ≡ c.args.domain.now.sizes = ap (λ (t : TableId × Sizes). t.1) c.requires.home ∙ sym c.args.domain.now.sized.0 in let sizes : m.0.sizes ≡ d.sizes = ap (λ (z : Me _ Acting). z.0.sizes) all in record {
       acts = (
@@ -73,18 +73,18 @@ invariant_of-local g c = let l = c.args.local.now in let d = l.place.me.0 in let
     }
 
 pub returns-in-Ok-clause-same : goal.returns-in-Ok-clause-same
-returns-in-Ok-clause-same g c = let l = c.args.local.now in let m = c.exchange_owner-free.new.place.me in let all = (c.exchange_owner-free.ensures.tried.2 (behind l) (out l)).2 in let table = c.exchange_owner-free.ensures.seat.0 in
+returns-in-Ok-clause-same g c = let l = c.args.local.now in let m = c.exchange_owner-free.new.seat.me in let all = (c.exchange_owner-free.ensures.tried.2 (behind l) (out l)).2 in let table = c.exchange_owner-free.ensures.seat.0 in
     (((λ j. (table j, ap (λ (z : Me _ Acting). z.0.sizes) all j), refl, ap (λ (z : Me _ Acting). map told z.0.hand) all, refl), (λ j. (l.number, sym (ap life_number c.in-Some.is) j))), refl, ap (λ (z : Me _ Acting). z.0.born) all, ap (λ (z : Me _ Acting). length z.0.waits) all)
 
 pub returns-in-Err-clause-same : goal.returns-in-Err-clause-same
-returns-in-Err-clause-same g c = let l = c.args.local.now in let m = c.exchange_owner-free.new.place.me in let all = (c.exchange_owner-free.ensures.tried.2 (behind l) (out l)).2 in let table = c.exchange_owner-free.ensures.seat.0 in
+returns-in-Err-clause-same g c = let l = c.args.local.now in let m = c.exchange_owner-free.new.seat.me in let all = (c.exchange_owner-free.ensures.tried.2 (behind l) (out l)).2 in let table = c.exchange_owner-free.ensures.seat.0 in
     (((λ j. (table j, ap (λ (z : Me _ Acting). z.0.sizes) all j), refl, ap (λ (z : Me _ Acting). map told z.0.hand) all, refl), (λ j. (l.number, sym (ap life_number c.in-Some.is) j))), refl, ap (λ (z : Me _ Acting). z.0.born) all, ap (λ (z : Me _ Acting). length z.0.waits) all)
 
 pub exchange_owner-free-requires-clause-table : goal.exchange_owner-free-requires-clause-table
 exchange_owner-free-requires-clause-table g c =
     let l = c.args.local.now in
     let d = c.args.domain.now in
-    let known : l.place.me.0.sizes ≡ d.sizes = ap (λ (t : TableId × Sizes). t.1) c.requires.home ∙ sym d.sized.0 in (
+    let known : l.seat.me.0.sizes ≡ d.sizes = ap (λ (t : TableId × Sizes). t.1) c.requires.home ∙ sym d.sized.0 in (
       (
         ap (λ (t : TableId × Sizes). t.0) c.requires.home ∙ sym c.words.ensures.0,
         ap (λ (k : Plan). k.sizes) c.words.ensures.1 ∙ sym d.sized.0,
@@ -99,8 +99,8 @@ exchange_owner-free-requires-clause-table g c =
 pub exchange_owner-free-requires-clause-rows : goal.exchange_owner-free-requires-clause-rows
 exchange_owner-free-requires-clause-rows g c =
     let l = c.args.local.now in
-    let known : l.place.me.0.sizes ≡ c.args.domain.now.sizes = ap (λ (t : TableId × Sizes). t.1) c.requires.home ∙ sym c.args.domain.now.sized.0 in (
-      subst (λ life. map row_told l.rows.items ≡ map (lease_told (life_number life)) l.place.me.0.leases) c.in-Some.is l.lends.0,
+    let known : l.seat.me.0.sizes ≡ c.args.domain.now.sizes = ap (λ (t : TableId × Sizes). t.1) c.requires.home ∙ sym c.args.domain.now.sized.0 in (
+      subst (λ life. map row_told l.rows.items ≡ map (lease_told (life_number life)) l.seat.me.0.leases) c.in-Some.is l.lends.0,
       subst (λ (z : Sizes). all_below z.slots (row_slots l.rows.items) ≡ true) known l.lends.2,
       subst (λ (z : Sizes). z.slots ≤ deque_capacity l.rows) known l.lends.1,
     )
@@ -110,19 +110,19 @@ exchange_owner-free-requires-clause-mine g c = subst (λ (t : TableId). IfSome c
 
 pub returns-in-Err-clause-seen : goal.returns-in-Err-clause-seen
 returns-in-Err-clause-seen g c = λ s is.
-    let under = c.loaded_at.ensures.under s is c.in-Some.life.id c.exchange_owner-free.new.place.me.0.leases c.exchange_owner-free.ensures.rows.0 in
+    let under = c.loaded_at.ensures.under s is c.in-Some.life.id c.exchange_owner-free.new.seat.me.0.leases c.exchange_owner-free.ensures.rows.0 in
     λ j. (c.args.local.now.number, (under ∙ sym (ap life_number c.in-Some.is)) j)
 
 pub returns-in-Ok-clause-exchanged : goal.returns-in-Ok-clause-exchanged
 returns-in-Ok-clause-exchanged g c = let l = c.args.local.now in let t = c.exchange_owner-free.ensures.tried in let all = (t.2 (behind l) (out l)).2 in
     let r = subst (λ r. IfOk r (λ _. (t.0 ≡ c.args.expected) × (t.1 ≡ packed l.spare (tag_number c.args.new.1) (owner_code c.args.new.0)) × (tag_number c.args.new.1 < 4))) c.in-Ok.is t.3 in
-    let home : c.words.result.now.key.sizes ≡ l.place.me.0.sizes = ap (λ (z : Plan). z.sizes) c.words.ensures.1 ∙ sym (ap (λ (t : TableId × Sizes). t.1) c.requires.home) in
-    (t.1, (l.spare, l.has_spare.1, r.2, r.1), ap (λ (z : Me _ Acting). z.0.cell_steps) all ∙ (λ j. l.place.me.0.cell_steps ++ record { word = cell_word (home j) c.args.cell; found = r.0 j; left = t.1 } ∷ []))
+    let home : c.words.result.now.key.sizes ≡ l.seat.me.0.sizes = ap (λ (z : Plan). z.sizes) c.words.ensures.1 ∙ sym (ap (λ (t : TableId × Sizes). t.1) c.requires.home) in
+    (t.1, (l.spare, l.has_spare.1, r.2, r.1), ap (λ (z : Me _ Acting). z.0.cell_steps) all ∙ (λ j. l.seat.me.0.cell_steps ++ record { word = cell_word (home j) c.args.cell; found = r.0 j; left = t.1 } ∷ []))
 
 -- where the word was another one, the step read the cell
 pub returns-in-Err-clause-looked : goal.returns-in-Err-clause-looked
 returns-in-Err-clause-looked g c = let l = c.args.local.now in let t = c.exchange_owner-free.ensures.tried in let all = (t.2 (behind l) (out l)).2 in
     let r = subst (λ r. IfErr r (λ e. (t.1 ≡ t.0) × IsFoundAs t.0 (tag_number e.2) c.exchange_owner-free.new.rows.items e.1)) c.in-Err.is t.4 in let f = r.1 in
     let y : ℕ = f.0 in let code = c.loaded_at.ensures.code f.1 f.5 in
-    let home : c.words.result.now.key.sizes ≡ l.place.me.0.sizes = ap (λ (z : Plan). z.sizes) c.words.ensures.1 ∙ sym (ap (λ (t : TableId × Sizes). t.1) c.requires.home) in
-    (t.0, (y, f.2, f.3, f.4 ∙ ap (packed y (tag_number c.in-Err.tag)) (sym code)), ap (λ (z : Me _ Acting). z.0.cell_steps) all ∙ (λ j. l.place.me.0.cell_steps ++ record { word = cell_word (home j) c.args.cell; found = t.0; left = r.0 j } ∷ []))
+    let home : c.words.result.now.key.sizes ≡ l.seat.me.0.sizes = ap (λ (z : Plan). z.sizes) c.words.ensures.1 ∙ sym (ap (λ (t : TableId × Sizes). t.1) c.requires.home) in
+    (t.0, (y, f.2, f.3, f.4 ∙ ap (packed y (tag_number c.in-Err.tag)) (sym code)), ap (λ (z : Me _ Acting). z.0.cell_steps) all ∙ (λ j. l.seat.me.0.cell_steps ++ record { word = cell_word (home j) c.args.cell; found = t.0; left = r.0 j } ∷ []))

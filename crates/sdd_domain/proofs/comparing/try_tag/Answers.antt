@@ -21,7 +21,7 @@ stepped i e v m m' true set _ = (e, v, set refl)
 stepped i e v m m' false _ kept = let n = kept refl in (n.0, n.0, n.1)
 
 pub invariant_of-local : goal.invariant_of-local
-invariant_of-local g c = let l = c.args.local.now in let all = (stepped (cell_word c.words.result.now.key.sizes c.args.cell) c.args.expected c.with_tag.result l.place.me c.change_tag.new.place.me c.change_tag.result c.change_tag.ensures.set c.change_tag.ensures.kept).2 in let table = c.change_tag.ensures.seat.0 in record {
+invariant_of-local g c = let l = c.args.local.now in let all = (stepped (cell_word c.words.result.now.key.sizes c.args.cell) c.args.expected c.with_tag.result l.seat.me c.change_tag.new.seat.me c.change_tag.result c.change_tag.ensures.set c.change_tag.ensures.kept).2 in let table = c.change_tag.ensures.seat.0 in record {
   acts = (
     ap (λ (z : Me _ _). z.0.kind) all ∙ l.acts.0,
     ap (λ (z : Me _ _). z.0.number) all ∙ l.acts.1,
@@ -46,14 +46,14 @@ invariant_of-local g c = let l = c.args.local.now in let all = (stepped (cell_wo
 }
 
 pub returns-clause-set : goal.returns-clause-set
-returns-clause-set g c = λ t k n yes. let l = c.args.local.now in let home : c.words.result.now.key.sizes ≡ l.place.me.0.sizes = ap (λ (z : Plan). z.sizes) c.words.ensures.1 ∙ sym (ap (λ (t : TableId × Sizes). t.1) c.requires.home) in
-    let v = c.with_tag.result in let made = ap (λ (z : Me _ _). z.0.cell_steps) (c.change_tag.ensures.set yes) ∙ (λ j. l.place.me.0.cell_steps ++ record { word = cell_word (home j) c.args.cell; found = c.args.expected; left = v } ∷ []) in
+returns-clause-set g c = λ t k n yes. let l = c.args.local.now in let home : c.words.result.now.key.sizes ≡ l.seat.me.0.sizes = ap (λ (z : Plan). z.sizes) c.words.ensures.1 ∙ sym (ap (λ (t : TableId × Sizes). t.1) c.requires.home) in
+    let v = c.with_tag.result in let made = ap (λ (z : Me _ _). z.0.cell_steps) (c.change_tag.ensures.set yes) ∙ (λ j. l.seat.me.0.cell_steps ++ record { word = cell_word (home j) c.args.cell; found = c.args.expected; left = v } ∷ []) in
     (c.args.expected, n, (v, (n.0, n.1, tag_few c.args.tag, c.with_tag.ensures.1 n.0 t k n.1 n.2 n.3), made))
 
 pub returns-clause-kept : goal.returns-clause-kept
-returns-clause-kept g c = λ no. let l = c.args.local.now in let home : c.words.result.now.key.sizes ≡ l.place.me.0.sizes = ap (λ (z : Plan). z.sizes) c.words.ensures.1 ∙ sym (ap (λ (t : TableId × Sizes). t.1) c.requires.home) in
-    let w = c.change_tag.ensures.kept no in (w.0, ap (λ (z : Me _ _). z.0.cell_steps) w.1 ∙ (λ j. l.place.me.0.cell_steps ++ record { word = cell_word (home j) c.args.cell; found = w.0; left = w.0 } ∷ []))
+returns-clause-kept g c = λ no. let l = c.args.local.now in let home : c.words.result.now.key.sizes ≡ l.seat.me.0.sizes = ap (λ (z : Plan). z.sizes) c.words.ensures.1 ∙ sym (ap (λ (t : TableId × Sizes). t.1) c.requires.home) in
+    let w = c.change_tag.ensures.kept no in (w.0, ap (λ (z : Me _ _). z.0.cell_steps) w.1 ∙ (λ j. l.seat.me.0.cell_steps ++ record { word = cell_word (home j) c.args.cell; found = w.0; left = w.0 } ∷ []))
 
 pub returns-clause-same : goal.returns-clause-same
-returns-clause-same g c = let l = c.args.local.now in let all = (stepped (cell_word c.words.result.now.key.sizes c.args.cell) c.args.expected c.with_tag.result l.place.me c.change_tag.new.place.me c.change_tag.result c.change_tag.ensures.set c.change_tag.ensures.kept).2 in let table = c.change_tag.ensures.seat.0 in
+returns-clause-same g c = let l = c.args.local.now in let all = (stepped (cell_word c.words.result.now.key.sizes c.args.cell) c.args.expected c.with_tag.result l.seat.me c.change_tag.new.seat.me c.change_tag.result c.change_tag.ensures.set c.change_tag.ensures.kept).2 in let table = c.change_tag.ensures.seat.0 in
     (((λ j. (table j, ap (λ (z : Me _ _). z.0.sizes) all j), refl, ap (λ (z : Me _ _). map told z.0.hand) all, refl), refl), refl, ap (λ (z : Me _ _). z.0.born) all, ap (λ (z : Me _ _). length z.0.waits) all)

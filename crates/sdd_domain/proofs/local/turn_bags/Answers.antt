@@ -9,7 +9,7 @@ nothing [] h = refl
 nothing (w ∷ ws) h = let bad : true ≡ false = sym (lt-ltb 0 (length (w ∷ ws)) (omega arith)) ∙ h in absurd (cc)
 
 pub returns-then-not-has_some-clause-reclaimed : goal.returns-then-not-has_some-clause-reclaimed
-returns-then-not-has_some-clause-reclaimed g c = let m = c.args.place.now.me in (m.0.slot, m.0.waits, refl)
+returns-then-not-has_some-clause-reclaimed g c = let m = c.args.seat.now.me in (m.0.slot, m.0.waits, refl)
 
 pub returns-then-not-has_some-clause-waits : goal.returns-then-not-has_some-clause-waits
 returns-then-not-has_some-clause-waits g c = let w = c.requires.waits in let n = c.args.sizes.now.slots in let none = nothing w.0 (sym (c.has_some.ensures n w.0 w.2) ∙ c.if-not-has_some.true) in

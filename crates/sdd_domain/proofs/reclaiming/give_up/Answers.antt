@@ -21,14 +21,14 @@ module _ {T : Type 0} (m m' : Me (Home T) Acting) (os : List Owner) where
   none ts h e = (h.1, h.3 ∙ ap (λ (xs : List Owner). (record m.0 { hand = xs ++ os; waits = h.1 }, m.1)) (none_held h.0 (sym h.2 ∙ e)))
 
 pub loop-held-init : goal.loop-held-init
-loop-held-init g c = let m = c.args.place.now.me in record { seat = (refl, refl); owners = λ hs os h e. (hs, m.0.waits, h, λ j. (record m.0 { hand = e j }, m.1)); waits = c.requires.waits; due = (refl, refl) }
+loop-held-init g c = let m = c.args.seat.now.me in record { seat = (refl, refl); owners = λ hs os h e. (hs, m.0.waits, h, λ j. (record m.0 { hand = e j }, m.1)); waits = c.requires.waits; due = (refl, refl) }
 
 pub release_held-requires-clause-owner : goal.release_held-requires-clause-owner
-release_held-requires-clause-owner g c = let q = c.requires.owners in let f = first c.args.place.now.me c.loop-held.place.me q.1 _ _ _ (c.loop-held.invariant.owners q.0 q.1 q.2 q.3) c.in-Some.ensures in
+release_held-requires-clause-owner g c = let q = c.requires.owners in let f = first c.args.seat.now.me c.loop-held.seat.me q.1 _ _ _ (c.loop-held.invariant.owners q.0 q.1 q.2 q.3) c.in-Some.ensures in
     (f.0, f.1 ++ q.1, f.2, ap (λ (t : ℕ × ℕ). t.0) f.3, ap (λ (t : ℕ × ℕ). t.1) f.3)
 
 pub loop-held-preserved : goal.loop-held-preserved
-loop-held-preserved g c = let m = c.args.place.now.me in let m1 = c.loop-held.place.me in let inv = c.loop-held.invariant in let r = c.release_held.ensures in record {
+loop-held-preserved g c = let m = c.args.seat.now.me in let m1 = c.loop-held.seat.me in let inv = c.loop-held.invariant in let r = c.release_held.ensures in record {
   seat = (r.seat.0 ∙ inv.seat.0, r.seat.1 ∙ inv.seat.1);
   owners = λ hs os h e. let i = inv.owners hs os h e in let f = first m m1 os _ _ _ i c.in-Some.ensures in let t = r.released f.0 (f.1 ++ os) f.2 in (
     f.1,
@@ -41,4 +41,4 @@ loop-held-preserved g c = let m = c.args.place.now.me in let m1 = c.loop-held.pl
 }
 
 pub returns-clause-released : goal.returns-clause-released
-returns-clause-released g c = λ hs os h e. none c.args.place.now.me c.loop-held.place.me os _ (c.loop-held.invariant.owners hs os h e) c.in_default.ensures.0
+returns-clause-released g c = λ hs os h e. none c.args.seat.now.me c.loop-held.seat.me os _ (c.loop-held.invariant.owners hs os h e) c.in_default.ensures.0

@@ -8,10 +8,10 @@ use Rattle.sdd_domain.proofs.reclaiming.give_up.Given as goal
 
 abbrev pub invariant-loop-held : goal.invariant-loop-held
 invariant-loop-held g l = record {
-  seat : (l.place.table_id ≡ l.fn.place.table_id) × (l.place.id ≡ l.fn.place.id);
-  owners : (hs os : List Owner) → g.T.Holds.holds l.fn.item ≡ map told hs → l.fn.place.me.0.hand ≡ hs ++ os → (ks : List Owner) × (ws : List Garbage) × (g.T.Holds.holds l.item ≡ map told ks) × (l.place.me ≡ (record l.fn.place.me.0 { hand = ks ++ os; waits = ws }, l.fn.place.me.1));
-  waits : WaitsIn l.sizes.slots l.place.me.0.waits l.bags;
-  due : (aged 3 l.place.me.0.waits ≡ aged 3 l.fn.place.me.0.waits) × (l.bags.due ≡ l.fn.bags.due);
+  seat : (l.seat.table_id ≡ l.fn.seat.table_id) × (l.seat.id ≡ l.fn.seat.id);
+  owners : (hs os : List Owner) → g.T.Holds.holds l.fn.item ≡ map told hs → l.fn.seat.me.0.hand ≡ hs ++ os → (ks : List Owner) × (ws : List Garbage) × (g.T.Holds.holds l.item ≡ map told ks) × (l.seat.me ≡ (record l.fn.seat.me.0 { hand = ks ++ os; waits = ws }, l.fn.seat.me.1));
+  waits : WaitsIn l.sizes.slots l.seat.me.0.waits l.bags;
+  due : (aged 3 l.seat.me.0.waits ≡ aged 3 l.fn.seat.me.0.waits) × (l.bags.due ≡ l.fn.bags.due);
 }
 
 abbrev pub decreases-loop-held : goal.decreases-loop-held

@@ -24,17 +24,17 @@ module _ {T : Type 0} (m m' : Me (Home T) Acting) (os : List Owner) where
   none ts h e = (h.1, h.2, h.4, h.5 ∙ ap (λ (xs : List Owner). (record m.0 { hand = xs ++ os; leases = h.2; waits = h.1 }, m.1)) (none_held h.0 (sym h.3 ∙ e)))
 
 pub loop-held-init : goal.loop-held-init
-loop-held-init g c = let m = c.args.place.now.me in record { seat = (refl, refl); owners = λ hs os h e. (hs, m.0.waits, m.0.leases, h, refl, λ j. (record m.0 { hand = e j }, m.1)); rows = λ life told. told; same = (refl, refl); waits = c.requires.waits; due = refl }
+loop-held-init g c = let m = c.args.seat.now.me in record { seat = (refl, refl); owners = λ hs os h e. (hs, m.0.waits, m.0.leases, h, refl, λ j. (record m.0 { hand = e j }, m.1)); rows = λ life told. told; same = (refl, refl); waits = c.requires.waits; due = refl }
 
 pub give_back-requires-clause-owner : goal.give_back-requires-clause-owner
-give_back-requires-clause-owner g c = let q = c.requires.owners in let f = first c.args.place.now.me c.loop-held.place.me q.1 _ _ _ (c.loop-held.invariant.owners q.0 q.1 q.2 q.3) c.in-Some.ensures in
+give_back-requires-clause-owner g c = let q = c.requires.owners in let f = first c.args.seat.now.me c.loop-held.seat.me q.1 _ _ _ (c.loop-held.invariant.owners q.0 q.1 q.2 q.3) c.in-Some.ensures in
     ((f.0, f.1 ++ q.1, f.2, ap (λ (t : ℕ × ℕ). t.0) f.3, ap (λ (t : ℕ × ℕ). t.1) f.3), c.in-Some.held.there)
 
 pub give_back-requires-clause-rows : goal.give_back-requires-clause-rows
 give_back-requires-clause-rows g c = let r = c.requires.rows in let inv = c.loop-held.invariant in ((r.0.0, inv.rows r.0.0 r.0.1), ap (all_below c.args.sizes.now.slots) inv.same.1 ∙ r.1)
 
 pub loop-held-preserved : goal.loop-held-preserved
-loop-held-preserved g c = let m = c.args.place.now.me in let m1 = c.loop-held.place.me in let inv = c.loop-held.invariant in let r = c.give_back.ensures in record {
+loop-held-preserved g c = let m = c.args.seat.now.me in let m1 = c.loop-held.seat.me in let inv = c.loop-held.invariant in let r = c.give_back.ensures in record {
   seat = (r.seat.0 ∙ inv.seat.0, r.seat.1 ∙ inv.seat.1);
   owners = λ hs os h e. let i = inv.owners hs os h e in let f = first m m1 os _ _ _ i c.in-Some.ensures in let t = r.given f.0 (f.1 ++ os) f.2 in (
     f.1,
@@ -51,4 +51,4 @@ loop-held-preserved g c = let m = c.args.place.now.me in let m1 = c.loop-held.pl
 }
 
 pub returns-clause-released : goal.returns-clause-released
-returns-clause-released g c = λ hs os h e. none c.args.place.now.me c.loop-held.place.me os _ (c.loop-held.invariant.owners hs os h e) c.in_default.ensures.0
+returns-clause-released g c = λ hs os h e. none c.args.seat.now.me c.loop-held.seat.me os _ (c.loop-held.invariant.owners hs os h e) c.in_default.ensures.0

@@ -7,7 +7,7 @@ use Rattle.domain_table.proofs.WaitLemmas.{due_less}
 use Rattle.sdd_domain.proofs.reclaiming.reclaim_due.Goals as goal
 
 pub loop-slot-init : goal.loop-slot-init
-loop-slot-init g c = let m = c.args.place.now.me in record { seat = (refl, refl); reclaimed = (m.0.slot, m.0.waits, refl); waits = c.requires.waits }
+loop-slot-init g c = let m = c.args.seat.now.me in record { seat = (refl, refl); reclaimed = (m.0.slot, m.0.waits, refl); waits = c.requires.waits }
 
 -- what was due is one less, whatever was retired meanwhile
 pub loop-slot-smaller : goal.loop-slot-smaller

@@ -6,10 +6,10 @@ use Rattle.sdd_domain.proofs.reclaiming.reclaim_due.Given as goal
 
 abbrev pub invariant-loop-slot : goal.invariant-loop-slot
 invariant-loop-slot g l = record {
-  seat : (l.place.table_id ≡ l.fn.place.table_id) × (l.place.id ≡ l.fn.place.id);
-  reclaimed : (k : ℕ) × (ws : List Garbage) × (l.place.me ≡ (record l.fn.place.me.0 { slot = k; waits = ws }, l.fn.place.me.1));
-  waits : WaitsIn l.sizes.slots l.place.me.0.waits l.bags;
+  seat : (l.seat.table_id ≡ l.fn.seat.table_id) × (l.seat.id ≡ l.fn.seat.id);
+  reclaimed : (k : ℕ) × (ws : List Garbage) × (l.seat.me ≡ (record l.fn.seat.me.0 { slot = k; waits = ws }, l.fn.seat.me.1));
+  waits : WaitsIn l.sizes.slots l.seat.me.0.waits l.bags;
 }
 
 abbrev pub decreases-loop-slot : goal.decreases-loop-slot
-decreases-loop-slot g l = length (aged 3 l.place.me.0.waits)
+decreases-loop-slot g l = length (aged 3 l.seat.me.0.waits)

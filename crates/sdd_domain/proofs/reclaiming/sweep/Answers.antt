@@ -15,26 +15,26 @@ past : (note count : ℕ) (reread : Rattle.std.specs.Prelude.Option ℕ) → rer
 past note count reread is le = ap (is_past note) is ∙ le-leb (note + 3) count le
 
 pub loop-slot-init : goal.loop-slot-init
-loop-slot-init g c = let m = c.args.place.now.me in record { seat = (refl, refl); swept = (m.0.slot, m.0.waits, m.0.leases, m.0.collected, refl, refl); rows = λ life told. told; same = (refl, refl); waits = c.requires.waits; due = refl; kept = c.requires.kept; gone = ([], sym (append-nil m.0.collected), λ w h. absurd h) }
+loop-slot-init g c = let m = c.args.seat.now.me in record { seat = (refl, refl); swept = (m.0.slot, m.0.waits, m.0.leases, m.0.collected, refl, refl); rows = λ life told. told; same = (refl, refl); waits = c.requires.waits; due = refl; kept = c.requires.kept; gone = ([], sym (append-nil m.0.collected), λ w h. absurd h) }
 
 pub reclaim_noted-item-requires-clause-noted : goal.reclaim_noted-item-requires-clause-noted
-reclaim_noted-item-requires-clause-noted g c = let inv = c.loop-slot.invariant in let m1 = c.take_due.new.place.me in let f = c.in-Some.ensures.taken in let seat = c.take_due.ensures.seat in let still = seat.2 in let at = ap (λ (z : Me _ Acting). z.0.collected) still ∙ f.2 in let swept = still ∙ inv.swept.5 in
+reclaim_noted-item-requires-clause-noted g c = let inv = c.loop-slot.invariant in let m1 = c.take_due.new.seat.me in let f = c.in-Some.ensures.taken in let seat = c.take_due.ensures.seat in let still = seat.2 in let at = ap (λ (z : Me _ Acting). z.0.collected) still ∙ f.2 in let swept = still ∙ inv.swept.5 in
     (f.1, f.0, at, past f.1.age c.args.count m1.0.known.reread (ap (λ (z : Me _ Acting). z.0.known.reread) swept ∙ c.requires.ready.3) f.4, f.3)
 
 pub give_up_under-requires-clause-owners : goal.give_up_under-requires-clause-owners
-give_up_under-requires-clause-owners g c = let inv = c.loop-slot.invariant in let m1 = c.take_due.new.place.me in let f = c.in-Some.ensures.taken in let seat = c.take_due.ensures.seat in let still = seat.2 in let at = ap (λ (z : Me _ Acting). z.0.collected) still ∙ f.2 in let swept = still ∙ inv.swept.5 in
+give_up_under-requires-clause-owners g c = let inv = c.loop-slot.invariant in let m1 = c.take_due.new.seat.me in let f = c.in-Some.ensures.taken in let seat = c.take_due.ensures.seat in let still = seat.2 in let at = ap (λ (z : Me _ Acting). z.0.collected) still ∙ f.2 in let swept = still ∙ inv.swept.5 in
     let r = c.reclaim_noted-item.ensures.reclaimed f.1 f.0 at in (r.0, m1.0.hand, r.1, ap (λ (z : Me _ Acting). z.0.hand) r.2)
 
 pub give_up_under-requires-clause-rows : goal.give_up_under-requires-clause-rows
-give_up_under-requires-clause-rows g c = let inv = c.loop-slot.invariant in let m1 = c.take_due.new.place.me in let f = c.in-Some.ensures.taken in let seat = c.take_due.ensures.seat in let still = seat.2 in let at = ap (λ (z : Me _ Acting). z.0.collected) still ∙ f.2 in let swept = still ∙ inv.swept.5 in let q = c.requires.rows in
+give_up_under-requires-clause-rows g c = let inv = c.loop-slot.invariant in let m1 = c.take_due.new.seat.me in let f = c.in-Some.ensures.taken in let seat = c.take_due.ensures.seat in let still = seat.2 in let at = ap (λ (z : Me _ Acting). z.0.collected) still ∙ f.2 in let swept = still ∙ inv.swept.5 in let q = c.requires.rows in
     let r = c.reclaim_noted-item.ensures.reclaimed f.1 f.0 at in ((q.0.0, inv.rows q.0.0 q.0.1 ∙ (sym (ap (λ (z : Me _ Acting). map (lease_told q.0.0) z.0.leases) still) ∙ sym (ap (λ (z : Me _ Acting). map (lease_told q.0.0) z.0.leases) r.2))), ap (all_below c.args.sizes.now.slots) inv.same.1 ∙ q.1)
 
 pub give_up_under-requires-clause-table : goal.give_up_under-requires-clause-table
-give_up_under-requires-clause-table g c = let inv = c.loop-slot.invariant in let m1 = c.take_due.new.place.me in let f = c.in-Some.ensures.taken in let seat = c.take_due.ensures.seat in let still = seat.2 in let at = ap (λ (z : Me _ Acting). z.0.collected) still ∙ f.2 in let swept = still ∙ inv.swept.5 in let q = c.requires.table in
+give_up_under-requires-clause-table g c = let inv = c.loop-slot.invariant in let m1 = c.take_due.new.seat.me in let f = c.in-Some.ensures.taken in let seat = c.take_due.ensures.seat in let still = seat.2 in let at = ap (λ (z : Me _ Acting). z.0.collected) still ∙ f.2 in let swept = still ∙ inv.swept.5 in let q = c.requires.table in
     let r = c.reclaim_noted-item.ensures.reclaimed f.1 f.0 at in ((c.reclaim_noted-item.ensures.seat.0 ∙ (seat.0 ∙ (inv.seat.0 ∙ q.0.0)), q.0.1, ap (λ (z : Me _ Acting). z.0.sizes) r.2 ∙ (ap (λ (z : Me _ Acting). z.0.sizes) swept ∙ q.0.2), q.0.3, q.0.4), q.1)
 
 pub give_up_under-requires-clause-ready : goal.give_up_under-requires-clause-ready
-give_up_under-requires-clause-ready g c = let inv = c.loop-slot.invariant in let m1 = c.take_due.new.place.me in let f = c.in-Some.ensures.taken in let seat = c.take_due.ensures.seat in let still = seat.2 in let at = ap (λ (z : Me _ Acting). z.0.collected) still ∙ f.2 in let swept = still ∙ inv.swept.5 in let q = c.requires.ready.0 in
+give_up_under-requires-clause-ready g c = let inv = c.loop-slot.invariant in let m1 = c.take_due.new.seat.me in let f = c.in-Some.ensures.taken in let seat = c.take_due.ensures.seat in let still = seat.2 in let at = ap (λ (z : Me _ Acting). z.0.collected) still ∙ f.2 in let swept = still ∙ inv.swept.5 in let q = c.requires.ready.0 in
     let r = c.reclaim_noted-item.ensures.reclaimed f.1 f.0 at in (
       ap (λ (z : Me _ Acting). z.0.kind) r.2 ∙ (ap (λ (z : Me _ Acting). z.0.kind) swept ∙ q.0),
       ap (λ (z : Me _ Acting). z.0.number) r.2 ∙ (ap (λ (z : Me _ Acting). z.0.number) swept ∙ q.1),
@@ -43,13 +43,13 @@ give_up_under-requires-clause-ready g c = let inv = c.loop-slot.invariant in let
     )
 
 pub give_up_under-requires-clause-waits : goal.give_up_under-requires-clause-waits
-give_up_under-requires-clause-waits g c = let inv = c.loop-slot.invariant in let m1 = c.take_due.new.place.me in let f = c.in-Some.ensures.taken in let seat = c.take_due.ensures.seat in let still = seat.2 in let at = ap (λ (z : Me _ Acting). z.0.collected) still ∙ f.2 in let swept = still ∙ inv.swept.5 in let bags = c.loop-slot.bags in
+give_up_under-requires-clause-waits g c = let inv = c.loop-slot.invariant in let m1 = c.take_due.new.seat.me in let f = c.in-Some.ensures.taken in let seat = c.take_due.ensures.seat in let still = seat.2 in let at = ap (λ (z : Me _ Acting). z.0.collected) still ∙ f.2 in let swept = still ∙ inv.swept.5 in let bags = c.loop-slot.bags in
     let r = c.reclaim_noted-item.ensures.reclaimed f.1 f.0 at in subst (λ (z : Me _ Acting). WaitsIn c.args.sizes.now.slots z.0.waits bags) (sym r.2) (subst (λ (z : Me _ Acting). WaitsIn c.args.sizes.now.slots z.0.waits bags) (sym still) inv.waits)
 
 pub loop-slot-preserved : goal.loop-slot-preserved
-loop-slot-preserved g c = let inv = c.loop-slot.invariant in let m1 = c.take_due.new.place.me in let f = c.in-Some.ensures.taken in let seat = c.take_due.ensures.seat in let still = seat.2 in let at = ap (λ (z : Me _ Acting). z.0.collected) still ∙ f.2 in let swept = still ∙ inv.swept.5 in let m0 = c.args.place.now.me in let k = c.in-Some.slot in
+loop-slot-preserved g c = let inv = c.loop-slot.invariant in let m1 = c.take_due.new.seat.me in let f = c.in-Some.ensures.taken in let seat = c.take_due.ensures.seat in let still = seat.2 in let at = ap (λ (z : Me _ Acting). z.0.collected) still ∙ f.2 in let swept = still ∙ inv.swept.5 in let m0 = c.args.seat.now.me in let k = c.in-Some.slot in
     let r = c.reclaim_noted-item.ensures.reclaimed f.1 f.0 at in let e = c.give_up_under.ensures in let u = e.released r.0 m1.0.hand r.1 (ap (λ (z : Me _ Acting). z.0.hand) r.2) in
-    let all : c.give_up_under.new.place.me ≡ (record m0.0 { slot = k; leases = u.1; waits = u.0; collected = f.0 }, m0.1) = u.3 ∙ (ap (λ (z : Me _ Acting). (record z.0 { hand = m1.0.hand; leases = u.1; waits = u.0 }, z.1)) r.2 ∙ ap (λ (z : Me _ Acting). (record z.0 { slot = k; leases = u.1; waits = u.0; collected = f.0 }, z.1)) swept) in record {
+    let all : c.give_up_under.new.seat.me ≡ (record m0.0 { slot = k; leases = u.1; waits = u.0; collected = f.0 }, m0.1) = u.3 ∙ (ap (λ (z : Me _ Acting). (record z.0 { hand = m1.0.hand; leases = u.1; waits = u.0 }, z.1)) r.2 ∙ ap (λ (z : Me _ Acting). (record z.0 { slot = k; leases = u.1; waits = u.0; collected = f.0 }, z.1)) swept) in record {
       seat = (e.seat.0 ∙ (c.reclaim_noted-item.ensures.seat.0 ∙ (seat.0 ∙ inv.seat.0)), e.seat.1 ∙ (c.reclaim_noted-item.ensures.seat.1 ∙ (seat.1 ∙ inv.seat.1)));
       swept = (k, u.0, u.1, f.0, u.2 ∙ (ap (λ (z : Me _ Acting). map (λ (l : Lease). l.slot) z.0.leases) r.2 ∙ (ap (λ (z : Me _ Acting). map (λ (l : Lease). l.slot) z.0.leases) swept ∙ inv.swept.4)), all);
       rows = λ life told. e.rows.0 life (inv.rows life told ∙ (sym (ap (λ (z : Me _ Acting). map (lease_told life) z.0.leases) still) ∙ sym (ap (λ (z : Me _ Acting). map (lease_told life) z.0.leases) r.2)));
@@ -65,7 +65,7 @@ loop-slot-preserved g c = let inv = c.loop-slot.invariant in let m1 = c.take_due
     }
 
 pub loop-slot-smaller : goal.loop-slot-smaller
-loop-slot-smaller g c = let inv = c.loop-slot.invariant in let m1 = c.take_due.new.place.me in let f = c.in-Some.ensures.taken in let seat = c.take_due.ensures.seat in let still = seat.2 in let at = ap (λ (z : Me _ Acting). z.0.collected) still ∙ f.2 in let swept = still ∙ inv.swept.5 in
+loop-slot-smaller g c = let inv = c.loop-slot.invariant in let m1 = c.take_due.new.seat.me in let f = c.in-Some.ensures.taken in let seat = c.take_due.ensures.seat in let still = seat.2 in let at = ap (λ (z : Me _ Acting). z.0.collected) still ∙ f.2 in let swept = still ∙ inv.swept.5 in
     let r = c.reclaim_noted-item.ensures.reclaimed f.1 f.0 at in let u = c.give_up_under.ensures.released r.0 m1.0.hand r.1 (ap (λ (z : Me _ Acting). z.0.hand) r.2) in let last = ap (λ (z : Me _ Acting). length z.0.collected) u.3 in let less = ap (λ (z : Me _ Acting). length z.0.collected) r.2 in let was = ap length f.2 in let long = length-append f.0 (f.1 ∷ []) in omega arith
 
 pub returns-clause-left : goal.returns-clause-left

@@ -13,9 +13,9 @@ use Rattle.sdd_domain.proofs.swapping.bring.Goals as goal
 
 -- the owner is in hand, and its part in the spare slot
 pub returns-clause-brings : goal.returns-clause-brings
-returns-clause-brings g c = λ tail is. let m = c.args.place.now.me in let d = m.0 in let s = c.in-Some.owner in let spare : ℕ = c.args.spare in let o : Owner = record { item = item_in s.seat.badge.views; slot = s.slot; round = s.part.part.life.id } in
+returns-clause-brings g c = λ tail is. let m = c.args.seat.now.me in let d = m.0 in let s = c.in-Some.owner in let spare : ℕ = c.args.spare in let o : Owner = record { item = item_in s.calm.badge.views; slot = s.slot; round = s.part.part.life.id } in
     let t = c.take_in.ensures.taken o s.owns in let e = c.exchange.ensures in let p = c.into_part.result in let y : Home _ = Part p 1 in let mine = c.into_part.ensures in let m2 = c.exchange.new.seat.me in
-    let all : m2 ≡ (record d { hand = o ∷ d.hand }, (own_spare d spare, y) ∷ tail) = put_in c.take_in.new.place.me m2 (own_spare d spare) c.spare_at-at.result Blank c.exchange.result y tail (ap (λ (z : Me _ Acting). z.1) t ∙ is) e.2 e.3 ∙ ap (λ (z : Me _ Acting). (z.0, (own_spare d spare, y) ∷ tail)) t in
+    let all : m2 ≡ (record d { hand = o ∷ d.hand }, (own_spare d spare, y) ∷ tail) = put_in c.take_in.new.seat.me m2 (own_spare d spare) c.spare_at-at.result Blank c.exchange.result y tail (ap (λ (z : Me _ Acting). z.1) t ∙ is) e.2 e.3 ∙ ap (λ (z : Me _ Acting). (z.0, (own_spare d spare, y) ∷ tail)) t in
     let hand : m2.0 ≡ record d { hand = o ∷ d.hand } = ap (λ (z : Me _ Acting). z.0) all in let same : m2.0.spare ≡ spare = ap (λ (z : Acting). z.spare) hand ∙ c.requires.ready.1 in let next : suc s.slot ≡ s.slot + 1 = omega arith in (
       Some o,
       (

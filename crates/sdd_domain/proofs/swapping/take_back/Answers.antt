@@ -37,20 +37,20 @@ back : {T : Type 0} (holds : T → List (ℕ × ℕ)) (w : ℕ) (m m' : Me (Home
 back holds w m m' os tail some b = came holds w m m' os tail b.0 b.1 some b.2.0 b.2.1 b.2.2.0 b.2.2.1 b.2.2.2
 
 pub parts_of-part-requires : goal.parts_of-part-requires
-parts_of-part-requires g c = let r = c.requires.back in let m1 = c.args.place.now.me in let k = back g.T.Holds.holds c.args.word r.0 m1 r.1 r.2 c.if-code-eq0.false r.3 in let e = c.exchange.ensures in
+parts_of-part-requires g c = let r = c.requires.back in let m1 = c.args.seat.now.me in let k = back g.T.Holds.holds c.args.word r.0 m1 r.1 r.2 c.if-code-eq0.false r.3 in let e = c.exchange.ensures in
     (k.owner.round, 1, subst (IsIn g.T.Holds.holds (part k.owner.round 1)) (sym (came_out m1 (own_spare r.0.0 (c.args.word % 2147483648)) c.spare_at-at.result k.value c.exchange.result r.2 (ap (λ (z : Me _ Acting). z.1) k.me) e.2)) k.is)
 
-pub part_with-seat-requires-clause-owner : goal.part_with-seat-requires-clause-owner
-part_with-seat-requires-clause-owner g c = let r = c.requires.back in let m1 = c.args.place.now.me in let k = back g.T.Holds.holds c.args.word r.0 m1 r.1 r.2 c.if-code-eq0.false r.3 in (k.owner, r.1, ap (λ (z : Me _ Acting). z.0.hand) c.exchange.ensures.3 ∙ ap (λ (z : Me _ Acting). z.0.hand) k.me)
+pub part_with-calm-requires-clause-owner : goal.part_with-calm-requires-clause-owner
+part_with-calm-requires-clause-owner g c = let r = c.requires.back in let m1 = c.args.seat.now.me in let k = back g.T.Holds.holds c.args.word r.0 m1 r.1 r.2 c.if-code-eq0.false r.3 in (k.owner, r.1, ap (λ (z : Me _ Acting). z.0.hand) c.exchange.ensures.3 ∙ ap (λ (z : Me _ Acting). z.0.hand) k.me)
 
 pub from_part-requires : goal.from_part-requires
-from_part-requires g c = let r = c.requires.back in let m1 = c.args.place.now.me in let k = back g.T.Holds.holds c.args.word r.0 m1 r.1 r.2 c.if-code-eq0.false r.3 in let e = c.exchange.ensures in
+from_part-requires g c = let r = c.requires.back in let m1 = c.args.seat.now.me in let k = back g.T.Holds.holds c.args.word r.0 m1 r.1 r.2 c.if-code-eq0.false r.3 in let e = c.exchange.ensures in
     (c.parts_of-part.ensures k.owner.round 1 (subst (IsIn g.T.Holds.holds (part k.owner.round 1)) (sym (came_out m1 (own_spare r.0.0 (c.args.word % 2147483648)) c.spare_at-at.result k.value c.exchange.result r.2 (ap (λ (z : Me _ Acting). z.1) k.me) e.2)) k.is)).1
 
 pub invariant_of-owner : goal.invariant_of-owner
-invariant_of-owner g c = let r = c.requires.back in let m1 = c.args.place.now.me in let k = back g.T.Holds.holds c.args.word r.0 m1 r.1 r.2 c.if-code-eq0.false r.3 in let e = c.exchange.ensures in let o : Owner = k.owner in let slot : o.slot ≡ c.args.word / 8589934592 - 1 = (let z = k.slot in omega arith) in let small = c.ranges.word.fits in
+invariant_of-owner g c = let r = c.requires.back in let m1 = c.args.seat.now.me in let k = back g.T.Holds.holds c.args.word r.0 m1 r.1 r.2 c.if-code-eq0.false r.3 in let e = c.exchange.ensures in let o : Owner = k.owner in let slot : o.slot ≡ c.args.word / 8589934592 - 1 = (let z = k.slot in omega arith) in let small = c.ranges.word.fits in
     let p = c.parts_of-part.ensures o.round 1 (subst (IsIn g.T.Holds.holds (part o.round 1)) (sym (came_out m1 (own_spare r.0.0 (c.args.word % 2147483648)) c.spare_at-at.result k.value c.exchange.result r.2 (ap (λ (z : Me _ Acting). z.1) k.me) e.2)) k.is) in
-    let hand : c.exchange.new.seat.me.0.hand ≡ o ∷ r.1 = ap (λ (z : Me _ Acting). z.0.hand) e.3 ∙ ap (λ (z : Me _ Acting). z.0.hand) k.me in let views : c.part_with-seat.result.badge.views ≡ holding o ∷ [] = c.part_with-seat.ensures.owner.1 ∙ ap (λ hs. record spent { kind = 3; hand = take 1 hs } ∷ []) hand in let part_is = c.from_part.ensures in record {
+    let hand : c.exchange.new.seat.me.0.hand ≡ o ∷ r.1 = ap (λ (z : Me _ Acting). z.0.hand) e.3 ∙ ap (λ (z : Me _ Acting). z.0.hand) k.me in let views : c.part_with-calm.result.badge.views ≡ holding o ∷ [] = c.part_with-calm.ensures.owner.1 ∙ ap (λ hs. record spent { kind = 3; hand = take 1 hs } ∷ []) hand in let part_is = c.from_part.ensures in record {
       owns = views ∙ λ j. holding (record { item = item_in (sym views j); slot = slot j; round = (sym p.0 ∙ sym (ap (λ q. q.life.id) part_is)) j }) ∷ [];
       there = subst (λ q. IsSome q.seen.value) (sym part_is) p.4;
       low = omega arith;
@@ -58,7 +58,7 @@ invariant_of-owner g c = let r = c.requires.back in let m1 = c.args.place.now.me
 
 -- the part that comes back is the one that lay there
 pub returns-clause-whose : goal.returns-clause-whose
-returns-clause-whose g c = λ s f. let r = c.requires.back in let m1 = c.args.place.now.me in let k = back g.T.Holds.holds c.args.word r.0 m1 r.1 r.2 c.if-code-eq0.false r.3 in let e = c.exchange.ensures in
+returns-clause-whose g c = λ s f. let r = c.requires.back in let m1 = c.args.seat.now.me in let k = back g.T.Holds.holds c.args.word r.0 m1 r.1 r.2 c.if-code-eq0.false r.3 in let e = c.exchange.ensures in
     let p = c.parts_of-part.ensures k.owner.round 1 (subst (IsIn g.T.Holds.holds (part k.owner.round 1)) (sym (came_out m1 (own_spare r.0.0 (c.args.word % 2147483648)) c.spare_at-at.result k.value c.exchange.result r.2 (ap (λ (z : Me _ Acting). z.1) k.me) e.2)) k.is) in
     let both : Part c.parts_of-part.result.0 1 ≡ Part s.part.part 1 = sym p.5 ∙ came_out m1 f.0 c.spare_at-at.result (Part s.part.part 1) c.exchange.result f.1 f.2 e.2 in let same : c.parts_of-part.result.0 ≡ s.part.part = cc in c.from_part.ensures ∙ same
 

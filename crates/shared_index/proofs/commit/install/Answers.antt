@@ -20,5 +20,5 @@ pub returns-in-Ok-place-clause-published : goal.returns-in-Ok-place-clause-publi
 returns-in-Ok-place-clause-published g c =
     let e = c.in-Ok-place.ensures in
     let put = c.publish.ensures.put in
-    let steps = c.place.new.local.place.me.0.cell_steps in
-    (c.in-Ok-place.new, e.root.1, steps, put.0, put.1.0, put.1.1, subst (λ h. c.publish.new.local.place.me.0.cell_steps ≡ steps ++ record { word = 8 * h.1.participants + 16 + cell_number c.args.root.now; found = put.0; left = put.1.0 } ∷ []) e.same.0 put.1.2)
+    let steps = c.place.new.local.seat.me.0.cell_steps in
+    (c.in-Ok-place.new, e.root.1, steps, put.0, put.1.0, put.1.1, subst (λ h. c.publish.new.local.seat.me.0.cell_steps ≡ steps ++ record { word = 8 * h.1.participants + 16 + cell_number c.args.root.now; found = put.0; left = put.1.0 } ∷ []) e.same.0 put.1.2)

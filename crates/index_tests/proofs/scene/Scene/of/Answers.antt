@@ -1,4 +1,4 @@
-use Rattle.index_tests.proofs.Seats.{serves_new}
+use Rattle.index_tests.proofs.Tickets.{serves_new}
 use Rattle.index_tests.proofs.scene.Scene.of.Goals as goal
 
 -- neither the index nor the desk has a session yet

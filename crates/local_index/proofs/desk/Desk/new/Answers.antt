@@ -5,11 +5,11 @@ use Rattle.local_index.proofs.desk.Desk.new.Goals as goal
 pub unwrap-requires : goal.unwrap-requires
 unwrap-requires g c =
     let long = ap length c.loop.invariant.made ∙ length-replicate c.loop.counter None in
-    c.push.ensures.succeeds (omega (arith, c.loop.seats.ok.0, long, c.loop-test.true, c.loop.invariant.room))
+    c.push.ensures.succeeds (omega (arith, c.loop.tickets.ok.0, long, c.loop-test.true, c.loop.invariant.room))
 
 pub loop-preserved : goal.loop-preserved
 loop-preserved g c = record {
-  made = rw c.unwrap.ensures at c.push.ensures.items ∙ ap (λ seats. seats ++ None ∷ []) c.loop.invariant.made ∙ replicate_more c.loop.counter None;
+  made = rw c.unwrap.ensures at c.push.ensures.items ∙ ap (λ tickets. tickets ++ None ∷ []) c.loop.invariant.made ∙ replicate_more c.loop.counter None;
   room = omega (arith, c.loop.invariant.room, c.push.ensures.capacity);
 }
 

@@ -20,19 +20,19 @@ use Rattle.sdd_domain.proofs.atomic_shared.AtomicShared.swap.Goals as goal
 -- the leased homes are behind the spare slot
 module _ {T : Type 0} (l : Local T) where
   abbrev d : Acting
-  d = l.place.me.0
+  d = l.seat.me.0
 
   abbrev behind : List (ℕ × Home T)
   behind = blanks (leased_homes d d.leases)
 
-  out : l.place.me.1 ≡ (own_spare d l.spare, Blank) ∷ behind
-  out = all_there (own_spare d l.spare ∷ leased_homes d d.leases) l.place.me.1 l.has_spare.2
+  out : l.seat.me.1 ≡ (own_spare d l.spare, Blank) ∷ behind
+  out = all_there (own_spare d l.spare ∷ leased_homes d d.leases) l.seat.me.1 l.has_spare.2
 
 pub swap_owner-free-requires-clause-out : goal.swap_owner-free-requires-clause-out
 swap_owner-free-requires-clause-out g c = let l = c.args.local.now in (behind l, out l)
 
 pub invariant_of-local : goal.invariant_of-local
-invariant_of-local g c = let l = c.args.local.now in let d = l.place.me.0 in let m = c.swap_owner-free.new.place.me in let y : ℕ = c.swap_owner-free.result.0 in let all = c.swap_owner-free.ensures.swapped.2 (behind l) (out l) in let table = c.swap_owner-free.ensures.seat.0 in record {
+invariant_of-local g c = let l = c.args.local.now in let d = l.seat.me.0 in let m = c.swap_owner-free.new.seat.me in let y : ℕ = c.swap_owner-free.result.0 in let all = c.swap_owner-free.ensures.swapped.2 (behind l) (out l) in let table = c.swap_owner-free.ensures.seat.0 in record {
   acts = (
     ap (λ (z : Me _ Acting). z.0.kind) all ∙ l.acts.0,
     ap (λ (z : Me _ Acting). z.0.number) all ∙ l.acts.1,
@@ -65,6 +65,6 @@ returns-clause-same g c = let l = c.args.local.now in let all = c.swap_owner-fre
     (((λ j. (table j, ap (λ (z : Me _ Acting). z.0.sizes) all j), refl, ap (λ (z : Me _ Acting). map told z.0.hand) all, refl), refl), refl, ap (λ (z : Me _ Acting). z.0.born) all, ap (λ (z : Me _ Acting). length z.0.waits) all)
 
 pub returns-clause-exchanged : goal.returns-clause-exchanged
-returns-clause-exchanged g c = let l = c.args.local.now in let e = c.swap_owner-free.ensures in let all = e.swapped.2 (behind l) (out l) in let home : c.args.domain.now.sizes ≡ l.place.me.0.sizes = c.args.domain.now.sized.0 ∙ sym (ap (λ (t : TableId × Sizes). t.1) c.requires.home) in
-    let made = ap (λ (z : Me _ Acting). z.0.cell_steps) all ∙ (λ j. l.place.me.0.cell_steps ++ record { word = cell_word (home j) c.args.self.now.cell; found = e.swapped.0; left = e.swapped.1 } ∷ []) in
+returns-clause-exchanged g c = let l = c.args.local.now in let e = c.swap_owner-free.ensures in let all = e.swapped.2 (behind l) (out l) in let home : c.args.domain.now.sizes ≡ l.seat.me.0.sizes = c.args.domain.now.sized.0 ∙ sym (ap (λ (t : TableId × Sizes). t.1) c.requires.home) in
+    let made = ap (λ (z : Me _ Acting). z.0.cell_steps) all ∙ (λ j. l.seat.me.0.cell_steps ++ record { word = cell_word (home j) c.args.self.now.cell; found = e.swapped.0; left = e.swapped.1 } ∷ []) in
     (e.swapped.0, (c.swap_owner-free.result.0, e.spare, e.few.0, e.swapped.3), (e.swapped.1, (l.spare, l.has_spare.1, e.few.1, e.swapped.4), made))

@@ -21,12 +21,12 @@ use Rattle.domain_table.proofs.Told.{all_there}
 use Rattle.sdd_domain.proofs.local.Local.finish.Goals as goal
 
 -- behind a scan, the parts go home, and then the guard closes
-module _ {T : Type 0} (holds : T → List (ℕ × ℕ)) (l : Local T) (m1 : Me (Home T) Acting) (s : SteadyButWaits l.place.me m1) where
+module _ {T : Type 0} (holds : T → List (ℕ × ℕ)) (l : Local T) (m1 : Me (Home T) Acting) (s : SteadyButWaits l.seat.me m1) where
   abbrev d : Acting
-  d = l.place.me.0
+  d = l.seat.me.0
 
   out : m1.1 ≡ blanks (own_spare d l.spare ∷ leased_homes m1.0 m1.0.leases)
-  out = s.12 ∙ (all_there (own_spare d l.spare ∷ leased_homes d d.leases) l.place.me.1 l.has_spare.2 ∙ ap (λ ks. blanks (own_spare d l.spare ∷ ks)) (sym (still_leased (record l.place.me.0 { waits = m1.0.waits }, l.place.me.1) m1 s)))
+  out = s.12 ∙ (all_there (own_spare d l.spare ∷ leased_homes d d.leases) l.seat.me.1 l.has_spare.2 ∙ ap (λ ks. blanks (own_spare d l.spare ∷ ks)) (sym (still_leased (record l.seat.me.0 { waits = m1.0.waits }, l.seat.me.1) m1 s)))
 
   module _ (m2 : Me (Home T) Acting) (xs : List (ℕ × Home T)) (filled : Refilled (IsIn holds) m1.0 m1.0.leases xs (blanks (own_spare d l.spare ∷ []))) (is : m2 ≡ (m1.0, xs)) where
     ready : Refilled (IsIn holds) m2.0 m2.0.leases m2.1 (blanks (own_spare d l.spare ∷ []))
@@ -36,19 +36,19 @@ module _ {T : Type 0} (holds : T → List (ℕ × ℕ)) (l : Local T) (m1 : Me (
     closed m3 e = e ∙ λ j. (ending ((is j).0), (given (IsIn holds) m2.0 m2.0.leases m2.1 (blanks (own_spare d l.spare ∷ [])) ready).1 j)
 
 pub give_home-requires-clause-out : goal.give_home-requires-clause-out
-give_home-requires-clause-out g c = let l = c.args.self.now in (own_spare l.place.me.0 l.spare, out g.T.Holds.holds l c.scan_due.new.place.me c.scan_due.ensures.seat.2)
+give_home-requires-clause-out g c = let l = c.args.self.now in (own_spare l.seat.me.0 l.spare, out g.T.Holds.holds l c.scan_due.new.seat.me c.scan_due.ensures.seat.2)
 
 pub close-requires-clause-open : goal.close-requires-clause-open
-close-requires-clause-open g c = let l = c.args.self.now in let m1 = c.scan_due.new.place.me in let o = c.scan_due.ensures.«open» in let f = c.give_home.ensures.filled (own_spare l.place.me.0 l.spare) (out g.T.Holds.holds l m1 c.scan_due.ensures.seat.2) in let is = ap (λ (z : Me _ Acting). z.0) f.2 in
+close-requires-clause-open g c = let l = c.args.self.now in let m1 = c.scan_due.new.seat.me in let o = c.scan_due.ensures.«open» in let f = c.give_home.ensures.filled (own_spare l.seat.me.0 l.spare) (out g.T.Holds.holds l m1 c.scan_due.ensures.seat.2) in let is = ap (λ (z : Me _ Acting). z.0) f.2 in
     (ap (λ (d : Acting). d.kind) is ∙ o.0, ap (λ (d : Acting). d.number) is ∙ o.1, ap (λ (d : Acting). d.known.phase) is ∙ o.2, ap (λ (d : Acting). d.known.found) is ∙ o.3, ap (λ (d : Acting). d.scan) is ∙ o.4)
 
 pub close-requires-clause-filled : goal.close-requires-clause-filled
-close-requires-clause-filled g c = let l = c.args.self.now in let d = l.place.me.0 in let m1 = c.scan_due.new.place.me in let s = c.scan_due.ensures.seat.2 in let f = c.give_home.ensures.filled (own_spare d l.spare) (out g.T.Holds.holds l m1 s) in
-    (blanks (own_spare d l.spare ∷ []), ready g.T.Holds.holds l m1 s c.give_home.new.place.me f.0 f.1 f.2)
+close-requires-clause-filled g c = let l = c.args.self.now in let d = l.seat.me.0 in let m1 = c.scan_due.new.seat.me in let s = c.scan_due.ensures.seat.2 in let f = c.give_home.ensures.filled (own_spare d l.spare) (out g.T.Holds.holds l m1 s) in
+    (blanks (own_spare d l.spare ∷ []), ready g.T.Holds.holds l m1 s c.give_home.new.seat.me f.0 f.1 f.2)
 
 pub invariant_of-self : goal.invariant_of-self
-invariant_of-self g c = let l = c.args.self.now in let d = l.place.me.0 in let m1 = c.scan_due.new.place.me in let s = c.scan_due.ensures.seat.2 in let o = c.scan_due.ensures.«open» in let f = c.give_home.ensures.filled (own_spare d l.spare) (out g.T.Holds.holds l m1 s) in
-    let m3 = c.close.new.place.me in let all = closed g.T.Holds.holds l m1 s c.give_home.new.place.me f.0 f.1 f.2 m3 c.close.ensures.closed in let is : m3.0 ≡ ending m1.0 = ap (λ (z : Me _ Acting). z.0) all in let own = c.scan_due.ensures.counted in let none : m3.0.leases ≡ [] = ap (λ (d : Acting). d.leases) is in
+invariant_of-self g c = let l = c.args.self.now in let d = l.seat.me.0 in let m1 = c.scan_due.new.seat.me in let s = c.scan_due.ensures.seat.2 in let o = c.scan_due.ensures.«open» in let f = c.give_home.ensures.filled (own_spare d l.spare) (out g.T.Holds.holds l m1 s) in
+    let m3 = c.close.new.seat.me in let all = closed g.T.Holds.holds l m1 s c.give_home.new.seat.me f.0 f.1 f.2 m3 c.close.ensures.closed in let is : m3.0 ≡ ending m1.0 = ap (λ (z : Me _ Acting). z.0) all in let own = c.scan_due.ensures.counted in let none : m3.0.leases ≡ [] = ap (λ (d : Acting). d.leases) is in
     let table = c.close.ensures.seat.0 ∙ (c.give_home.ensures.seat.0 ∙ c.scan_due.ensures.seat.0) in let sizes : m3.0.sizes ≡ d.sizes = ap (λ (d : Acting). d.sizes) is ∙ s.3 in let number : m3.0.number ≡ d.number = ap (λ (d : Acting). d.number) is ∙ s.1 in record {
       acts = (
         ap (λ (d : Acting). d.kind) is ∙ o.0,
@@ -75,10 +75,10 @@ invariant_of-self g c = let l = c.args.self.now in let d = l.place.me.0 in let m
     }
 
 pub returns-clause-same : goal.returns-clause-same
-returns-clause-same g c = let l = c.args.self.now in let d = l.place.me.0 in let m1 = c.scan_due.new.place.me in let s = c.scan_due.ensures.seat.2 in let f = c.give_home.ensures.filled (own_spare d l.spare) (out g.T.Holds.holds l m1 s) in
-    let all = closed g.T.Holds.holds l m1 s c.give_home.new.place.me f.0 f.1 f.2 c.close.new.place.me c.close.ensures.closed in let table = c.close.ensures.seat.0 ∙ (c.give_home.ensures.seat.0 ∙ c.scan_due.ensures.seat.0) in
+returns-clause-same g c = let l = c.args.self.now in let d = l.seat.me.0 in let m1 = c.scan_due.new.seat.me in let s = c.scan_due.ensures.seat.2 in let f = c.give_home.ensures.filled (own_spare d l.spare) (out g.T.Holds.holds l m1 s) in
+    let all = closed g.T.Holds.holds l m1 s c.give_home.new.seat.me f.0 f.1 f.2 c.close.new.seat.me c.close.ensures.closed in let table = c.close.ensures.seat.0 ∙ (c.give_home.ensures.seat.0 ∙ c.scan_due.ensures.seat.0) in
     (λ j. (table j, (ap (λ (z : Me _ Acting). z.0.sizes) all ∙ s.3) j), refl, ap (λ (z : Me _ Acting). map told z.0.hand) all ∙ ap (map told) s.5, refl)
 
 pub returns-clause-cells : goal.returns-clause-cells
-returns-clause-cells g c = let l = c.args.self.now in let d = l.place.me.0 in let m1 = c.scan_due.new.place.me in let s = c.scan_due.ensures.seat.2 in let f = c.give_home.ensures.filled (own_spare d l.spare) (out g.T.Holds.holds l m1 s) in
-    ap (λ (z : Me _ Acting). z.0.cell_steps) (closed g.T.Holds.holds l m1 s c.give_home.new.place.me f.0 f.1 f.2 c.close.new.place.me c.close.ensures.closed) ∙ s.13
+returns-clause-cells g c = let l = c.args.self.now in let d = l.seat.me.0 in let m1 = c.scan_due.new.seat.me in let s = c.scan_due.ensures.seat.2 in let f = c.give_home.ensures.filled (own_spare d l.spare) (out g.T.Holds.holds l m1 s) in
+    ap (λ (z : Me _ Acting). z.0.cell_steps) (closed g.T.Holds.holds l m1 s c.give_home.new.seat.me f.0 f.1 f.2 c.close.new.seat.me c.close.ensures.closed) ∙ s.13

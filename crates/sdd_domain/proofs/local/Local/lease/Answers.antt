@@ -14,7 +14,7 @@ use Rattle.domain_table.specs.declared.board.Acting.{Acting}
 use Rattle.sdd_domain.proofs.local.Local.lease.Goals as goal
 
 pub invariant_of-self : goal.invariant_of-self
-invariant_of-self g c = let l = c.args.self.now in let d = l.place.me.0 in let m = c.lease-at.new.place.me in let e = c.lease-at.ensures.loaded.1.2 in let table = c.lease-at.ensures.seat.0 in let told = c.lease-at.ensures.rows in let rows = c.lease-at.new.rows in let sizes : m.0.sizes ≡ d.sizes = ap (λ (z : Acting). z.sizes) e in
+invariant_of-self g c = let l = c.args.self.now in let d = l.seat.me.0 in let m = c.lease-at.new.seat.me in let e = c.lease-at.ensures.loaded.1.2 in let table = c.lease-at.ensures.seat.0 in let told = c.lease-at.ensures.rows in let rows = c.lease-at.new.rows in let sizes : m.0.sizes ≡ d.sizes = ap (λ (z : Acting). z.sizes) e in
     let home : d.sizes ≡ c.args.domain.now.sizes = ap (λ (t : TableId × Sizes). t.1) c.requires.home ∙ sym c.args.domain.now.sized.0 in record {
       acts = (
         ap (λ (z : Acting). z.kind) e ∙ l.acts.0,
@@ -43,11 +43,11 @@ pub returns-clause-seen : goal.returns-clause-seen
 returns-clause-seen g c = let l = c.args.self.now in (elim c.seen_at.result as (λ r. c.seen_at.result ≡ r → IfSome r (λ t. ((number_of l, t.1.life) ≡ nest_in l) × IsSome t.1.value)) [
   | None ↦ λ e. tt
   | Some t ↦ λ e. let under = subst (λ r. IfSome r (λ t. (life : ℕ) (ls : List Lease) → map row_told c.lease-at.new.rows.items ≡ map (lease_told life) ls → t.1.life ≡ life)) e c.seen_at.ensures.under in
-      ((λ j. (l.number, (under c.in-Some.life.id c.lease-at.new.place.me.0.leases c.lease-at.ensures.rows.0 ∙ sym (ap life_number c.in-Some.is)) j)), subst (λ r. IfSome r (λ t. IsSome t.1.value)) e c.seen_at.ensures.there)
+      ((λ j. (l.number, (under c.in-Some.life.id c.lease-at.new.seat.me.0.leases c.lease-at.ensures.rows.0 ∙ sym (ap life_number c.in-Some.is)) j)), subst (λ r. IfSome r (λ t. IsSome t.1.value)) e c.seen_at.ensures.there)
 ]) refl
 
 -- one step was made, on the cell
 pub returns-clause-looked : goal.returns-clause-looked
 returns-clause-looked g c = let l = c.args.self.now in let e = c.lease-at.ensures.loaded in let f = e.2 in let y : ℕ = f.0 in let k : ℕ = f.1 in let low = f.2 in let few = f.3 in let is = f.4 in let code = c.seen_at.ensures.code k f.5 in
-    let home : c.args.domain.now.sizes ≡ l.place.me.0.sizes = c.args.domain.now.sized.0 ∙ sym (ap (λ (t : TableId × Sizes). t.1) c.requires.home) in let word : e.0 ≡ packed y (tag_number c.lease-at.result.1) (code_told c.seen_at.result) = is ∙ ap (packed y (tag_number c.lease-at.result.1)) (sym code) in
-    (e.0, (y, low, few, word), ap (λ (z : Acting). z.cell_steps) e.1.2 ∙ (λ j. l.place.me.0.cell_steps ++ record { word = cell_word (home j) c.args.cell; found = e.0; left = e.0 } ∷ []))
+    let home : c.args.domain.now.sizes ≡ l.seat.me.0.sizes = c.args.domain.now.sized.0 ∙ sym (ap (λ (t : TableId × Sizes). t.1) c.requires.home) in let word : e.0 ≡ packed y (tag_number c.lease-at.result.1) (code_told c.seen_at.result) = is ∙ ap (packed y (tag_number c.lease-at.result.1)) (sym code) in
+    (e.0, (y, low, few, word), ap (λ (z : Acting). z.cell_steps) e.1.2 ∙ (λ j. l.seat.me.0.cell_steps ++ record { word = cell_word (home j) c.args.cell; found = e.0; left = e.0 } ∷ []))

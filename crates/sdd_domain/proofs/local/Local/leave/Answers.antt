@@ -17,11 +17,11 @@ use Rattle.sdd_domain.proofs.Hands.{none_held}
 use Rattle.sdd_domain.proofs.Nested.{none_leased, no_rows}
 use Rattle.sdd_domain.proofs.local.Local.leave.Goals as goal
 
-out : {T : Type 0} (l : Local T) → l.own.nesting ≡ 0 → l.place.me.1 ≡ (own_spare l.place.me.0 l.spare, Blank) ∷ []
-out l nothing = spare_out l.place.me (own_spare l.place.me.0 l.spare) (none_leased l nothing) l.has_spare.2
+out : {T : Type 0} (l : Local T) → l.own.nesting ≡ 0 → l.seat.me.1 ≡ (own_spare l.seat.me.0 l.spare, Blank) ∷ []
+out l nothing = spare_out l.seat.me (own_spare l.seat.me.0 l.spare) (none_leased l nothing) l.has_spare.2
 
 pub leave-requires-clause-table : goal.leave-requires-clause-table
-leave-requires-clause-table g c = let l = c.args.self in let d = c.args.domain.now in let same : l.place.me.0.sizes ≡ d.sizes = ap (λ (t : TableId × Sizes). t.1) c.requires.home ∙ sym d.sized.0 in
+leave-requires-clause-table g c = let l = c.args.self in let d = c.args.domain.now in let same : l.seat.me.0.sizes ≡ d.sizes = ap (λ (t : TableId × Sizes). t.1) c.requires.home ∙ sym d.sized.0 in
     (ap (λ (t : TableId × Sizes). t.0) c.requires.home ∙ sym c.words.ensures.0, ap (λ (k : Plan). k.sizes) c.words.ensures.1 ∙ sym d.sized.0, same, d.sized.1, subst (λ (t : TableId). all_words d.sizes ≤ t.words) (sym c.words.ensures.0) d.sized.2, subst (λ (z : Sizes). l.number < z.participants) same l.fills.2)
 
 pub leave-requires-clause-rests : goal.leave-requires-clause-rests
@@ -30,11 +30,11 @@ leave-requires-clause-rests g c = let l = c.args.self in let none = c.requires.c
   l.acts.1,
   l.phase ∙ ap (λ n. cond (n == 0) Idle (Opened l.own.previous)) none,
   l.acts.2,
-  (none_held l.place.me.0.hand c.requires.bare, none_leased l none, l.acts.5),
+  (none_held l.seat.me.0.hand c.requires.bare, none_leased l none, l.acts.5),
 )
 
 pub leave-requires-clause-waits : goal.leave-requires-clause-waits
-leave-requires-clause-waits g c = let l = c.args.self in let same = ap (λ (t : TableId × Sizes). t.1) c.requires.home ∙ sym c.args.domain.now.sized.0 in (subst (λ (z : Sizes). WaitsIn z.slots l.place.me.0.waits l.bags) same l.waits.0, l.waits.1)
+leave-requires-clause-waits g c = let l = c.args.self in let same = ap (λ (t : TableId × Sizes). t.1) c.requires.home ∙ sym c.args.domain.now.sized.0 in (subst (λ (z : Sizes). WaitsIn z.slots l.seat.me.0.waits l.bags) same l.waits.0, l.waits.1)
 
 pub end-requires-clause-rests : goal.end-requires-clause-rests
 end-requires-clause-rests g c = let l = c.args.self in let e = c.leave.ensures.2 in let none = c.requires.closed in (
@@ -42,14 +42,14 @@ end-requires-clause-rests g c = let l = c.args.self in let e = c.leave.ensures.2
   ap (λ (z : Me _ Acting). z.0.number) e ∙ l.acts.1,
   ap (λ (z : Me _ Acting). z.0.known.phase) e ∙ (l.phase ∙ ap (λ n. cond (n == 0) Idle (Opened l.own.previous)) none),
   ap (λ (z : Me _ Acting). z.0.known.found) e,
-  (ap (λ (z : Me _ Acting). z.0.hand) e ∙ none_held l.place.me.0.hand c.requires.bare, ap (λ (z : Me _ Acting). z.0.leases) e ∙ none_leased l none, ap (λ (z : Me _ Acting). z.0.releasing) e ∙ l.acts.5),
+  (ap (λ (z : Me _ Acting). z.0.hand) e ∙ none_held l.seat.me.0.hand c.requires.bare, ap (λ (z : Me _ Acting). z.0.leases) e ∙ none_leased l none, ap (λ (z : Me _ Acting). z.0.releasing) e ∙ l.acts.5),
 )
 
 pub end-requires-clause-spare : goal.end-requires-clause-spare
 end-requires-clause-spare g c = let l = c.args.self in let e = c.leave.ensures.2 in let spare = ap (λ (z : Me _ Acting). z.0.spare) e ∙ l.has_spare.0 in (
   spare,
   l.has_spare.1,
-  ([], (Blank, refl, ap (λ (z : Me _ Acting). z.1) e ∙ (out l c.requires.closed ∙ ap (λ (z : Me _ Acting). (own_spare z.0 l.spare, Blank) ∷ []) (sym e) ∙ λ j. (own_spare c.leave.new.place.me.0 (sym spare j), Blank) ∷ []))),
+  ([], (Blank, refl, ap (λ (z : Me _ Acting). z.1) e ∙ (out l c.requires.closed ∙ ap (λ (z : Me _ Acting). (own_spare z.0 l.spare, Blank) ∷ []) (sym e) ∙ λ j. (own_spare c.leave.new.seat.me.0 (sym spare j), Blank) ∷ []))),
 )
 
 no_items : {A : Type 0} (xs : List A) → length xs ≡ 0 → xs ≡ []
@@ -59,6 +59,6 @@ no_items (x ∷ xs) none = absurd (omega (arith, none))
 -- the ledger is empty, and has the room of the place
 pub returns : goal.returns
 returns g c = let l = c.args.self in let same = ap (λ (z : TableId × Sizes). z.1.slots) c.requires.home ∙ sym (ap (λ (z : Sizes). z.slots) c.args.domain.now.sized.0) in (
-  no_items l.rows.items (no_rows (life_number l.life) l.place.me.0.leases l.rows.items l.lends.0 (none_leased l c.requires.closed)),
+  no_items l.rows.items (no_rows (life_number l.life) l.seat.me.0.leases l.rows.items l.lends.0 (none_leased l c.requires.closed)),
   subst (λ n. n ≤ deque_capacity l.rows) same l.lends.1,
 )

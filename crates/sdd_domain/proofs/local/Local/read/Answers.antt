@@ -42,8 +42,8 @@ returns-clause-named g c = let e = c.read_cell.ensures.read in (e.3.0, e.1, (e.0
 
 -- one step was made, on the cell
 pub returns-clause-looked : goal.returns-clause-looked
-returns-clause-looked g c = let l = c.args.self.now in let w = c.read_cell.result in let home : c.words.result.now.key.sizes ≡ l.place.me.0.sizes = ap (λ (z : Plan). z.sizes) c.words.ensures.1 ∙ sym (ap (λ (t : TableId × Sizes). t.1) c.requires.home) in
-    ap (λ (z : Me _ _). z.0.cell_steps) c.read_cell.ensures.read.4 ∙ (λ j. l.place.me.0.cell_steps ++ record { word = cell_word (home j) c.args.cell; found = w; left = w } ∷ [])
+returns-clause-looked g c = let l = c.args.self.now in let w = c.read_cell.result in let home : c.words.result.now.key.sizes ≡ l.seat.me.0.sizes = ap (λ (z : Plan). z.sizes) c.words.ensures.1 ∙ sym (ap (λ (t : TableId × Sizes). t.1) c.requires.home) in
+    ap (λ (z : Me _ _). z.0.cell_steps) c.read_cell.ensures.read.4 ∙ (λ j. l.seat.me.0.cell_steps ++ record { word = cell_word (home j) c.args.cell; found = w; left = w } ∷ [])
 
 pub returns-clause-same : goal.returns-clause-same
 returns-clause-same g c = let l = c.args.self.now in let all = c.read_cell.ensures.read.4 in let table = c.read_cell.ensures.seat.0 in

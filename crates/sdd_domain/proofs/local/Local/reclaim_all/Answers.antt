@@ -22,21 +22,21 @@ use Rattle.sdd_domain.proofs.Nested.{none_leased}
 use Rattle.sdd_domain.proofs.local.Local.reclaim_all.Goals as goal
 
 -- behind a guard that was opened and closed, with nothing leased
-module _ {T : Type 0} (l : Local T) (shut : l.own.nesting ≡ 0) (m1 : Me (Home T) Acting) (e b k : ℕ) (ws : List Garbage) (is : m1 ≡ (record l.place.me.0 { known = publishing e l.place.me.0.known; born = b; slot = k; waits = ws }, l.place.me.1)) where
+module _ {T : Type 0} (l : Local T) (shut : l.own.nesting ≡ 0) (m1 : Me (Home T) Acting) (e b k : ℕ) (ws : List Garbage) (is : m1 ≡ (record l.seat.me.0 { known = publishing e l.seat.me.0.known; born = b; slot = k; waits = ws }, l.seat.me.1)) where
   abbrev d : Acting
-  d = l.place.me.0
+  d = l.seat.me.0
 
   none : m1.0.leases ≡ []
   none = ap (λ (z : Me (Home T) Acting). z.0.leases) is ∙ none_leased l shut
 
-  all : (m2 : Me (Home T) Acting) → m2 ≡ (ending m1.0, drop (length m1.0.leases) m1.1) → m2 ≡ (record l.place.me.0 { known = closing (publishing e l.place.me.0.known); born = b; slot = k; waits = ws; leases = [] }, l.place.me.1)
+  all : (m2 : Me (Home T) Acting) → m2 ≡ (ending m1.0, drop (length m1.0.leases) m1.1) → m2 ≡ (record l.seat.me.0 { known = closing (publishing e l.seat.me.0.known); born = b; slot = k; waits = ws; leases = [] }, l.seat.me.1)
   all m2 closed = closed ∙ ((λ j. (ending m1.0, drop (length (none j)) m1.1)) ∙ λ j. (ending (is j).0, (is j).1))
 
-  out : l.place.me.1 ≡ blanks (own_spare d l.spare ∷ [])
-  out = spare_out l.place.me (own_spare d l.spare) (none_leased l shut) l.has_spare.2
+  out : l.seat.me.1 ≡ blanks (own_spare d l.spare ∷ [])
+  out = spare_out l.seat.me (own_spare d l.spare) (none_leased l shut) l.has_spare.2
 
 pub open_and_reclaim-epoch-requires-clause-table : goal.open_and_reclaim-epoch-requires-clause-table
-open_and_reclaim-epoch-requires-clause-table g c = let l = c.args.self.now in let d = c.args.domain.now in let same : l.place.me.0.sizes ≡ d.sizes = ap (λ (t : TableId × Sizes). t.1) c.requires.home ∙ sym d.sized.0 in
+open_and_reclaim-epoch-requires-clause-table g c = let l = c.args.self.now in let d = c.args.domain.now in let same : l.seat.me.0.sizes ≡ d.sizes = ap (λ (t : TableId × Sizes). t.1) c.requires.home ∙ sym d.sized.0 in
     (ap (λ (t : TableId × Sizes). t.0) c.requires.home ∙ sym c.words.ensures.0, ap (λ (k : Plan). k.sizes) c.words.ensures.1 ∙ sym d.sized.0, same, d.sized.1, subst (λ (t : TableId). all_words d.sizes ≤ t.words) (sym c.words.ensures.0) d.sized.2, subst (λ (z : Sizes). l.number < z.participants) same l.fills.2)
 
 pub open_and_reclaim-epoch-requires-clause-shut : goal.open_and_reclaim-epoch-requires-clause-shut
@@ -46,18 +46,18 @@ pub open_and_reclaim-epoch-requires-clause-rest : goal.open_and_reclaim-epoch-re
 open_and_reclaim-epoch-requires-clause-rest g c = let l = c.args.self.now in (l.acts.5, none_leased l c.requires.closed, l.fills.0)
 
 pub open_and_reclaim-epoch-requires-clause-waits : goal.open_and_reclaim-epoch-requires-clause-waits
-open_and_reclaim-epoch-requires-clause-waits g c = let l = c.args.self.now in let same = ap (λ (t : TableId × Sizes). t.1) c.requires.home ∙ sym c.args.domain.now.sized.0 in (subst (λ (z : Sizes). WaitsIn z.slots l.place.me.0.waits l.bags) same l.waits.0, l.waits.1)
+open_and_reclaim-epoch-requires-clause-waits g c = let l = c.args.self.now in let same = ap (λ (t : TableId × Sizes). t.1) c.requires.home ∙ sym c.args.domain.now.sized.0 in (subst (λ (z : Sizes). WaitsIn z.slots l.seat.me.0.waits l.bags) same l.waits.0, l.waits.1)
 
 pub close-requires-clause-open : goal.close-requires-clause-open
 close-requires-clause-open g c = let l = c.args.self.now in let is = c.open_and_reclaim-epoch.ensures.reclaimed.3 in
     (ap (λ (z : Me _ Acting). z.0.kind) is ∙ l.acts.0, ap (λ (z : Me _ Acting). z.0.number) is ∙ l.acts.1, ap (λ (z : Me _ Acting). z.0.known.phase) is, ap (λ (z : Me _ Acting). z.0.known.found) is, ap (λ (z : Me _ Acting). z.0.scan) is ∙ l.acts.2)
 
 pub close-requires-clause-filled : goal.close-requires-clause-filled
-close-requires-clause-filled g c = let l = c.args.self.now in let o = c.open_and_reclaim-epoch.ensures.reclaimed in let m1 = c.open_and_reclaim-epoch.new.place.me in let empty = none l c.requires.closed m1 c.open_and_reclaim-epoch.result o.0 o.1 o.2 o.3 in
+close-requires-clause-filled g c = let l = c.args.self.now in let o = c.open_and_reclaim-epoch.ensures.reclaimed in let m1 = c.open_and_reclaim-epoch.new.seat.me in let empty = none l c.requires.closed m1 c.open_and_reclaim-epoch.result o.0 o.1 o.2 o.3 in
     (m1.1, subst (λ (ls : List Lease). Refilled (IsIn g.T.Holds.holds) m1.0 ls m1.1 m1.1) (sym empty) refl)
 
 pub invariant_of-self : goal.invariant_of-self
-invariant_of-self g c = let l = c.args.self.now in let d = l.place.me.0 in let shut = c.requires.closed in let o = c.open_and_reclaim-epoch.ensures in let r = o.reclaimed in let m1 = c.open_and_reclaim-epoch.new.place.me in let m3 = c.close.new.place.me in
+invariant_of-self g c = let l = c.args.self.now in let d = l.seat.me.0 in let shut = c.requires.closed in let o = c.open_and_reclaim-epoch.ensures in let r = o.reclaimed in let m1 = c.open_and_reclaim-epoch.new.seat.me in let m3 = c.close.new.seat.me in
     let whole = all l shut m1 c.open_and_reclaim-epoch.result r.0 r.1 r.2 r.3 m3 c.close.ensures.closed in let is = ap (λ (z : Me _ Acting). z.0) whole in let none3 : m3.0.leases ≡ [] = ap (λ (z : Acting). z.leases) is in let before = none_leased l shut in
     let table = c.close.ensures.seat.0 ∙ o.seat.0 in let sizes : m3.0.sizes ≡ d.sizes = ap (λ (z : Acting). z.sizes) is in let home : d.sizes ≡ c.args.domain.now.sizes = ap (λ (t : TableId × Sizes). t.1) c.requires.home ∙ sym c.args.domain.now.sized.0 in
     let waits : m3.0.waits ≡ m1.0.waits = ap (λ (z : Acting). z.waits) is ∙ sym (ap (λ (z : Me _ Acting). z.0.waits) r.3) in let bags = c.open_and_reclaim-epoch.new.bags in record {
@@ -90,5 +90,5 @@ invariant_of-self g c = let l = c.args.self.now in let d = l.place.me.0 in let s
 
 pub returns-clause-same : goal.returns-clause-same
 returns-clause-same g c = let l = c.args.self.now in let o = c.open_and_reclaim-epoch.ensures in let r = o.reclaimed in
-    let whole = all l c.requires.closed c.open_and_reclaim-epoch.new.place.me c.open_and_reclaim-epoch.result r.0 r.1 r.2 r.3 c.close.new.place.me c.close.ensures.closed in let table = c.close.ensures.seat.0 ∙ o.seat.0 in
+    let whole = all l c.requires.closed c.open_and_reclaim-epoch.new.seat.me c.open_and_reclaim-epoch.result r.0 r.1 r.2 r.3 c.close.new.seat.me c.close.ensures.closed in let table = c.close.ensures.seat.0 ∙ o.seat.0 in
     (λ j. (table j, (ap (λ (z : Me _ Acting). z.0.sizes) whole) j), refl, ap (λ (z : Me _ Acting). map told z.0.hand) whole, refl)

@@ -17,7 +17,7 @@ placed : {T : Type 0} (holds : T → List (ℕ × ℕ)) (q y : ℕ) (m : Me (Hom
 placed holds q y m r = r.2.2 ∙ λ j. (own_spare m.0 ((ap (λ (d : Acting). d.spare) r.1) j), r.2.1 j) ∷ []
 
 pub invariant_of-result : goal.invariant_of-result
-invariant_of-result g c = let r = c.requires.acts.0 in let m = c.args.place.me in let q : ℕ = c.args.number in let y : ℕ = c.args.spare in let is = r.1 in let t = c.requires.table in let none = ap (λ (d : Acting). d.leases) is in record {
+invariant_of-result g c = let r = c.requires.acts.0 in let m = c.args.seat.me in let q : ℕ = c.args.number in let y : ℕ = c.args.spare in let is = r.1 in let t = c.requires.table in let none = ap (λ (d : Acting). d.leases) is in record {
   acts = (ap (λ (d : Acting). d.kind) is, ap (λ (d : Acting). d.number) is, ap (λ (d : Acting). d.scan) is, t.1, t.0, ap (λ (d : Acting). d.releasing) is);
   has_spare = (ap (λ (d : Acting). d.spare) is, c.requires.acts.1, are_out m (own_spare m.0 y) [] (ap (leased_homes m.0) none) (placed g.T.Holds.holds q y m r));
   lends = (ap (map row_told) c.requires.empty.0 ∙ sym (ap (map (lease_told 0)) none), c.requires.empty.1, ap (λ (rs : List (Row _)). all_below m.0.sizes.slots (row_slots rs)) c.requires.empty.0);

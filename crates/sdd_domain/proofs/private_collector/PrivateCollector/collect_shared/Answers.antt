@@ -21,17 +21,17 @@ use Rattle.sdd_domain.proofs.Handed.{owner}
 use Rattle.sdd_domain.proofs.private_collector.PrivateCollector.collect_shared.Goals as goal
 
 pub sweep-requires-clause-rows : goal.sweep-requires-clause-rows
-sweep-requires-clause-rows g c = let l = c.args.local.now in let ws0 = bag_in c.args.self.seat.badge.views in let m1 = c.take_bag.new.place.me in let m2 = c.reread-note.new.place.me in let taken = c.take_bag.ensures.taken ws0 c.args.self.at in
-    let is = noted l c.reread-note.result ws0 m1 m2 taken c.reread-note.ensures.noted in let sizes : l.place.me.0.sizes ≡ c.args.domain.now.sizes = ap (λ (t : TableId × Sizes). t.1) c.requires.home ∙ sym c.args.domain.now.sized.0 in
+sweep-requires-clause-rows g c = let l = c.args.local.now in let ws0 = bag_in c.args.self.calm.badge.views in let m1 = c.take_bag.new.seat.me in let m2 = c.reread-note.new.seat.me in let taken = c.take_bag.ensures.taken ws0 c.args.self.at in
+    let is = noted l c.reread-note.result ws0 m1 m2 taken c.reread-note.ensures.noted in let sizes : l.seat.me.0.sizes ≡ c.args.domain.now.sizes = ap (λ (t : TableId × Sizes). t.1) c.requires.home ∙ sym c.args.domain.now.sized.0 in
     ((life_number l.life, l.lends.0 ∙ sym (ap (λ (z : Me _ Acting). map (lease_told (life_number l.life)) z.0.leases) is)), subst (λ (z : Sizes). all_below z.slots (row_slots l.rows.items) ≡ true) sizes l.lends.2)
 
 pub invariant_of-local : goal.invariant_of-local
-invariant_of-local g c = let l = c.args.local.now in let d = l.place.me.0 in let ws0 = bag_in c.args.self.seat.badge.views in let o = owner c.args.shared in let m1 = c.take_bag.new.place.me in let m2 = c.reread-note.new.place.me in let m3 = c.sweep.new.place.me in let m4 = c.take_in.new.place.me in let m5 = c.put_in-last.new.place.me in let m6 = c.part_bag-seat.new.place.me in
+invariant_of-local g c = let l = c.args.local.now in let d = l.seat.me.0 in let ws0 = bag_in c.args.self.calm.badge.views in let o = owner c.args.shared in let m1 = c.take_bag.new.seat.me in let m2 = c.reread-note.new.seat.me in let m3 = c.sweep.new.seat.me in let m4 = c.take_in.new.seat.me in let m5 = c.put_in-last.new.seat.me in let m6 = c.part_bag-calm.new.seat.me in
     let s = c.sweep.ensures.swept in let taken = c.take_bag.ensures.taken ws0 c.args.self.at in let came = c.take_in.ensures.taken o c.args.shared.owns in let p = c.put_in-last.ensures.given o m3.0.hand (ap (λ (z : Me _ Acting). z.0.hand) came) in
-    let is = all l c.reread-note.result ws0 m1 m2 taken c.reread-note.ensures.noted m3 s.0 s.1 s.2 s.3 s.4 s.5 o m4 m5 m6 came p.0 p.1 p.2 p.3 c.part_bag-seat.ensures.seat.2 in
-    let same = at_last l c.reread-note.result ws0 m1 m2 taken c.reread-note.ensures.noted m3 s.0 s.1 s.2 s.3 s.4 s.5 o m4 m5 m6 came p.0 p.1 p.2 p.3 c.part_bag-seat.ensures.seat.2 in
+    let is = all l c.reread-note.result ws0 m1 m2 taken c.reread-note.ensures.noted m3 s.0 s.1 s.2 s.3 s.4 s.5 o m4 m5 m6 came p.0 p.1 p.2 p.3 c.part_bag-calm.ensures.seat.2 in
+    let same = at_last l c.reread-note.result ws0 m1 m2 taken c.reread-note.ensures.noted m3 s.0 s.1 s.2 s.3 s.4 s.5 o m4 m5 m6 came p.0 p.1 p.2 p.3 c.part_bag-calm.ensures.seat.2 in
     let rows = c.put_in-last.new.rows in let bags = c.sweep.new.bags in let own = c.flag_waiting.ensures c.args.domain.now.sizes.slots m3.0.waits c.sweep.ensures.waits.0 in
-    let table = c.part_bag-seat.ensures.seat.0 ∙ (c.put_in-last.ensures.seat.0 ∙ (c.take_in.ensures.seat.0 ∙ (c.sweep.ensures.seat.0 ∙ (c.reread-note.ensures.seat.0 ∙ c.take_bag.ensures.seat.0)))) in record {
+    let table = c.part_bag-calm.ensures.seat.0 ∙ (c.put_in-last.ensures.seat.0 ∙ (c.take_in.ensures.seat.0 ∙ (c.sweep.ensures.seat.0 ∙ (c.reread-note.ensures.seat.0 ∙ c.take_bag.ensures.seat.0)))) in record {
       acts = (
         ap (λ (z : Me _ Acting). z.0.kind) is ∙ l.acts.0,
         ap (λ (z : Me _ Acting). z.0.number) is ∙ l.acts.1,
@@ -40,10 +40,10 @@ invariant_of-local g c = let l = c.args.local.now in let d = l.place.me.0 in let
         subst (λ (z : TableId). claim_word l.number < z.words) (sym table) l.acts.4,
         ap (λ (z : Me _ Acting). z.0.releasing) is ∙ l.acts.5,
       );
-      has_spare = (ap (λ (z : Me _ Acting). z.0.spare) is ∙ l.has_spare.0, l.has_spare.1, spare_there l c.reread-note.result ws0 m1 m2 taken c.reread-note.ensures.noted m3 s.0 s.1 s.2 s.3 s.4 s.5 o m4 m5 m6 came p.0 p.1 p.2 p.3 c.part_bag-seat.ensures.seat.2);
+      has_spare = (ap (λ (z : Me _ Acting). z.0.spare) is ∙ l.has_spare.0, l.has_spare.1, spare_there l c.reread-note.result ws0 m1 m2 taken c.reread-note.ensures.noted m3 s.0 s.1 s.2 s.3 s.4 s.5 o m4 m5 m6 came p.0 p.1 p.2 p.3 c.part_bag-calm.ensures.seat.2);
       lends = (
         c.put_in-last.ensures.rows (life_number l.life) (c.sweep.ensures.rows.0 (life_number l.life) (l.lends.0 ∙ sym (ap (λ (z : Me _ Acting). map (lease_told (life_number l.life)) z.0.leases) (noted l c.reread-note.result ws0 m1 m2 taken c.reread-note.ensures.noted)))
-            ∙ sym (ap (λ (z : Me _ Acting). map (lease_told (life_number l.life)) z.0.leases) came)) ∙ sym (ap (λ (z : Me _ Acting). map (lease_told (life_number l.life)) z.0.leases) c.part_bag-seat.ensures.seat.2),
+            ∙ sym (ap (λ (z : Me _ Acting). map (lease_told (life_number l.life)) z.0.leases) came)) ∙ sym (ap (λ (z : Me _ Acting). map (lease_told (life_number l.life)) z.0.leases) c.part_bag-calm.ensures.seat.2),
         subst (λ (z : Me _ Acting). z.0.sizes.slots ≤ deque_capacity rows) (sym is) (subst (λ n. d.sizes.slots ≤ n) (sym (c.put_in-last.ensures.same.0 ∙ c.sweep.ensures.rows.1)) l.lends.1),
         subst (λ (z : Me _ Acting). all_below z.0.sizes.slots (row_slots rows.items) ≡ true) (sym is) (ap (all_below d.sizes.slots) (c.put_in-last.ensures.same.1 ∙ c.sweep.ensures.rows.2) ∙ l.lends.2),
       );
@@ -57,18 +57,18 @@ invariant_of-local g c = let l = c.args.local.now in let d = l.place.me.0 in let
     }
 
 pub returns-clause-held : goal.returns-clause-held
-returns-clause-held g c = let ws0 = bag_in c.args.self.seat.badge.views in let m2 = c.reread-note.new.place.me in let m3 = c.sweep.new.place.me in let m4 = c.take_in.new.place.me in let m5 = c.put_in-last.new.place.me in
+returns-clause-held g c = let ws0 = bag_in c.args.self.calm.badge.views in let m2 = c.reread-note.new.seat.me in let m3 = c.sweep.new.seat.me in let m4 = c.take_in.new.seat.me in let m5 = c.put_in-last.new.seat.me in
     let taken = c.take_bag.ensures.taken ws0 c.args.self.at in let born = ap (λ (z : Me _ Acting). z.0.born) taken in let least = c.reread-note.ensures.least in let most = c.reread-note.ensures.most in
     let note = c.reread-note.result in let was : m2.0.collected ≡ ws0 = ap (λ (z : Me _ Acting). z.0.collected) (c.reread-note.ensures.noted ∙ ap (λ (z : Me _ Acting). (record z.0 { known = rereading note z.0.known }, z.1)) taken) in let old = m3.0.collected in
     let came : m4.0.collected ≡ old = ap (λ (z : Me _ Acting). z.0.collected) (c.take_in.ensures.taken (owner c.args.shared) c.args.shared.owns) in (
       note,
       map garbage_told old,
       subst (λ (ws : List Garbage). IsSwept note (map garbage_told ws) (map garbage_told old)) was (swept_told note m2.0.collected old c.sweep.ensures.left),
-      ap (λ (vs : List Acting). map garbage_told (bag_in vs)) c.part_bag-seat.ensures.bag.1 ∙ (put_told c.put_in-last.result (c.args.shared.slot, note) m4.0.collected m5.0.collected c.put_in-last.ensures.last c.put_in-last.ensures.more ∙ ap (λ (ws : List Garbage). cond c.put_in-last.result ((c.args.shared.slot, note) ∷ map garbage_told ws) (map garbage_told ws)) came),
+      ap (λ (vs : List Acting). map garbage_told (bag_in vs)) c.part_bag-calm.ensures.bag.1 ∙ (put_told c.put_in-last.result (c.args.shared.slot, note) m4.0.collected m5.0.collected c.put_in-last.ensures.last c.put_in-last.ensures.more ∙ ap (λ (ws : List Garbage). cond c.put_in-last.result ((c.args.shared.slot, note) ∷ map garbage_told ws) (map garbage_told ws)) came),
       omega arith,
       omega arith,
     )
 
 pub put_in-last-requires-clause-most : goal.put_in-last-requires-clause-most
-put_in-last-requires-clause-most g c = λ w has. let m2 = c.reread-note.new.place.me in let m3 = c.sweep.new.place.me in let came = ap (λ (z : Me _ Acting). z.0.collected) (c.take_in.ensures.taken (owner c.args.shared) c.args.shared.owns) in
+put_in-last-requires-clause-most g c = λ w has. let m2 = c.reread-note.new.seat.me in let m3 = c.sweep.new.seat.me in let came = ap (λ (z : Me _ Acting). z.0.collected) (c.take_in.ensures.taken (owner c.args.shared) c.args.shared.owns) in
     kept_most c.reread-note.result m2.0.collected m3.0.collected c.sweep.ensures.left (λ v h. c.reread-note.ensures.noted_most v (subst (λ (ws : List Garbage). Has ws v) (ap (λ (z : Me _ Acting). z.0.collected) c.reread-note.ensures.noted) h)) w (subst (λ (ws : List Garbage). Has ws w) came has)

@@ -13,16 +13,16 @@ use Rattle.sdd_domain.proofs.Handed.{owner, mine, first}
 use Rattle.sdd_domain.proofs.shared.Shared.loaded.Goals as goal
 
 -- the owner stays in hand
-pub part_with-seat-requires-clause-owner : goal.part_with-seat-requires-clause-owner
-part_with-seat-requires-clause-owner g c = let l = c.args.local.now in let s = c.args.self in
-    (owner s, l.place.me.0.hand, ap (λ (z : Acting). z.hand) c.lease_own-at.ensures.loaded.2 ∙ first l s c.take_in.new.place.me c.take_in.ensures.taken)
+pub part_with-calm-requires-clause-owner : goal.part_with-calm-requires-clause-owner
+part_with-calm-requires-clause-owner g c = let l = c.args.local.now in let s = c.args.self in
+    (owner s, l.seat.me.0.hand, ap (λ (z : Acting). z.hand) c.lease_own-at.ensures.loaded.2 ∙ first l s c.take_in.new.seat.me c.take_in.ensures.taken)
 
 pub invariant_of-local : goal.invariant_of-local
-invariant_of-local g c = let l = c.args.local.now in let d = l.place.me.0 in let s = c.args.self in let m1 = c.take_in.new.place.me in let taken = c.take_in.ensures.taken in let m = c.lease_own-at.new.place.me in let made = c.lease_own-at.ensures.loaded in let m2 = c.part_with-seat.new.place.me in
-    let back = c.part_with-seat.ensures.seat.2 in let told = c.lease_own-at.ensures.rows in let rows = c.lease_own-at.new.rows in let in_hand = mine l s m1 taken in
+invariant_of-local g c = let l = c.args.local.now in let d = l.seat.me.0 in let s = c.args.self in let m1 = c.take_in.new.seat.me in let taken = c.take_in.ensures.taken in let m = c.lease_own-at.new.seat.me in let made = c.lease_own-at.ensures.loaded in let m2 = c.part_with-calm.new.seat.me in
+    let back = c.part_with-calm.ensures.seat.2 in let told = c.lease_own-at.ensures.rows in let rows = c.lease_own-at.new.rows in let in_hand = mine l s m1 taken in
     let e : m2.0 ≡ record d { known = record d.known { loaded = made.0 }; leases = made.1 } = ap (λ (z : Me _ Acting). z.0) back
     ∙ (ap others_in made.2 ∙ ap (λ (z : Me _ Acting). others_in (record z.0 { known = record z.0.known { loaded = made.0 }; leases = made.1 })) in_hand) in
-    let table = c.part_with-seat.ensures.seat.0 ∙ (c.lease_own-at.ensures.seat.0 ∙ c.take_in.ensures.seat.0) in let sizes : m2.0.sizes ≡ d.sizes = ap (λ (z : Acting). z.sizes) e in
+    let table = c.part_with-calm.ensures.seat.0 ∙ (c.lease_own-at.ensures.seat.0 ∙ c.take_in.ensures.seat.0) in let sizes : m2.0.sizes ≡ d.sizes = ap (λ (z : Acting). z.sizes) e in
     let home : d.sizes ≡ c.args.domain.now.sizes = ap (λ (t : TableId × Sizes). t.1) c.requires.home ∙ sym c.args.domain.now.sized.0 in
     let out = c.lease_own-at.ensures.out (own_spare d l.spare) (subst (λ (z : Me _ Acting). has_all is_blank (own_spare d l.spare ∷ leased_homes z.0 z.0.leases) z.1 ≡ true) (sym in_hand) l.has_spare.2) in record {
       acts = (
@@ -54,4 +54,4 @@ invariant_of-local g c = let l = c.args.local.now in let d = l.place.me.0 in let
 
 pub returns-clause-seen : goal.returns-clause-seen
 returns-clause-seen g c = let l = c.args.local.now in
-    λ j. (l.number, (c.seen_like-seen.ensures.under c.in-Some.life.id c.lease_own-at.new.place.me.0.leases c.lease_own-at.ensures.rows.0 ∙ sym (ap life_number c.in-Some.is)) j)
+    λ j. (l.number, (c.seen_like-seen.ensures.under c.in-Some.life.id c.lease_own-at.new.seat.me.0.leases c.lease_own-at.ensures.rows.0 ∙ sym (ap life_number c.in-Some.is)) j)

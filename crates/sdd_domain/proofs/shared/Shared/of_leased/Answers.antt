@@ -13,13 +13,13 @@ use Rattle.domain_table.proofs.Rows.{same_homes, none_same}
 use Rattle.sdd_domain.proofs.shared.Shared.of_leased.Goals as goal
 
 -- the new owner is first in hand
-pub part_with-seat-requires-clause-owner : goal.part_with-seat-requires-clause-owner
-part_with-seat-requires-clause-owner g c = let made = c.in_ok-part.ensures.owned in (made.0, c.args.local.now.place.me.0.hand, ap (λ (z : Me _ Acting). z.0.hand) made.5)
+pub part_with-calm-requires-clause-owner : goal.part_with-calm-requires-clause-owner
+part_with-calm-requires-clause-owner g c = let made = c.in_ok-part.ensures.owned in (made.0, c.args.local.now.seat.me.0.hand, ap (λ (z : Me _ Acting). z.0.hand) made.5)
 
 pub invariant_of-local-2 : goal.invariant_of-local-2
-invariant_of-local-2 g c = let l = c.args.local.now in let d = l.place.me.0 in let made = c.in_ok-part.ensures.owned in let ls : List Lease = made.1 in let slots = made.4 in let rows = c.own_leased.new.rows in
-    let all : c.part_with-seat.new.place.me ≡ (record d { leases = ls }, l.place.me.1) = c.part_with-seat.ensures.seat.2 ∙ ap (λ (z : Me _ Acting). (others_in z.0, z.1)) made.5 in
-    let table = c.part_with-seat.ensures.seat.0 ∙ c.own_leased.ensures.seat.0 in record {
+invariant_of-local-2 g c = let l = c.args.local.now in let d = l.seat.me.0 in let made = c.in_ok-part.ensures.owned in let ls : List Lease = made.1 in let slots = made.4 in let rows = c.own_leased.new.rows in
+    let all : c.part_with-calm.new.seat.me ≡ (record d { leases = ls }, l.seat.me.1) = c.part_with-calm.ensures.seat.2 ∙ ap (λ (z : Me _ Acting). (others_in z.0, z.1)) made.5 in
+    let table = c.part_with-calm.ensures.seat.0 ∙ c.own_leased.ensures.seat.0 in record {
       acts = (
         ap (λ (z : Me _ Acting). z.0.kind) all ∙ l.acts.0,
         ap (λ (z : Me _ Acting). z.0.number) all ∙ l.acts.1,
@@ -32,7 +32,7 @@ invariant_of-local-2 g c = let l = c.args.local.now in let d = l.place.me.0 in l
         ap (λ (z : Me _ Acting). z.0.spare) all ∙ l.has_spare.0,
         l.has_spare.1,
         subst (λ (z : Me _ Acting). has_all is_blank (own_spare z.0 l.spare ∷ leased_homes z.0 z.0.leases) z.1 ≡ true) (sym all)
-            (ap (λ ks. has_all is_blank (own_spare d l.spare ∷ ks) l.place.me.1) (same_homes d ls d.leases slots) ∙ l.has_spare.2),
+            (ap (λ ks. has_all is_blank (own_spare d l.spare ∷ ks) l.seat.me.1) (same_homes d ls d.leases slots) ∙ l.has_spare.2),
       );
       lends = (
         c.in_ok-part.ensures.rows (life_number l.life) l.lends.0 ∙ (ap (λ (z : Me _ Acting). map (lease_told (life_number l.life)) z.0.leases) made.5 ∙ sym (ap (λ (z : Me _ Acting). map (lease_told (life_number l.life)) z.0.leases) all)),

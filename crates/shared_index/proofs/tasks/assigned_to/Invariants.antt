@@ -1,5 +1,5 @@
 use Rattle.std.specs.Prelude.{◌≡◌, ◌≤◌, ◌+◌, length, vec_capacity}
-use Rattle.shared_index.proofs.tasks.seated.Given as goal
+use Rattle.shared_index.proofs.tasks.assigned_to.Given as goal
 
 abbrev pub invariant-loop-task : goal.invariant-loop-task
 invariant-loop-task g l = record {
