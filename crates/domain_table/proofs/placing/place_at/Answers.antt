@@ -48,8 +48,8 @@ fill_homes-requires-clause-filling g c = let m = c.args.seat.now.me in let own :
     let is = stored g.H.Holding.holds c.args.slot own own m c.exchange.new.seat.me c.exchange-2.new.seat.me c.exchange.result c.exchange-2.result Blank (Deed c.store-deed.result.0) q e.2 e.3 e'.2 e'.3 in
     (claimed_by m.0, ap (λ (z : Me _ Acting). z.0.filling) is ∙ q.0, refl, ap (λ (z : Sizes). z.participants) c.requires.table.2, refl)
 
-pub seat-requires-clause-filled : goal.seat-requires-clause-filled
-seat-requires-clause-filled g c = let m = c.args.seat.now.me in let own : ℕ = c.args.sizes.now.participants * c.args.sizes.now.slots + c.args.slot in let e = c.exchange.ensures in let e' = c.exchange-2.ensures in let q = c.requires.claimed in let x = c.fill_homes.ensures.filled in let d = c.store-deed in (
+pub place-requires-clause-filled : goal.place-requires-clause-filled
+place-requires-clause-filled g c = let m = c.args.seat.now.me in let own : ℕ = c.args.sizes.now.participants * c.args.sizes.now.slots + c.args.slot in let e = c.exchange.ensures in let e' = c.exchange-2.ensures in let q = c.requires.claimed in let x = c.fill_homes.ensures.filled in let d = c.store-deed in (
   x.0,
   rest m.1,
   can g.H.Holding.holds c.args.slot own own m c.exchange.new.seat.me c.exchange-2.new.seat.me c.exchange.result c.exchange-2.result Blank (Deed d.result.0) q e.2 e.3 e'.2 e'.3 c.fill_homes.new.seat.me x.0 x.5
