@@ -94,8 +94,8 @@ impl<T> AtomicRaw<T> {
     }
 
     /// Writes what `f` answers to the pointer that is found, and gives that, in one step. Where `f` answers none, the pointer
-    /// that it was asked of is refused; so is the last one that was found, after `2^64` tries at each of which others were
-    /// faster.
+    /// that it was asked of is refused; so is the last one that was found, after `2^64 - 1` tries at each of which others
+    /// were faster.
     pub fn fetch_update<F: Fn(RawPtr<T>) -> Option<RawPtr<T>>>(
         &self,
         f: F,
