@@ -3,6 +3,7 @@ pub mod CellSteps
 pub mod Collected
 pub mod Handed
 pub mod Hands
+pub mod Leased
 pub mod Missed
 pub mod Nested
 pub mod Values

@@ -1,11 +1,14 @@
 -- what places, participants and guards show to clauses
-use Rattle.std.specs.Prelude.{◌≡◌, Bool, false, ℕ, ◌-◌, ◌==◌, List, length, map, cond}
+use Rattle.std.specs.Prelude.{◌≡◌, Bool, false, ℕ, ◌-◌, ◌==◌, IsSomeAnd, List, length, map, cond}
+use Rattle.std.specs.Mem.{manually_drop_value}
 use Rattle.atomic_table.specs.Seated.{TableId}
 use Rattle.sdd_plain.specs.declared.sizes.Sizes.{Sizes}
 use Rattle.sdd_plain.specs.declared.local_state.LocalState.{LocalState}
 use Rattle.sdd_plain.specs.Locals.{closings_after, scans}
 use Rattle.domain_table.specs.Owners.{told}
-use Rattle.domain_table.specs.Leases.{life_number}
+use Rattle.sdd_steps.specs.State.{Has}
+use Rattle.domain_table.specs.Leases.{life_number, row_slots}
+use Rattle.domain_table.specs.declared.row.Row.{Row}
 use Rattle.sdd_domain.specs.declared.domain.Domain.{Domain}
 use Rattle.sdd_domain.specs.declared.local.Local.{Local}
 use Rattle.sdd_domain.specs.declared.guard.Guard.{Guard}
@@ -65,6 +68,14 @@ nest_of g = (g.participant, g.life.id)
 
 abbrev pub nest_in : {T : Type 0} → Local T → ℕ × ℕ
 nest_in l = (l.number, life_number l.life)
+
+-- the participant has leased an item in this slot
+abbrev pub HasLeasedSlot : {T : Type 0} → Local T → ℕ → Type 0
+HasLeasedSlot l k = Has (row_slots l.rows.items) k
+
+-- and one that it has leased there has this value
+abbrev pub HasLeasedItem : {T : Type 0} → Local T → ℕ → T → Type 0
+HasLeasedItem {T} l k x = (r : Row T) × Has l.rows.items r × (r.slot ≡ k) × IsSomeAnd r.lent.seen.value (λ m. manually_drop_value m ≡ x)
 
 -- the same participant of the same place, with the same owners in hand and as many misses
 abbrev pub IsSame : {T : Type 0} → Local T → Local T → Type 0

@@ -1,16 +1,18 @@
 //! One participant of a place, as the thread that acts for it has it.
 
-ghost use Rattle.std.specs.Prelude.{◌≡◌, ℕ, ◌+◌, ◌-◌, ◌*◌, ◌^◌, ◌<◌, ◌≤◌, ◌==◌, ◌&&◌, true, List, [], ◌∷◌, length, cond, map, nat_lt, None, IfSome, IsSome};
+ghost use Rattle.std.specs.Prelude.{◌≡◌, ℕ, ◌+◌, ◌-◌, ◌*◌, ◌^◌, ◌<◌, ◌≤◌, ◌==◌, ◌&&◌, true, List, [], ◌∷◌, length, cond, map, nat_lt, None, IfSome, IfNone, IsSome};
 ghost use Rattle.std.specs.Option.{ForNone, ForSome};
 ghost use Rattle.std.specs.VecDeque.{deque_capacity};
 ghost use Rattle.sdd_plain.specs.Locals.{no_local};
 ghost use Rattle.sdd_steps.specs.declared.participant.Phase.TheVariants.{Idle, Opened};
+ghost use Rattle.sdd_steps.specs.State.{Has};
 ghost use Rattle.sdd_homes.specs.declared.Garbage.{Garbage};
 ghost use Rattle.domain_table.specs.Ledgers.{WaitsIn};
 ghost use Rattle.domain_table.specs.Fitting.{FitsSizes, HasEpochs};
 ghost use Rattle.domain_table.specs.Contents.{IsIn, is_blank};
 ghost use Rattle.domain_table.specs.Views.{spent, rotated, older_waits};
 ghost use Rattle.domain_table.specs.Leases.{IsAtRest, life_number, row_told, lease_told, leased_homes, row_slots, all_below, has_all};
+ghost use Rattle.domain_table.specs.declared.row.Row.{Row};
 ghost use Rattle.domain_table.specs.Plays.{own_spare, HasRegistered, Scans, Steady};
 ghost use Rattle.domain_table.specs.Layout.{claim_word};
 
@@ -144,9 +146,22 @@ pub(crate) fn turn<T: Holds>(
     own.previous = epoch;
 }
 
+/// What the item of the row of `slot` is seen as, if there is such a row.
+fn seen_of<T>(rows: &VecDeque<Row<T>>, slot: usize) -> Option<Seen<Stored<T>>>
+    ensures row { IfSome result (λ s. (r : Row T) × Has rows.now.items r × (r.slot ≡ slot) × (s.value ≡ r.lent.seen.value) × (s.life ≡ r.lent.pledge.until)) }
+    ensures free { IfNone result (¬ Has (row_slots rows.now.items) slot) }
+{
+    for at in 0..rows.len() {
+        if rows[at].slot == slot {
+            return Some(rows[at].lent.see());
+        }
+    }
+    None
+}
+
 impl<T: Holds> Local<T> {
     ghost use Rattle.domain_table.specs.Ledgers.{IsEmpty};
-    ghost use Rattle.sdd_domain.specs.Tokens.{cell_count, place_of, home_of, number_of, own_of, hand_of, born_of, begun, closed, waiting_of, nest_in, IsSame, IsInNest};
+    ghost use Rattle.sdd_domain.specs.Tokens.{cell_count, place_of, home_of, number_of, own_of, hand_of, born_of, begun, closed, waiting_of, nest_in, HasLeasedSlot, IsSame, IsInNest};
     ghost use Rattle.sdd_domain.specs.CellSteps.{HasMade, HasReadCell, StepsOnNoCell, step_on};
     ghost use Rattle.domain_table.specs.Layout.{NamesWith};
     ghost use Rattle.sdd_plain.specs.Epochs.{tag_number};
@@ -312,6 +327,15 @@ impl<T: Holds> Local<T> {
             cell,
         );
         (seen_at(rows, at), tag)
+    }
+
+    /// What the item that is leased in `slot` is seen as under the nest of guards. None if and only if none is leased there.
+    pub(crate) fn seen_in(&self, slot: usize) -> Option<Seen<Stored<T>>>
+        ensures nest { IfSome result (λ s. (number_of self.now, s.life) ≡ nest_in self.now) }
+        ensures item { IfSome result (λ s. (r : Row T) × Has self.now.rows.items r × (r.slot ≡ slot) × (s.value ≡ r.lent.seen.value)) }
+        ensures free { IfNone result (¬ HasLeasedSlot self.now slot) }
+    {
+        seen_of(&self.rows, slot)
     }
 
     /// Closes an outermost guard, after a scan if one is due, and ends its life: all that was leased goes home.

@@ -1,6 +1,6 @@
 //! Pointers to items that a cell was found to name.
 
-ghost use Rattle.std.specs.Prelude.{◌≡◌, IsSome, IsTrue, IfSome, None, Some, option_copied, ◌↔◌};
+ghost use Rattle.std.specs.Prelude.{◌≡◌, ℕ, IsSome, IsNone, IsTrue, IfSome, None, Some, option_copied, ◌↔◌};
 ghost use Rattle.std.specs.Option.{ForSome};
 
 use crate::domain::Domain;
@@ -139,11 +139,12 @@ impl<'g, T> Ptr<'g, T> {
 }
 
 impl<'g, T: Holds> Ptr<'g, T> {
+    ghost use Rattle.sdd_domain.specs.declared.guard.Guard.{Guard};
     ghost use Rattle.sdd_domain.specs.Comparing.{owner_slot};
-    ghost use Rattle.sdd_domain.specs.Pointers.{ptr_slot};
+    ghost use Rattle.sdd_domain.specs.Pointers.{ptr_slot, loaded_slot, IsUnder, IsLoadedOf};
     ghost use Rattle.sdd_domain.specs.Sharing.{kept_in};
     ghost use Rattle.sdd_domain.specs.CellSteps.{StepsOnNoCell};
-    ghost use Rattle.sdd_domain.specs.Tokens.{place_of, home_of, own_of, born_of, waiting_of, IsInNest};
+    ghost use Rattle.sdd_domain.specs.Tokens.{place_of, home_of, own_of, born_of, waiting_of, nest_of, nest_in, HasLeasedSlot, HasLeasedItem, IsInNest};
 
     /// One more owner of the item, beside those that it has: so it is kept for longer than the guard is open under which it
     /// was loaded. None where the pointer is to nothing, where the item is retired or has `2^32 - 1` owners, and where the
@@ -157,6 +158,28 @@ impl<'g, T: Holds> Ptr<'g, T> {
         ensures cells { StepsOnNoCell local.old local.new }
     {
         Shared::of_leased(domain, self.slot?, local)
+    }
+
+    /// What it is to, without a tag and without a borrow of the guard: a structure may keep it beside that guard. The `Local`
+    /// is the one that loaded the pointer. None if and only if the pointer is to an item and the participant has leased none
+    /// in its slot.
+    pub fn loaded(self, local: &Local<T>) -> Option<Loaded<T>>
+        ensures slot { IfSome result (λ l. loaded_slot l ≡ ptr_slot self.entry) }
+        ensures item { IfSome result (λ l. (k : ℕ) → ptr_slot self.entry ≡ Some k → (x : T) × IsLoadedOf l x × HasLeasedItem local.now k x) }
+        ensures under { IfSome result (λ l. (guard : Guard) → nest_of guard ≡ nest_in local.now → IsUnder l guard) }
+        ensures none { IsNone result ↔ ((k : ℕ) × (ptr_slot self.entry ≡ Some k) × (¬ HasLeasedSlot local.now k)) }
+    {
+        let Some(slot) = self.slot else {
+            return Some(Loaded {
+                slot: 0,
+                seen: None,
+            });
+        };
+        let seen = local.seen_in(slot)?;
+        Some(Loaded {
+            slot,
+            seen: Some(seen),
+        })
     }
 }
 
