@@ -12,7 +12,9 @@ use crate::steps::Act::{
 };
 use crate::steps::Found::{Is, No, Nothing, Tagged, Yes};
 use crate::steps::Part::{Apart, Crowd, Under};
-use crate::steps::View::{Beside, Do, Exchange, Forget, IsSame, Item, Load, LoadWithin};
+use crate::steps::View::{
+    Beside, Do, Exchange, Forget, IsSame, Item, Load, LoadWithin, Relabel, Reload, ReloadBeside,
+};
 use crate::steps::{Found, Table, Task, View};
 use sdd_domain::atomic_shared::AtomicShared;
 use sdd_domain::domain::Domain;
@@ -86,6 +88,36 @@ pub(crate) const READ_UNDER_A_GUARD: Table = Table {
             (Item, Is(7)),
             (Load, Is(8)),
             (IsSame, Yes),
+        ]),
+        Apart(&[(Retire, Yes)]),
+    ],
+};
+
+/// What a pointer is to is had without the pointer's borrow, whichever item was loaded last. A participant that has loaded
+/// nothing has only what a pointer to nothing is to.
+pub(crate) const LOADED_BY_POINTERS: Table = Table {
+    participants: 2,
+    slots: 3,
+    cells: 4,
+    first: 0,
+    parts: &[
+        Apart(&[(Join, Is(1)), (Place(7), Nothing), (Own, Yes)]),
+        Under(&[
+            (Forget, Nothing),
+            (Reload, Nothing),
+            (ReloadBeside, Yes),
+            (Load, Is(7)),
+            (Reload, Is(7)),
+            (ReloadBeside, No),
+            (Beside(Place(8)), Nothing),
+            (Beside(Swap(Tag::None)), Tagged(Tag::None)),
+            (Beside(Release), Yes),
+            (IsSame, No),
+            (Reload, Is(7)),
+            (Relabel(Tag::Both), Is(7)),
+            (Reload, Is(7)),
+            (Load, Is(8)),
+            (Reload, Is(8)),
         ]),
         Apart(&[(Retire, Yes)]),
     ],

@@ -173,6 +173,7 @@ const TABLES: &[Table] = &[
     owners::CLONED_UNDER_A_GUARD,
     cells::SWAPPED,
     cells::READ_UNDER_A_GUARD,
+    cells::LOADED_BY_POINTERS,
     cells::RELEASED_UNDER_A_GUARD,
     cells::LOADED_WITHIN,
     cells::RETIRED,

@@ -17,6 +17,7 @@ use sdd_domain::atomic_shared::AtomicShared;
 use sdd_domain::domain::Domain;
 use sdd_domain::guard::Guard;
 use sdd_domain::local::Local;
+use sdd_domain::pointer::Ptr;
 use sdd_domain::private_collector::PrivateCollector;
 use sdd_domain::refusal::RegisterRefused;
 use sdd_domain::shared::Shared;
@@ -389,6 +390,14 @@ impl<'d> Stage<'d> {
         let other = mem::replace(&mut self.here, own);
         self.put_beside(resting(self.domain, other));
         found
+    }
+
+    /// Whether the participant beside gives what a pointer is to, without the pointer's borrow.
+    pub(crate) fn reloads_beside(&self, pointer: Ptr<u64>) -> Found {
+        match &self.there {
+            Some(local) => told(pointer.loaded(local).is_some()),
+            None => Found::Nothing,
+        }
     }
 
     /// Ends the participant that acts, and registers one in its place. In between threads are at work.

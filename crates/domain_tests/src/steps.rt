@@ -128,6 +128,11 @@ pub(crate) enum View {
     IsNull,
     /// Loads the cell under one more guard within this one, which is closed: the item as it is read after that.
     LoadWithin,
+    /// The pointer's item, as it is read of what the pointer gives without its borrow: no where that gives nothing, or is
+    /// another pointer.
+    Reload,
+    /// Whether the participant beside gives as much of the pointer.
+    ReloadBeside,
     /// Makes the pointer one to nothing.
     Forget,
     /// The pointer's item.

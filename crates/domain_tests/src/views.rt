@@ -1,7 +1,7 @@
 //! What a participant does under a guard.
 
 ghost use Rattle.std.specs.Prelude.{◌≡◌, ◌<◌};
-ghost use Rattle.sdd_domain.specs.Tokens.{own_of};
+ghost use Rattle.sdd_domain.specs.Tokens.{own_of, nest_of, nest_in};
 ghost use Rattle.domain_tests.specs.Steps.{IsHome, Stays, IsOpen};
 
 use crate::hands::{self, item, told};
@@ -49,6 +49,20 @@ fn pointed(seen: Seen<'_>, step: View) -> Found {
         View::IsSameUntagged => told(is_same_untagged(pointer)),
         _ => Found::No,
     }
+}
+
+/// What a pointer's item is without the pointer's borrow.
+fn reloaded(local: &Local<u64>, guard: &Guard, pointer: Ptr<u64>) -> Found
+    requires open { nest_of guard.now ≡ nest_in local.now }
+{
+    let Some(loaded) = pointer.loaded(local) else {
+        return Found::No;
+    };
+    let again = loaded.under(guard);
+    if again != pointer.without_tag() {
+        return Found::No;
+    }
+    item(again.as_ref())
 }
 
 /// Whether a pointer with another tag is equal to it where both have none.
@@ -247,6 +261,8 @@ impl<'d> Stage<'d> {
                 return (Seen { pointer, item }, hands::item(item));
             }
             View::LoadWithin => self.load_within(guard),
+            View::Reload => reloaded(&self.here, guard, pointer),
+            View::ReloadBeside => self.reloads_beside(pointer),
             View::IsSame => told(pointer == self.load(guard)),
             View::Exchange(_) | View::ExchangeWeak(_) => self.exchanging(guard, pointer, step),
             View::Retag(before, after) => self.retag(guard, before, after),
