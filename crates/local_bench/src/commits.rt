@@ -68,7 +68,7 @@ fn commit_each<const S: usize>(
 }
 
 /// One write.
-fn one(alloc: Global, write: Write<u64, u64>) -> Vec<Write<u64, u64>> {
+pub(crate) fn one(alloc: Global, write: Write<u64, u64>) -> Vec<Write<u64, u64>> {
     let mut writes = Vec::new(alloc);
     let _ = writes.push(write);
     writes

@@ -10,10 +10,12 @@ ghost use Rattle.std.specs.Prelude.{◌≡◌, ◌≤◌};
 ghost use Rattle.local_index.specs.State.{HasNoSession};
 
 mod commits;
+mod endings;
 mod reads;
 mod task;
 
 use crate::commits::{build, commit_task};
+use crate::endings::{Ending, begun, commit_each, ending_of, slots_of};
 use crate::reads::read_task;
 use crate::task::task_of;
 use local_index::LocalIndex;
@@ -56,6 +58,49 @@ pub extern "C" fn local_bench_225(
     slots: usize,
 ) -> u64 {
     run::<225>(alloc, keys, probes, task, rounds, slots)
+}
+
+/// Makes commits of one upsert on an index of at most 64 pairs in a segment, one for each probe in each round, and tells how
+/// many ended as wanted. It begins with the keys, which must rise. The number of an ending is that of [`ending_of`].
+#[unsafe(no_mangle)]
+pub extern "C" fn local_bench_endings(
+    alloc: Global,
+    keys: &[u64],
+    probes: &[u64],
+    ending: u32,
+    rounds: u32,
+) -> u64 {
+    let ending = ending_of(ending);
+    // a first one tells how many slots the list takes
+    let Some(first) = begun::<64>(alloc, keys, keys.len().saturating_add(2)) else {
+        return 0;
+    };
+    let slots = slots_of(ending, first.slots_in_use());
+    end::<64>(first);
+    let Some(mut index) = begun::<64>(alloc, keys, slots) else {
+        return 0;
+    };
+    let count = count_endings(&mut index, alloc, probes, ending, rounds);
+    end::<64>(index);
+    count
+}
+
+/// How many commits end as wanted in some rounds.
+fn count_endings(
+    index: &mut LocalIndex<u64, u64, 64>,
+    alloc: Global,
+    probes: &[u64],
+    ending: Ending,
+    rounds: u32,
+) -> u64
+    ensures { index.new.places ≡ index.old.places }
+{
+    let mut count = 0u64;
+    for _round in 0..rounds {
+        let more = commit_each::<64>(index, alloc, probes, ending);
+        count = count.saturating_add(more);
+    }
+    count
 }
 
 /// Builds an index of the keys, runs a task some rounds, and ends the index.
