@@ -6,6 +6,7 @@ mod boundary;
 mod calls;
 mod cut;
 mod edit;
+mod extend;
 mod iter;
 mod plain;
 mod range;

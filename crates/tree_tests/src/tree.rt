@@ -14,6 +14,7 @@ mod node;
 mod push;
 mod refusals;
 mod removal;
+mod runs;
 mod shrink;
 mod tables;
 mod text;

@@ -2,13 +2,15 @@
 //! wherever it stands, so tests call these functions.
 
 ghost use Rattle.std.specs.Prelude.{◌≡◌, ◌++◌, ◌∷◌, [], IfOk, OnErr, OnOk};
+ghost use Rattle.std.specs.Bool.{OnFalse};
 ghost use Rattle.std.specs.Ordering.{nat_cmp};
+ghost use Rattle.tree_index.specs.Cursor.{unread};
 ghost use Rattle.tree_index.specs.Depth.{IsAbove};
 
 use super::Tree;
 use super::calls::{Seen, read};
 use std::alloc::{AllocError, Global};
-use tree_index::TreeIndex;
+use tree_index::{Iter, TreeIndex};
 
 /// A tree without pairs.
 pub(super) fn empty(alloc: Global) -> Tree
@@ -72,6 +74,25 @@ pub(super) fn push(tree: &mut Tree, key: u64, val: u64) -> Result<(), (u64, u64)
     ensures refused { OnErr result (tree.new ≡ tree.old) }
 {
     tree.push_last(key, val)
+}
+
+/// A cursor at the first pair of a tree.
+pub(super) fn started<'t>(tree: &'t Tree) -> Iter<'t, u64, u64>
+    ensures { unread result ≡ tree.now.pairs }
+{
+    let mut cursor = tree.iter();
+    let _first = cursor.next();
+    cursor
+}
+
+/// Puts clones of all pairs of another tree, along a cursor at its first one, into an empty one, and tells whether it did.
+pub(super) fn push_run(tree: &mut Tree, cursor: &mut Iter<'_, u64, u64>, source: &Tree) -> bool
+    requires empty { tree.old.pairs ≡ [] }
+    requires first { unread cursor.old ≡ source.now.pairs }
+    ensures refused { OnFalse result (tree.new.pairs ≡ []) }
+    ensures still { OnFalse result (cursor.new ≡ cursor.old) }
+{
+    tree.push_run(cursor, source.len()).is_ok()
 }
 
 /// Removes a key, and tells whether it was there.
