@@ -15,6 +15,8 @@ mod errors;
 #[cfg(test)]
 mod from_base;
 #[cfg(test)]
+mod history;
+#[cfg(test)]
 mod hostile;
 #[cfg(test)]
 mod large;

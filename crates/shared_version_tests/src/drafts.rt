@@ -2,6 +2,7 @@
 
 use sdd_domain::holds::Holds;
 use shared_versions::{Draft, Node, Version, build};
+use std::alloc::{AllocError, Global};
 use std::ops::Bound;
 use std::process::Abort;
 use std::test::Fail;
@@ -37,21 +38,41 @@ const WRITES: [(Write<u64, u64>, Reply); 15] = [
     ),
 ];
 
-#[test]
-fn writes_of_the_empty_version_are_drafted(rt: HostRuntime) -> Result<(), Fail> {
-    let mut writes = Vec::new(rt.alloc());
-    let mut wanted = Vec::new(rt.alloc());
+/// What the writes make of the empty version: whether that has a key, how many slots the draft takes, and whether each write is
+/// told what it should be.
+fn drafted(alloc: Global) -> Result<(bool, usize, bool), AllocError> {
+    let mut writes = Vec::new(alloc);
+    let mut wanted = Vec::new(alloc);
     for (write, reply) in WRITES {
         writes.push(write)?;
         wanted.push(reply)?;
     }
-    let old = Version::<u64, u64>::empty(rt.alloc(), 4);
+    let old = Version::<u64, u64>::empty(alloc, 4);
     let there = old.contains(&3);
-    let built = build::<u64, u64, 4>(rt.alloc(), &old, &writes);
+    let built = build::<u64, u64, 4>(alloc, &old, &writes);
     Node::Version(old).end();
     let (draft, replies) = built?;
-    // nine pairs in three segments, and the version
-    assert_eq!(rt; (there, draft.slots()), (false, 4));
-    assert_eq!(rt; replies, wanted);
-    Ok(())
+    Ok((there, draft.slots(), replies == wanted))
+}
+
+// nine pairs in three segments, and the version
+const EXPECTED: (bool, usize, bool) = (false, 4, true);
+
+/// Whether memory was refused while a draft was made, and whether it was as wanted, by a second try then.
+fn drafted_again(alloc: Global) -> (bool, bool) {
+    match drafted(alloc) {
+        Ok(found) => (false, found == EXPECTED),
+        Err(AllocError) => (true, drafted(alloc) == Ok(EXPECTED)),
+    }
+}
+
+// Any one allocation may be refused: a script has each refused in turn.
+#[test]
+fn a_refusal_of_memory_makes_no_draft(rt: HostRuntime) {
+    assert!(rt; drafted_again(rt.alloc()).1);
+}
+
+#[test]
+fn no_memory_is_refused_to_a_draft(rt: HostRuntime) {
+    assert!(rt; drafted_again(rt.alloc()) == (false, true));
 }

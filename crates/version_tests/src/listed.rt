@@ -1,13 +1,16 @@
 //! Lists cut into segments.
 
-ghost use Rattle.std.specs.Prelude.{◌≤◌, IsTrue};
+ghost use Rattle.std.specs.Prelude.{◌≡◌, ◌≤◌, [], IsTrue, length};
+ghost use Rattle.std.specs.Bool.{OnFalse};
 ghost use Rattle.std.specs.Ordering.{nat_cmp};
 ghost use Rattle.leaf_array.specs.Pairs.{IsAscending};
+ghost use Rattle.tree_index.specs.Cursor.{unread};
 
+use local_versions::build_list;
 use local_versions::draft::{Part, listed, rising_until};
 use std::alloc::{AllocError, Global};
 use std::test::Fail;
-use tree_index::TreeIndex;
+use tree_index::{Iter, TreeIndex};
 use version_views::Segment;
 
 const FIVE: &[(u64, u64)] = &[(1, 10), (2, 20), (3, 30), (4, 40), (5, 50)];
@@ -103,6 +106,15 @@ fn a_list_is_cut_into_full_segments_and_what_is_left(rt: HostRuntime) -> Result<
     Ok(())
 }
 
+// How many slots the version of five pairs takes.
+fn slots(alloc: Global) -> Result<usize, AllocError> {
+    if !rise(FIVE) {
+        return Ok(0);
+    }
+    let built = build_list::<u64, u64, 2>(alloc, FIVE)?;
+    Ok(built.slots())
+}
+
 // How many pairs a segment with room for three has, and one that is copied from a tree of five.
 fn segments(alloc: Global) -> Result<(usize, usize), AllocError> {
     let mut tree: TreeIndex<u64, u64> = TreeIndex::new(alloc);
@@ -117,6 +129,74 @@ fn segments(alloc: Global) -> Result<(usize, usize), AllocError> {
     let empty: Segment<u64, u64> = Segment::with_capacity(alloc, 3)?;
     let copy = Segment::copied(alloc, &tree)?;
     Ok((empty.tree().len(), copy.tree().len()))
+}
+
+// A tree of the numbers from 1 up to one, each its own value.
+fn tree_up_to(alloc: Global, count: u64) -> Result<TreeIndex<u64, u64>, AllocError> {
+    let mut tree = TreeIndex::new(alloc);
+    for number in 1..=count {
+        if tree.upsert_sync(number, number).is_err() {
+            return Err(AllocError);
+        }
+    }
+    Ok(tree)
+}
+
+// A cursor at the first pair of a tree.
+fn started<'t>(tree: &'t TreeIndex<u64, u64>) -> Iter<'t, u64, u64>
+    ensures { unread result ≡ tree.now.pairs }
+{
+    let mut cursor = tree.iter();
+    let _first = cursor.next();
+    cursor
+}
+
+// Puts clones of all pairs of a tree, along a cursor at its first one, into an empty segment, and tells whether it did.
+fn push_run(
+    segment: &mut Segment<u64, u64>,
+    cursor: &mut Iter<'_, u64, u64>,
+    tree: &TreeIndex<u64, u64>,
+) -> bool
+    requires few { length tree.now.pairs ≤ 225 }
+    requires empty { segment.old.pairs ≡ [] }
+    requires first { unread cursor.old ≡ tree.now.pairs }
+    ensures refused { OnFalse result (segment.new.pairs ≡ []) }
+    ensures still { OnFalse result (cursor.new ≡ cursor.old) }
+{
+    segment.push_run(cursor, tree.len()).is_ok()
+}
+
+// Whether memory was refused to an empty segment that takes the pairs of a tree as a run, and whether it has them then: where
+// it was refused, no pair was left in it, the cursor stood at the first one, and a second try took all.
+fn runs(alloc: Global) -> Result<(bool, bool), AllocError> {
+    let tree = tree_up_to(alloc, 100)?;
+    if tree.len() > 225 {
+        return Ok((false, false));
+    }
+    let mut segment: Segment<u64, u64> = Segment::with_capacity(alloc, 1)?;
+    let mut cursor = started(&tree);
+    if push_run(&mut segment, &mut cursor, &tree) {
+        return Ok((false, cursor.get().is_none() && segment.len() == 100));
+    }
+    let left = segment.is_empty() && cursor.get().map(|pair| *pair.0) == Some(1);
+    let again = push_run(&mut segment, &mut cursor, &tree);
+    Ok((true, left && again && segment.len() == 100))
+}
+
+// Whether memory was refused while a version was built of a list, and whether it takes four slots, by a second try then.
+fn builds_again(alloc: Global) -> (bool, bool) {
+    match slots(alloc) {
+        Ok(found) => (false, found == 4),
+        Err(AllocError) => (true, slots(alloc) == Ok(4)),
+    }
+}
+
+// The same as `runs`, again where memory was refused to the tree or to the room of the segment.
+fn runs_again(alloc: Global) -> (bool, bool) {
+    match runs(alloc) {
+        Ok(found) => found,
+        Err(AllocError) => (true, runs(alloc) == Ok((false, true))),
+    }
 }
 
 // Whether memory was refused while a list was cut and segments were made, and whether they were as wanted, by a second try
@@ -144,4 +224,24 @@ fn a_refusal_of_memory_cuts_no_list(rt: HostRuntime) {
 #[test]
 fn no_memory_is_refused_to_a_list_that_is_cut(rt: HostRuntime) {
     assert!(rt; cut_again(rt.alloc()) == (false, true));
+}
+
+#[test]
+fn a_refusal_of_memory_builds_no_version(rt: HostRuntime) {
+    assert!(rt; builds_again(rt.alloc()).1);
+}
+
+#[test]
+fn no_memory_is_refused_to_a_version(rt: HostRuntime) {
+    assert!(rt; builds_again(rt.alloc()) == (false, true));
+}
+
+#[test]
+fn a_refusal_of_memory_leaves_no_run(rt: HostRuntime) {
+    assert!(rt; runs_again(rt.alloc()).1);
+}
+
+#[test]
+fn no_memory_is_refused_to_a_run(rt: HostRuntime) {
+    assert!(rt; runs_again(rt.alloc()) == (false, true));
 }
