@@ -37,10 +37,10 @@ fn made(alloc: Global) -> Result<bool, AllocError> {
     let copy = list.copy_between(alloc, &Unbounded, &Excluded(2), Part::All)?;
     let prepared = prepare::<u64, u64>(alloc, &[], 3)?;
     let answers = match told {
-        Answer::Range(pairs) => pairs.as_slice() == &[(2, 20)],
+        Answer::Range(pairs) => pairs.as_slice() == [(2, 20)].as_slice(),
         _ => false,
     };
-    Ok(answers && copy.as_slice() == &[(1, 10)] && prepared.replies.is_empty())
+    Ok(answers && copy.as_slice() == [(1, 10)].as_slice() && prepared.replies.is_empty())
 }
 
 /// Whether memory was refused, and whether all was as wanted, by a second try then.
