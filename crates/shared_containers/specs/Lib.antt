@@ -1,4 +1,5 @@
 pub mod Containers
 pub mod Outcomes
+pub mod Put
 pub mod Taken
 pub mod Walks

@@ -26,9 +26,9 @@ Said {A} post r = (x : A) × post x r
 abbrev pub IsPlaced : {T : Type 0} → Shared T → T → TableId → Type 0
 IsPlaced s value place = (kept_in s ≡ place) × IsOwnerOf s value
 
--- an owner in this place, of the item of another one
+-- an owner in this place, of the item of another one, in its slot
 abbrev pub IsBackIn : {T : Type 0} → Shared T → Shared T → TableId → Type 0
-IsBackIn {T} s owner place = (kept_in s ≡ place) × ((x : T) → IsOwnerOf owner x → IsOwnerOf s x)
+IsBackIn {T} s owner place = (kept_in s ≡ place) × ((x : T) → IsOwnerOf owner x → IsOwnerOf s x) × (s.slot ≡ owner.slot)
 
 -- an owner in this place comes out where the condition said yes, and one of an item that stays where it said no
 abbrev pub IsFrom : {T : Type 0} → Popped T → TableId → (Bool → Type 0) → Type 0
@@ -49,6 +49,12 @@ abbrev pub IsPushed : {T : Type 0} → Pushed T → Shared T → TableId → (Bo
 IsPushed Done owner place said = said true
 IsPushed (Unwanted s) owner place said = IsBackIn s owner place × said false
 IsPushed (Slow s) owner place said = IsBackIn s owner place
+
+-- what holds where it was taken in
+abbrev pub IfDone : {T : Type 0} → Pushed T → Type 0 → Type 0
+IfDone Done P = P
+IfDone (Unwanted s) P = Unit {0}
+IfDone (Slow s) P = Unit {0}
 
 -- what is back after a push is the value, or its owner in this place; it may be refused by a condition, and as full, where these are so
 abbrev pub IsRefused : {T : Type 0} → PushRefused T → T → TableId → Type 0 → Type 0 → Type 0

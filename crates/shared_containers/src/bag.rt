@@ -125,7 +125,7 @@ impl<T: Holds, const ARRAY_LEN: usize> Bag<T, ARRAY_LEN> {
     }
 
     /// Puts a value into the primary, or into the overflow where no place was free. Where no slot is free it is back, a miss;
-    /// after `2^64` tries its owner is. Conditions: the value holds no owners, and none is in the participant's hand.
+    /// after `2^64 - 1` tries its owner is. Conditions: the value holds no owners, and none is in the participant's hand.
     pub fn push(
         &self,
         domain: &Domain<T>,
@@ -213,7 +213,7 @@ impl<T: Holds, const ARRAY_LEN: usize> Bag<T, ARRAY_LEN> {
     }
 
     /// Takes an item out, of the overflow while that has any, and gives its owner. None where nothing is found, and after
-    /// `2^64` tries. Condition: no owner is in the participant's hand.
+    /// `2^64 - 1` tries. Condition: no owner is in the participant's hand.
     pub fn pop(
         &self,
         domain: &Domain<T>,

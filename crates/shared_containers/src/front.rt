@@ -9,6 +9,7 @@ ghost use Rattle.sdd_domain.specs.Sharing.{kept_in};
 ghost use Rattle.sdd_domain.specs.Tokens.{place_of, cell_count};
 ghost use Rattle.shared_containers.specs.Containers.{AreLinksOf, IsStackOf, IsAsBefore, IsReady, IsOpenIn, IsStill};
 ghost use Rattle.shared_containers.specs.Outcomes.{IfItem, IsFrom, Said};
+ghost use Rattle.shared_containers.specs.Put.{HasFoundIn};
 ghost use Rattle.shared_containers.specs.Taken.{HasTakenOut, HasMarked, HasPopped, IsPlain};
 
 use crate::outcome::Popped;
@@ -35,6 +36,8 @@ impl<T: Holds> Stack<T> {
     ) -> Ptr<'g, T>
         requires open { IsOpenIn guard.now local.old domain.now }
         requires stack { IsStackOf self.now domain.now × AreLinksOf links.now domain.now }
+        ensures found { IfSome (ptr_slot result) (λ k. HasFoundIn local.old (cell_number self.now.first) k local.new) }
+        ensures some { HasMadeSome local.old local.new }
         ensures same { IsStill local.old local.new }
     {
         for _i in 0..TRIES {

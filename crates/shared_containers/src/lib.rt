@@ -5,6 +5,7 @@
 //! [`Bag`](bag::Bag) has a row of cells that own an item each, and a stack for what has no room there.
 #![tactic(auto)]
 
+mod back;
 pub mod bag;
 mod copies;
 mod front;

@@ -1,11 +1,15 @@
 //! Owners on their way into a cell and out of it.
 
-ghost use Rattle.std.specs.Prelude.{◌≡◌, ◌<◌, [], IfOk, IfErr, IfSome};
+ghost use Rattle.std.specs.Prelude.{◌≡◌, ◌<◌, [], Some, IfOk, IfErr, IfNone, IfSome};
+ghost use Rattle.sdd_plain.specs.Epochs.{tag_number};
 ghost use Rattle.sdd_domain.specs.Cells.{cell_number};
+ghost use Rattle.sdd_domain.specs.CellSteps.{HasExchanged, HasMadeSome, StepsOnNoCell};
+ghost use Rattle.sdd_domain.specs.Comparing.{code_of, owner_code};
+ghost use Rattle.sdd_domain.specs.Pointers.{ptr_slot, ptr_tag};
 ghost use Rattle.sdd_domain.specs.Sharing.{kept_in, IsOwnerOf};
 ghost use Rattle.sdd_domain.specs.Tokens.{place_of, home_of, hand_of, cell_count};
 ghost use Rattle.shared_containers.specs.Containers.{IsAsBefore, IsOpenIn, IsStill};
-ghost use Rattle.shared_containers.specs.Outcomes.{IsRefused};
+ghost use Rattle.shared_containers.specs.Outcomes.{IsBackIn, IsRefused};
 
 use crate::outcome::PushRefused;
 use sdd_domain::atomic_shared::AtomicShared;
@@ -30,7 +34,9 @@ pub(crate) fn exchange<T: Holds>(
     requires open { IsOpenIn guard.now local.old domain.now }
     requires inside { cell_number cell.now < cell_count domain.now }
     requires mine { kept_in owner ≡ (place_of domain.now).0 }
-    ensures back { IfSome result (λ s. (kept_in s ≡ (place_of domain.now).0) × ((x : T) → IsOwnerOf owner x → IsOwnerOf s x)) }
+    ensures back { IfSome result (λ s. IsBackIn s owner (place_of domain.now).0) }
+    ensures put { IfNone result (HasExchanged local.old (cell_number cell.now) (tag_number (ptr_tag found.entry)) (code_of (ptr_slot found.entry)) 0 (owner_code (Some owner)) local.new) }
+    ensures some { HasMadeSome local.old local.new }
     ensures same { IsStill local.old local.new }
 {
     match cell.compare_exchange(domain, found, (Some(owner), Tag::None), guard, local) {
@@ -52,6 +58,7 @@ pub(crate) fn place<T: Holds>(
     requires holds { T.holds value ≡ [] }
     ensures owner { IfOk result (λ s. (kept_in s ≡ (place_of domain.now).0) × IsOwnerOf s value) }
     ensures refused { IfErr result (λ r. IsRefused r value (place_of domain.now).0 ⊥ ⊥) }
+    ensures cells { StepsOnNoCell local.old local.new }
     ensures same { IsAsBefore local.old local.new }
 {
     match Shared::new(domain, value, local) {

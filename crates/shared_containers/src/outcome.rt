@@ -19,7 +19,7 @@ pub enum PushRefused<T> {
     Full(T),
     /// The condition answered false: only `push_if` answers so.
     Condition(Shared<T>),
-    /// Others were faster each of `2^64` times, or at each place of a primary.
+    /// Others were faster each of `2^64 - 1` times, or at each place of a primary.
     Busy(Shared<T>),
 }
 

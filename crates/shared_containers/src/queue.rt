@@ -1,18 +1,20 @@
 //! Queues without locks: a list that is appended to at its end, from which items are taken in front once they are marked.
 
-ghost use Rattle.std.specs.Prelude.{◌≡◌, ◌<◌, ◌↔◌, ℕ, true, false, [], IsTrue, OnOk, IfOk, IfErr, IfSome};
+ghost use Rattle.std.specs.Prelude.{◌≡◌, ◌↔◌, ℕ, List, Some, true, false, [], IsTrue, OnOk, IfOk, IfErr, IfSome};
 ghost use Rattle.sdd_domain.specs.Cells.{cell_number};
-ghost use Rattle.sdd_domain.specs.CellSteps.{HasReadCell};
+ghost use Rattle.sdd_domain.specs.CellSteps.{CellStep, HasMadeSome, HasReadCell};
+ghost use Rattle.sdd_domain.specs.Pointers.{ptr_slot};
 ghost use Rattle.sdd_domain.specs.Sharing.{kept_in, IsOwnerOf};
-ghost use Rattle.sdd_domain.specs.Tokens.{place_of, home_of, own_of, cell_count, slot_count, IsInNest};
+ghost use Rattle.sdd_domain.specs.Tokens.{place_of, home_of, own_of, slot_count, IsInNest};
 ghost use Rattle.shared_containers.specs.Containers.{AreLinksOf, IsQueueOf, IsAsBefore, IsReady, IsOpenIn, IsStill};
-ghost use Rattle.shared_containers.specs.Outcomes.{Gives, IfPartly, IfPartlyCopied, IfUncopied, IfUnmade, IsNotCloned, IsPushed, IsRefused, Said};
+ghost use Rattle.shared_containers.specs.Outcomes.{Gives, IfDone, IfPartly, IfPartlyCopied, IfUncopied, IfUnmade, IsNotCloned, IsPushed, IsRefused, Said};
+ghost use Rattle.shared_containers.specs.Put.{HasAppended, HasAppendedClear, HasPushedLast, HasWalked};
 ghost use Rattle.shared_containers.specs.Taken.{HasMarkedLink};
 ghost use Rattle.shared_containers.specs.Walks.{left_of};
 ghost use Rattle.std.specs.Iterator.{IsFiniteIterable};
 
 use crate::iter::Iter;
-use crate::moves::{exchange, place};
+use crate::moves::place;
 use crate::outcome::{CloneRefused, FromIterRefused, NotMade, PushRefused, Pushed};
 use crate::stack::Stack;
 use sdd_domain::atomic_shared::AtomicShared;
@@ -32,7 +34,7 @@ use shared_lists::moves::{TRIES, follow};
 pub struct Queue<T> {
     front: Stack<T>,
     /// An item near the end, where appending begins; it may have been popped.
-    last: AtomicShared<T>,
+    pub(crate) last: AtomicShared<T>,
 }
 
 impl<T: Holds> Queue<T> {
@@ -201,7 +203,7 @@ impl<T: Holds> Queue<T> {
     }
 
     /// Puts a value behind all others. Where no slot is free it is back, a miss. It tries again where others push or pop; after
-    /// `2^64` times the value's owner is back. Conditions: the value holds no owners, and none is in the participant's hand.
+    /// `2^64 - 1` times the value's owner is back. Conditions: the value holds no owners, and none is in the participant's hand.
     pub fn push(
         &self,
         domain: &Domain<T>,
@@ -212,6 +214,7 @@ impl<T: Holds> Queue<T> {
         requires ready { IsReady local.old domain.now }
         requires queue { IsQueueOf self.now domain.now × AreLinksOf links.now domain.now }
         requires holds { T.holds value ≡ [] }
+        ensures put { OnOk result (HasPushedLast local.old self.now links.now value (place_of domain.now).0 local.new) }
         ensures refused { IfErr result (λ r. IsRefused r value (place_of domain.now).0 ⊥ ⊥) }
         ensures same { IsAsBefore local.old local.new }
     {
@@ -236,6 +239,7 @@ impl<T: Holds> Queue<T> {
         requires holds { T.holds value ≡ [] }
         requires callable { F.IsAlwaysCallable f }
         ensures asked { OnOk result (Said (F.post f) true) }
+        ensures put { OnOk result (HasPushedLast local.old self.now links.now value (place_of domain.now).0 local.new) }
         ensures refused { IfErr result (λ r. IsRefused r value (place_of domain.now).0 (Said (F.post f) false) ⊥) }
         ensures same { IsAsBefore local.old local.new }
     {
@@ -257,14 +261,16 @@ impl<T: Holds> Queue<T> {
         requires queue { IsQueueOf self.now domain.now × AreLinksOf links.now domain.now }
         requires callable { F.IsAlwaysCallable f.now }
         ensures asked { OnOk result (Said (F.post f.now) true) }
+        ensures put { OnOk result (HasAppendedClear local.old self.now links.now owner local.new) }
         ensures refused { (x : T) → IsOwnerOf owner x → IfErr result (λ r. IsRefused r x (place_of domain.now).0 (Said (F.post f.now) false) ⊥) }
         ensures same { IsAsBefore local.old local.new }
     {
-        let mut owner = owner;
+        let Some(link) = links.at(owner.slot()) else {
+            return Err(PushRefused::Busy(owner));
+        };
         // The link still has the tag that the slot's item before it was popped by.
-        if let Some(link) = links.at(owner.slot()) {
-            follow(domain, link, None, local);
-        }
+        follow(domain, link, None, local);
+        let mut owner = owner;
         for _i in 0..TRIES {
             match self.try_push(domain, owner, f, links, local) {
                 Pushed::Done => return Ok(()),
@@ -289,6 +295,8 @@ impl<T: Holds> Queue<T> {
         requires queue { IsQueueOf self.now domain.now × AreLinksOf links.now domain.now }
         requires callable { F.IsAlwaysCallable f.now }
         ensures pushed { IsPushed result owner (place_of domain.now).0 (Said (F.post f.now)) }
+        ensures put { IfDone result ((xs : List CellStep) × HasAppended local.old self.now links.now owner xs local.new) }
+        ensures some { HasMadeSome local.old local.new }
         ensures same { IsAsBefore local.old local.new }
     {
         let Ok(guard) = Guard::new(domain, local) else {
@@ -314,56 +322,47 @@ impl<T: Holds> Queue<T> {
         requires queue { IsQueueOf self.now domain.now × AreLinksOf links.now domain.now }
         requires callable { F.IsAlwaysCallable f.now }
         ensures pushed { IsPushed result owner (place_of domain.now).0 (Said (F.post f.now)) }
+        ensures put { IfDone result ((xs : List CellStep) × HasAppended local.old self.now links.now owner xs local.new) }
+        ensures some { HasMadeSome local.old local.new }
         ensures same { IsStill local.old local.new }
     {
         let near = self.last.load(domain, guard, local);
-        let mut behind = end_of(domain, near, links, guard, local);
-        if behind.is_null() {
-            let first = self.front.first_item(domain, links, guard, local);
-            if first.is_null() {
-                return self.append(domain, &self.front.first, first, owner, f, guard, local);
-            }
-            behind = end_of(domain, first, links, guard, local);
+        let end = end_of(domain, near, links, guard, local);
+        if end.is_null() {
+            return self.push_from_first(domain, owner, f, links, guard, local);
         }
-        match links.of_item(behind) {
-            Some(link) => self.append(domain, link, behind, owner, f, guard, local),
-            None => Pushed::Slow(owner),
-        }
+        self.push_behind(domain, end, owner, f, links, guard, local)
     }
 
-    /// Puts an item behind another one, whose link this is, or in front, if nothing was there yet, and notes it as near the end.
-    fn append<F: Fn(Option<&T>) -> bool>(
+    /// Puts an item behind the last one from the first one on, or in front.
+    fn push_from_first<F: Fn(Option<&T>) -> bool>(
         &self,
         domain: &Domain<T>,
-        cell: &AtomicShared<T>,
-        behind: Ptr<T>,
         owner: Shared<T>,
         f: &F,
+        links: &Links<T>,
         guard: &Guard,
         local: &mut Local<T>,
     ) -> Pushed<T>
         requires open { IsOpenIn guard.now local.old domain.now }
-        requires inside { (cell_number self.now.last < cell_count domain.now) × (cell_number cell.now < cell_count domain.now) }
         requires mine { kept_in owner ≡ (place_of domain.now).0 }
+        requires queue { IsQueueOf self.now domain.now × AreLinksOf links.now domain.now }
         requires callable { F.IsAlwaysCallable f.now }
         ensures pushed { IsPushed result owner (place_of domain.now).0 (Said (F.post f.now)) }
+        ensures put { IfDone result ((xs : List CellStep) × HasAppended local.old self.now links.now owner xs local.new) }
+        ensures some { HasMadeSome local.old local.new }
         ensures same { IsStill local.old local.new }
     {
-        if !f(behind.as_ref()) {
-            return Pushed::Unwanted(owner);
+        let first = self.front.first_item(domain, links, guard, local);
+        if first.is_null() {
+            return self.append(domain, &self.front.first, first, owner, f, guard, local);
         }
-        if let Some(back) = exchange(domain, cell, Ptr::null(), owner, guard, local) {
-            return Pushed::Slow(back);
-        }
-        if !behind.is_null() {
-            let end = cell.get_shared(domain, guard, local);
-            follow(domain, &self.last, end, local);
-        }
-        Pushed::Done
+        let end = end_of(domain, first, links, guard, local);
+        self.push_behind(domain, end, owner, f, links, guard, local)
     }
 
-    /// Takes the first item out, and gives an owner of it. None where it is empty, and after `2^64` tries, at each
-    /// of which others were faster. Condition: no owner is in the participant's hand.
+    /// Takes the first item out, and gives an owner of it. None where it is empty, and after `2^64 - 1` tries, at
+    /// each of which others were faster. Condition: no owner is in the participant's hand.
     pub fn pop(
         &self,
         domain: &Domain<T>,
@@ -424,11 +423,19 @@ fn end_of<'g, T: Holds>(
 ) -> Ptr<'g, T>
     requires open { IsOpenIn guard.now local.old domain.now }
     requires links { AreLinksOf links.now domain.now }
+    ensures walked { IfSome (ptr_slot result) (λ k. HasWalked local.old links.now (ptr_slot from.entry) k local.new) }
+    ensures some { HasMadeSome local.old local.new }
     ensures same { IsStill local.old local.new }
 {
     let mut at = from;
     for _i in 0..domain.slots() {
-        let next = links.after(domain, at, guard, local);
+        let Some(slot) = at.slot() else {
+            return Ptr::null();
+        };
+        let Some(link) = links.at(slot) else {
+            return Ptr::null();
+        };
+        let next = link.load(domain, guard, local);
         if next.is_null() && next.tag() == Tag::None {
             return at;
         }

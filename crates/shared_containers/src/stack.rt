@@ -9,7 +9,8 @@ ghost use Rattle.sdd_domain.specs.Pointers.{ptr_slot, ptr_tag};
 ghost use Rattle.sdd_domain.specs.Sharing.{kept_in, IsOwnerOf};
 ghost use Rattle.sdd_domain.specs.Tokens.{place_of, home_of, own_of, cell_count, slot_count, IsInNest};
 ghost use Rattle.shared_containers.specs.Containers.{AreLinksOf, IsStackOf, IsAsBefore, IsReady, IsOpenIn, IsStill};
-ghost use Rattle.shared_containers.specs.Outcomes.{Gives, IfPartly, IfPartlyCopied, IfUncopied, IfUnmade, IsNotCloned, IsPushed, IsRefused, Said};
+ghost use Rattle.shared_containers.specs.Outcomes.{Gives, IfDone, IfPartly, IfPartlyCopied, IfUncopied, IfUnmade, IsNotCloned, IsPushed, IsRefused, Said};
+ghost use Rattle.shared_containers.specs.Put.{HasPushed, HasPutBefore, HasPutBy};
 ghost use Rattle.shared_containers.specs.Taken.{HasPopped, IsPlain};
 ghost use Rattle.shared_containers.specs.Walks.{left_of};
 ghost use Rattle.std.specs.Iterator.{IsFiniteIterable};
@@ -209,8 +210,8 @@ impl<T: Holds> Stack<T> {
         count
     }
 
-    /// Puts a value in front. Where no slot is free it is back, a miss. It tries again where others push or pop; after `2^64`
-    /// times the value's owner is back. Conditions: the value holds no owners, and none is in the participant's hand.
+    /// Puts a value in front. Where no slot is free it is back, a miss. It tries again where others push or pop; after
+    /// `2^64 - 1` times the value's owner is back. Conditions: the value holds no owners, and none is in the participant's hand.
     pub fn push(
         &self,
         domain: &Domain<T>,
@@ -221,6 +222,7 @@ impl<T: Holds> Stack<T> {
         requires ready { IsReady local.old domain.now }
         requires stack { IsStackOf self.now domain.now × AreLinksOf links.now domain.now }
         requires holds { T.holds value ≡ [] }
+        ensures put { OnOk result (HasPushed local.old self.now links.now value (place_of domain.now).0 local.new) }
         ensures refused { IfErr result (λ r. IsRefused r value (place_of domain.now).0 ⊥ ⊥) }
         ensures same { IsAsBefore local.old local.new }
     {
@@ -245,6 +247,7 @@ impl<T: Holds> Stack<T> {
         requires holds { T.holds value ≡ [] }
         requires callable { F.IsAlwaysCallable f }
         ensures asked { OnOk result (Said (F.post f) true) }
+        ensures put { OnOk result (HasPushed local.old self.now links.now value (place_of domain.now).0 local.new) }
         ensures refused { IfErr result (λ r. IsRefused r value (place_of domain.now).0 (Said (F.post f) false) ⊥) }
         ensures same { IsAsBefore local.old local.new }
     {
@@ -266,6 +269,7 @@ impl<T: Holds> Stack<T> {
         requires stack { IsStackOf self.now domain.now × AreLinksOf links.now domain.now }
         requires callable { F.IsAlwaysCallable f.now }
         ensures asked { OnOk result (Said (F.post f.now) true) }
+        ensures put { OnOk result (HasPutBefore local.old links.now (cell_number self.now.first) owner local.new) }
         ensures refused { (x : T) → IsOwnerOf owner x → IfErr result (λ r. IsRefused r x (place_of domain.now).0 (Said (F.post f.now) false) ⊥) }
         ensures same { IsAsBefore local.old local.new }
     {
@@ -294,6 +298,8 @@ impl<T: Holds> Stack<T> {
         requires stack { IsStackOf self.now domain.now × AreLinksOf links.now domain.now }
         requires callable { F.IsAlwaysCallable f.now }
         ensures pushed { IsPushed result owner (place_of domain.now).0 (Said (F.post f.now)) }
+        ensures put { IfDone result (HasPutBefore local.old links.now (cell_number self.now.first) owner local.new) }
+        ensures some { HasMadeSome local.old local.new }
         ensures same { IsAsBefore local.old local.new }
     {
         let Some(link) = links.at(owner.slot()) else {
@@ -302,18 +308,39 @@ impl<T: Holds> Stack<T> {
         let Ok(guard) = Guard::new(domain, local) else {
             unreachable!();
         };
-        let first = self.peek(domain, &guard, local);
-        let pushed = if f(first.as_ref()) {
-            put_before(domain, &self.first, first, owner, link, &guard, local)
-        } else {
-            Pushed::Unwanted(owner)
-        };
+        let pushed = self.push_under(domain, owner, f, link, &guard, local);
         guard.close(domain, local);
         pushed
     }
 
-    /// Takes the first item out, in one step, and gives its owner. None where it is empty, and after `2^64` tries, at each
-    /// of which others were faster. Condition: no owner is in the participant's hand.
+    /// The same under a guard, with the item's link.
+    fn push_under<F: Fn(Option<&T>) -> bool>(
+        &self,
+        domain: &Domain<T>,
+        owner: Shared<T>,
+        f: &F,
+        link: &AtomicShared<T>,
+        guard: &Guard,
+        local: &mut Local<T>,
+    ) -> Pushed<T>
+        requires open { IsOpenIn guard.now local.old domain.now }
+        requires mine { kept_in owner ≡ (place_of domain.now).0 }
+        requires stack { IsStackOf self.now domain.now × (cell_number link.now < cell_count domain.now) }
+        requires callable { F.IsAlwaysCallable f.now }
+        ensures pushed { IsPushed result owner (place_of domain.now).0 (Said (F.post f.now)) }
+        ensures put { IfDone result (HasPutBy local.old (cell_number link.now) (cell_number self.now.first) owner local.new) }
+        ensures some { HasMadeSome local.old local.new }
+        ensures same { IsStill local.old local.new }
+    {
+        let first = self.peek(domain, guard, local);
+        if !f(first.as_ref()) {
+            return Pushed::Unwanted(owner);
+        }
+        put_before(domain, &self.first, first, owner, link, guard, local)
+    }
+
+    /// Takes the first item out, in one step, and gives its owner. None where it is empty, and after `2^64 - 1` tries, at
+    /// each of which others were faster. Condition: no owner is in the participant's hand.
     pub fn pop(
         &self,
         domain: &Domain<T>,
@@ -413,8 +440,14 @@ fn put_before<T: Holds>(
     requires inside { (cell_number cell.now < cell_count domain.now) × (cell_number link.now < cell_count domain.now) }
     requires mine { kept_in owner ≡ (place_of domain.now).0 }
     ensures pushed { IsPushed result owner (place_of domain.now).0 (λ b. b ≡ true) }
+    ensures put { IfDone result (HasPutBy local.old (cell_number link.now) (cell_number cell.now) owner local.new) }
+    ensures some { HasMadeSome local.old local.new }
     ensures same { IsStill local.old local.new }
 {
+    // No item is put before itself.
+    if first.slot() == Some(owner.slot()) {
+        return Pushed::Slow(owner);
+    }
     let next = first.get_shared(domain, local);
     // What was the first item may have been popped and retired since.
     let is_there = next.is_some() || first.is_null();

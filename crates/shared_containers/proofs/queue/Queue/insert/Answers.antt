@@ -1,3 +1,5 @@
+use Rattle.std.proofs.Common.{◌∙◌}
+use Rattle.shared_containers.proofs.PutLemmas.{appended_clear, cleared_more}
 use Rattle.shared_lists.proofs.StillLemmas.{as_before, still_ready}
 use Rattle.shared_containers.proofs.queue.Queue.insert.Goals as goal
 
@@ -19,7 +21,9 @@ loop-i-preserved g c =
     record {
       mine = pushed.0;
       item = λ x is. pushed.1 x (c.loop-i.invariant.item x is);
+      slot = pushed.2 ∙ c.loop-i.invariant.slot;
       same = as_before c.args.local.now c.loop-i.local c.try_push.new.local c.loop-i.invariant.same c.try_push.ensures.same;
+      cleared = cleared_more c.args.links.now c.args.local.now c.loop-i.local c.try_push.new.local c.args.owner c.loop-i.invariant.cleared c.try_push.ensures.some;
     }
 
 pub returns-clause-refused : goal.returns-clause-refused
@@ -27,3 +31,7 @@ returns-clause-refused g c = λ x is. (c.loop-i.invariant.mine, c.loop-i.invaria
 
 pub returns-clause-same : goal.returns-clause-same
 returns-clause-same g c = c.loop-i.invariant.same
+
+pub returns-in-Done-clause-put : goal.returns-in-Done-clause-put
+returns-in-Done-clause-put g c = let before = c.loop-i.invariant in
+    appended_clear c.args.links.now c.args.local.now c.loop-i.local c.try_push.new.local c.args.self.now c.args.owner c.loop-i.owner before.same.0.0 before.slot before.cleared c.in-Done.ensures.put

@@ -1,3 +1,6 @@
+use Rattle.std.proofs.Common.{◌∙◌}
+use Rattle.shared_containers.proofs.PutLemmas.{front_behind, put_same}
+use Rattle.shared_containers.proofs.TakenLemmas.{some_then}
 use Rattle.shared_lists.proofs.StillLemmas.{as_before, still_ready}
 use Rattle.shared_containers.proofs.stack.Stack.insert.Goals as goal
 
@@ -19,7 +22,9 @@ loop-i-preserved g c =
     record {
       mine = pushed.0;
       item = λ x is. pushed.1 x (c.loop-i.invariant.item x is);
+      slot = pushed.2 ∙ c.loop-i.invariant.slot;
       same = as_before c.args.local.now c.loop-i.local c.try_push.new.local c.loop-i.invariant.same c.try_push.ensures.same;
+      some = some_then c.args.local.now c.loop-i.local c.try_push.new.local c.loop-i.invariant.some c.try_push.ensures.some;
     }
 
 pub returns-clause-refused : goal.returns-clause-refused
@@ -27,3 +32,7 @@ returns-clause-refused g c = λ x is. (c.loop-i.invariant.mine, c.loop-i.invaria
 
 pub returns-clause-same : goal.returns-clause-same
 returns-clause-same g c = c.loop-i.invariant.same
+
+pub returns-in-Done-clause-put : goal.returns-in-Done-clause-put
+returns-in-Done-clause-put g c = let a = c.args.local.now in let b = c.loop-i.local in let d = c.try_push.new.local in let links = c.args.links.now in let cell = c.args.self.now.first.cell in let q = c.loop-i.owner in let before = c.loop-i.invariant in
+    put_same a d links q c.args.owner before.slot cell (front_behind links a b d cell q before.same.0.0 before.some c.in-Done.ensures.put)
