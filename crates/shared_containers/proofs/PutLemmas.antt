@@ -13,7 +13,7 @@ use Rattle.sdd_domain.proofs.CellSteps.{made_both, step_since}
 use Rattle.shared_containers.specs.Outcomes.{IfDone}
 use Rattle.shared_containers.specs.declared.outcome.Pushed.{Pushed}
 use Rattle.shared_containers.specs.declared.outcome.Pushed.TheVariants.{Done, Unwanted, Slow}
-use Rattle.shared_containers.specs.Put.{HasPutBy, HasPutBefore, HasFilledFirst, HasFilledLink, HasFoundIn, Reaches, HasWalked, IsEndOf, Clears, HasAppended, HasAppendedClear}
+use Rattle.shared_containers.specs.Put.{HasPutBy, HasPutBefore, HasFilledFirst, HasFilledLink, HasFoundIn, Reaches, HasWalked, IsEndOf, HasAppended, HasAppendedClear}
 use Rattle.shared_containers.specs.declared.queue.Queue.{Queue}
 use Rattle.shared_lists.specs.Lists.{IsLinkOf}
 use Rattle.shared_lists.specs.declared.links.Links.{Links}
