@@ -130,37 +130,6 @@ fn put_behind_deleted<R: Abort>(rt: &R, w: &mut World<LinkedEntry<u64>>, guard: 
     value
 }
 
-/// Whether an entry was deleted by a first call, by a second one, and whether it is so at last. It ends.
-fn deleted_twice<R: Abort>(
-    rt: &R,
-    w: &mut World<LinkedEntry<u64>>,
-    guard: &WorldGuard,
-) -> (bool, bool, bool)
-    requires { 0 < length w.old.participants }
-    ensures participant { 0 < length w.new.participants }
-    ensures open { IsOpen w.old 0 → IsOpen w.new 0 }
-{
-    let entry = made(rt, w, 1);
-    let at = place::shared::get_guarded_ptr(&entry, guard);
-    let first = world::linked_list::delete_self(w, at);
-    let deleted = place::shared::get_guarded_ptr(&entry, guard);
-    let second = world::linked_list::delete_self(w, deleted);
-    let last = place::shared::get_guarded_ptr(&entry, guard);
-    let is_deleted = world::linked_list::is_deleted(w, last);
-    give(rt, w, entry);
-    (first, second, is_deleted)
-}
-
-#[test]
-fn an_entry_is_deleted_once(rt: HostRuntime) {
-    let mut w = place_of(&rt, rt.alloc(), 1, 2);
-    let guard = guarded(&rt, &mut w);
-    let told = deleted_twice(&rt, &mut w, &guard);
-    close(&rt, &mut w, guard);
-    end(&rt, w);
-    assert!(rt; told == (true, false, true));
-}
-
 #[test]
 fn an_entry_comes_back_from_behind_a_deleted_one(rt: HostRuntime) {
     let mut w = place_of(&rt, rt.alloc(), 2, 4);
