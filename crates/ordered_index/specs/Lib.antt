@@ -8,7 +8,7 @@ pub use Rattle.local_index.specs.Past
 pub use Rattle.local_index.specs.Feeds
 pub use Rattle.local_index.specs.Reading
 pub use Rattle.local_index.specs.Lending
-pub use Rattle.local_index.specs.declared.desk.Seat
+pub use Rattle.local_index.specs.declared.desk.Ticket
 pub use Rattle.shared_index.specs.Books
 pub use Rattle.shared_index.specs.SharedBase
 pub use Rattle.shared_index.specs.SharedFeeds
