@@ -60,7 +60,7 @@ impl<K: Ord, V> Arenas<K, V> {
     {
         let count = pairs / 15 + 1;
         let leaves = Slab::with_capacity(alloc, count)?;
-        let nodes = Slab::with_capacity(alloc, if count > 16 { count / 7 + 8 } else { 3 })?;
+        let nodes = Slab::with_capacity(alloc, if count > 16 { count / 7 + 8 } else { 1 })?;
         Ok(Arenas {
             leaves,
             nodes,

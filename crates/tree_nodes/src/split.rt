@@ -55,12 +55,8 @@ impl<K: Ord, V> Arenas<K, V> {
             return Ok(at);
         }
         let split_point = self.split_point(at, key)?;
-        let Some(most) = self.height.checked_add(1) else {
-            return Err(AllocError);
-        };
         self.leaves.reserve(1)?;
-        self.nodes.reserve(most)?;
-        let above = self.split_nodes(above, key);
+        let above = self.open_node(above, key)?;
         Ok(self.split_leaf(above, at, key, split_point))
     }
 
@@ -170,14 +166,41 @@ impl<K: Ord, V> Arenas<K, V> {
         }
     }
 
-    /// Makes room in the lowest node on the way to a key, which is named: where it is full, all that are full are
-    /// split. It gives the number of the lowest one then.
-    fn split_nodes(&mut self, above: usize, key: &K) -> usize
+    /// Makes room in the lowest node on the way to a key, which is named, and gives the number of the lowest one then.
+    /// Nodes are reserved only where it is full.
+    fn open_node(&mut self, above: usize, key: &K) -> Result<usize, AllocError>
     where
         K: Drop,
         requires sound { IsSound K.cmp self.old }
         requires planted { self.old.height ≢ 0 }
         requires lowest { above ≡ way K.cmp (content_of self.old) key.now (self.old.height - 1) self.old.root }
+        ensures sound { IsSound K.cmp self.new }
+        ensures pairs { pairs_of self.new ≡ pairs_of self.old }
+        ensures leaves { self.new.leaves ≡ self.old.leaves }
+        ensures leaf { leaf_on_way K.cmp key.now self.new ≡ leaf_on_way K.cmp key.now self.old }
+        ensures room { OnOk result (NodeHasRoom K.cmp key.now self.new 1) }
+        ensures planted { self.new.height ≢ 0 }
+        ensures still { OnOk result (NodeHasRoom K.cmp key.now self.old 1 → self.new ≡ self.old) }
+        ensures lowest { IfOk result (λ n. n ≡ way K.cmp (content_of self.new) key.now (self.new.height - 1) self.new.root) }
+        ensures refused { OnErr result (self.new.height ≡ self.old.height) }
+        ensures ascending_headroom { OnErr result (ascending_headroom K.cmp self.new ≡ ascending_headroom K.cmp self.old) }
+    {
+        if !self.is_full(above, 1, key) {
+            return Ok(above);
+        }
+        let Some(most) = self.height.checked_add(1) else {
+            return Err(AllocError);
+        };
+        self.nodes.reserve(most)?;
+        Ok(self.split_nodes(key))
+    }
+
+    /// Splits all nodes on the way to a key that are full, as the lowest one is, and gives the number of the lowest one then.
+    fn split_nodes(&mut self, key: &K) -> usize
+    where
+        K: Drop,
+        requires sound { IsSound K.cmp self.old }
+        requires planted { self.old.height ≢ 0 }
         requires short { self.old.height + 1 < 2 ^ 64 }
         requires nodes { HasRoomFor self.old.nodes (self.old.height + 1) }
         ensures sound { IsSound K.cmp self.new }
@@ -186,12 +209,8 @@ impl<K: Ord, V> Arenas<K, V> {
         ensures leaf { leaf_on_way K.cmp key.now self.new ≡ leaf_on_way K.cmp key.now self.old }
         ensures room { NodeHasRoom K.cmp key.now self.new 1 }
         ensures planted { self.new.height ≢ 0 }
-        ensures still { NodeHasRoom K.cmp key.now self.old 1 → self.new ≡ self.old }
         ensures lowest { result ≡ way K.cmp (content_of self.new) key.now (self.new.height - 1) self.new.root }
     {
-        if !self.is_full(above, 1, key) {
-            return above;
-        }
         if self.is_full(self.node_at(self.height, key), self.height, key) {
             self.grow_root(key);
         }

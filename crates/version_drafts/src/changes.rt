@@ -27,15 +27,34 @@ pub(crate) struct Changes<'w, K: Ord, V> {
     pub(crate) gone: Vec<Gone<K>>,
 }
 
-/// No change. It takes no memory.
-pub(crate) fn unchanged<'w, K: Ord, V>(alloc: Global) -> Changes<'w, K, V>
-    ensures edits { result.edits.pairs ≡ [] }
-    ensures gone { result.gone.items ≡ [] }
+/// No change yet, with room for the edits that writes leave, so that few of them take little memory.
+pub(crate) fn unchanged<'w, K: Ord + Drop, V>(
+    alloc: Global,
+    writes: &[Write<K, V>],
+) -> Result<Changes<'w, K, V>, AllocError>
+    ensures edits { IfOk result (λ c. c.edits.pairs ≡ []) }
+    ensures gone { IfOk result (λ c. c.gone.items ≡ []) }
 {
-    Changes {
-        edits: TreeIndex::new(alloc),
+    let edits = match edits_left(writes) {
+        0 => TreeIndex::new(alloc),
+        count => TreeIndex::with_capacity(alloc, count)?,
+    };
+    Ok(Changes {
+        edits,
         gone: Vec::new(alloc),
+    })
+}
+
+/// How many edits writes leave at most: one for each that names a single key.
+fn edits_left<K, V>(writes: &[Write<K, V>]) -> usize {
+    let mut count = 0usize;
+    for write in writes {
+        match write {
+            Write::RemoveRange(_, _) | Write::Clear => {},
+            _ => count = count.saturating_add(1),
+        }
     }
+    count
 }
 
 /// Makes one write on the list that changes make of a version.

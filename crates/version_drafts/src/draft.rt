@@ -74,7 +74,7 @@ pub fn drafted<
     ensures few { IfOk result (λ made. made_in made.0.parts.items ≤ 2 * length writes.now) }
     ensures replies { IfOk result (λ made. made.1.items ≡ replies_to K.cmp writes.now (pairs_in (O.blocks old.now))) }
 {
-    let mut changes = unchanged::<K, V>(alloc);
+    let mut changes = unchanged::<K, V>(alloc, writes)?;
     let mut replies = Vec::with_capacity(alloc, writes.len())?;
     for write in writes {
         replies.push(apply::<K, V, N, O>(&mut changes, old, write)?)?;

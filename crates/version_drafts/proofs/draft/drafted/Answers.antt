@@ -15,12 +15,12 @@ loop-write-init g c =
     let cmp = g.K.Ord.cmp in
     let blocks = g.O.BaseVersion.blocks c.args.old.now in
     let old = pairs_in blocks in
-    let none : changed cmp c.unchanged-changes.result old ≡ old = ap (λ cs. apply_delta cmp cs (without_gone cmp c.unchanged-changes.result.gone.items old)) c.unchanged-changes.ensures.edits ∙ (ap (λ gs. without_gone cmp gs old) c.unchanged-changes.ensures.gone ∙ without_none cmp old) in
+    let none : changed cmp c.in_ok-changes.changes old ≡ old = ap (λ cs. apply_delta cmp cs (without_gone cmp c.in_ok-changes.changes.gone.items old)) c.in_ok-changes.ensures.edits ∙ (ap (λ gs. without_gone cmp gs old) c.in_ok-changes.ensures.gone ∙ without_none cmp old) in
     record {
       list = ap (after_writes cmp c.args.writes.now) none;
-      few = (let a = ap length c.unchanged-changes.ensures.edits in let b = ap length c.unchanged-changes.ensures.gone in omega (arith, a, b));
-      spans = subst (All (IsSpan cmp blocks)) (sym c.unchanged-changes.ensures.gone) (All-nil (IsSpan cmp blocks));
-      replies = ap (λ rs. rs ++ replies_to cmp c.args.writes.now (changed cmp c.unchanged-changes.result old)) c.in_ok-replies.ensures.items ∙ ap (replies_to cmp c.args.writes.now) none;
+      few = (let a = ap length c.in_ok-changes.ensures.edits in let b = ap length c.in_ok-changes.ensures.gone in omega (arith, a, b));
+      spans = subst (All (IsSpan cmp blocks)) (sym c.in_ok-changes.ensures.gone) (All-nil (IsSpan cmp blocks));
+      replies = ap (λ rs. rs ++ replies_to cmp c.args.writes.now (changed cmp c.in_ok-changes.changes old)) c.in_ok-replies.ensures.items ∙ ap (replies_to cmp c.args.writes.now) none;
     }
 
 pub apply-requires-clause-ordered : goal.apply-requires-clause-ordered

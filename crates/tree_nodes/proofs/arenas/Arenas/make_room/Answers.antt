@@ -2,7 +2,6 @@ use Rattle.std.proofs.Common.{◌≡◌, ◌-◌, ◌≤◌, ◌<◌, sym, ap, �
 use Rattle.std.proofs.lemmas.Option.{IfSome_then}
 use Rattle.slab.specs.Slab.{get, HasRoomFor, Slab}
 use Rattle.tree_nodes.specs.declared.leaf.Leaf.{Leaf}
-use Rattle.tree_nodes.specs.declared.node.InnerNode.{InnerNode}
 use Rattle.tree_nodes.proofs.NodeLemmas.{roomier_sound, roomier_ascents, roomier_pairs, roomier_full}
 use Rattle.tree_nodes.specs.declared.arenas.Arenas.{Arenas}
 use Rattle.tree_nodes.specs.Content.{pairs_of, IsLeafFull, leaf_on_way}
@@ -15,25 +14,17 @@ pub returns-in_err-reserve-clause-sound : goal.returns-in_err-reserve-clause-sou
 returns-in_err-reserve-clause-sound g c =
     roomier_sound g.K.Ord.cmp c.args.self.now c.reserve.new.self c.args.self.now.nodes (ap (λ (s : Slab (Leaf g.row.K.Denot g.row.V.Denot)). s.slots) c.reserve.ensures.rest_kept) (refl) c.requires.sound
 
-pub returns-in_err-reserve-2-clause-sound : goal.returns-in_err-reserve-2-clause-sound
-returns-in_err-reserve-2-clause-sound g c =
-    roomier_sound g.K.Ord.cmp c.args.self.now c.reserve.new.self c.reserve-2.new.self (ap (λ (s : Slab (Leaf g.row.K.Denot g.row.V.Denot)). s.slots) c.reserve.ensures.rest_kept) (ap (λ (s : Slab (InnerNode g.row.K.Denot)). s.slots) c.reserve-2.ensures.rest_kept) c.requires.sound
-
-pub split_nodes-above-requires-clause-sound : goal.split_nodes-above-requires-clause-sound
-split_nodes-above-requires-clause-sound g c =
-    roomier_sound g.K.Ord.cmp c.args.self.now c.reserve.new.self c.reserve-2.new.self (ap (λ (s : Slab (Leaf g.row.K.Denot g.row.V.Denot)). s.slots) c.reserve.ensures.rest_kept) (ap (λ (s : Slab (InnerNode g.row.K.Denot)). s.slots) c.reserve-2.ensures.rest_kept) c.requires.sound
+pub open_node-requires-clause-sound : goal.open_node-requires-clause-sound
+open_node-requires-clause-sound g c =
+    roomier_sound g.K.Ord.cmp c.args.self.now c.reserve.new.self c.args.self.now.nodes (ap (λ (s : Slab (Leaf g.row.K.Denot g.row.V.Denot)). s.slots) c.reserve.ensures.rest_kept) refl c.requires.sound
 
 pub returns-in_err-reserve-clause-ascending_headroom : goal.returns-in_err-reserve-clause-ascending_headroom
 returns-in_err-reserve-clause-ascending_headroom g c =
     on_err c.from_residual-in_err-reserve.result (roomier_ascents g.K.Ord.cmp c.args.self.now c.reserve.new.self c.args.self.now.nodes (ap (λ (s : Slab (Leaf g.row.K.Denot g.row.V.Denot)). s.slots) c.reserve.ensures.rest_kept) refl)
 
-pub returns-in_err-reserve-2-clause-ascending_headroom : goal.returns-in_err-reserve-2-clause-ascending_headroom
-returns-in_err-reserve-2-clause-ascending_headroom g c =
-    on_err c.from_residual-in_err-reserve-2.result (roomier_ascents g.K.Ord.cmp c.args.self.now c.reserve.new.self c.reserve-2.new.self (ap (λ (s : Slab (Leaf g.row.K.Denot g.row.V.Denot)). s.slots) c.reserve.ensures.rest_kept) (ap (λ (s : Slab (InnerNode g.row.K.Denot)). s.slots) c.reserve-2.ensures.rest_kept))
-
 pub returns-clause-pairs : goal.returns-clause-pairs
 returns-clause-pairs g c =
-    c.split_leaf.ensures.pairs ∙ c.split_nodes-above.ensures.pairs ∙ roomier_pairs g.K.Ord.cmp c.args.self.now c.reserve.new.self c.reserve-2.new.self (ap (λ (s : Slab (Leaf g.row.K.Denot g.row.V.Denot)). s.slots) c.reserve.ensures.rest_kept) (ap (λ (s : Slab (InnerNode g.row.K.Denot)). s.slots) c.reserve-2.ensures.rest_kept)
+    c.split_leaf.ensures.pairs ∙ c.open_node.ensures.pairs ∙ roomier_pairs g.K.Ord.cmp c.args.self.now c.reserve.new.self c.args.self.now.nodes (ap (λ (s : Slab (Leaf g.row.K.Denot g.row.V.Denot)). s.slots) c.reserve.ensures.rest_kept) refl
 
 pub returns-clause-ascending : goal.returns-clause-ascending
 returns-clause-ascending g c above some =
@@ -41,52 +32,46 @@ returns-clause-ascending g c above some =
     let o = g.met.K.Ord.total in
     let key = c.args.key.now in
     let a = c.args.self.now in
-    let b : Arenas g.row.K.Denot g.row.V.Denot = record { leaves = c.reserve.new.self; nodes = c.reserve-2.new.self; root = a.root; height = a.height; len = a.len } in
-    let same : ascending_headroom cmp b ≡ ascending_headroom cmp a = roomier_ascents cmp a c.reserve.new.self c.reserve-2.new.self (ap (λ (s : Slab (Leaf g.row.K.Denot g.row.V.Denot)). s.slots) c.reserve.ensures.rest_kept) (ap (λ (s : Slab (InnerNode g.row.K.Denot)). s.slots) c.reserve-2.ensures.rest_kept) in
-    let pairs : pairs_of b ≡ pairs_of a = roomier_pairs cmp a c.reserve.new.self c.reserve-2.new.self (ap (λ (s : Slab (Leaf g.row.K.Denot g.row.V.Denot)). s.slots) c.reserve.ensures.rest_kept) (ap (λ (s : Slab (InnerNode g.row.K.Denot)). s.slots) c.reserve-2.ensures.rest_kept) in
-    let full : IsLeafFull cmp key b = roomier_full cmp a c.reserve.new.self c.reserve-2.new.self key (ap (λ (s : Slab (Leaf g.row.K.Denot g.row.V.Denot)). s.slots) c.reserve.ensures.rest_kept) (ap (λ (s : Slab (InnerNode g.row.K.Denot)). s.slots) c.reserve-2.ensures.rest_kept) (c.is_crowded.ensures.full c.if-not-is_crowded.false c.requires.full) in
+    let b : Arenas g.row.K.Denot g.row.V.Denot = record { leaves = c.reserve.new.self; nodes = c.args.self.now.nodes; root = a.root; height = a.height; len = a.len } in
+    let same : ascending_headroom cmp b ≡ ascending_headroom cmp a = roomier_ascents cmp a c.reserve.new.self c.args.self.now.nodes (ap (λ (s : Slab (Leaf g.row.K.Denot g.row.V.Denot)). s.slots) c.reserve.ensures.rest_kept) refl in
+    let pairs : pairs_of b ≡ pairs_of a = roomier_pairs cmp a c.reserve.new.self c.args.self.now.nodes (ap (λ (s : Slab (Leaf g.row.K.Denot g.row.V.Denot)). s.slots) c.reserve.ensures.rest_kept) refl in
+    let full : IsLeafFull cmp key b = roomier_full cmp a c.reserve.new.self c.args.self.now.nodes key (ap (λ (s : Slab (Leaf g.row.K.Denot g.row.V.Denot)). s.slots) c.reserve.ensures.rest_kept) refl (c.is_crowded.ensures.full c.if-not-is_crowded.false c.requires.full) in
     let over_b : IsAbove cmp key (pairs_of b) = subst (IsAbove cmp key) (sym pairs) above in
     let more : 1 < ascending_headroom cmp b = omega (arith, same, some) in
-    let still : c.split_nodes-above.new.self ≡ b = c.split_nodes-above.ensures.still (flat_node cmp o key b more c.if-self-eq0.false over_b full) in
-    let grown : ascending_headroom cmp c.split_nodes-above.new.self ≤ ascending_headroom cmp c.split_leaf.new.self = c.split_leaf.ensures.ascending (subst (IsLeafFull cmp key) (sym still) full) (subst (λ (x : Arenas g.row.K.Denot g.row.V.Denot). IsAbove cmp key (pairs_of x)) (sym still) over_b) (subst (λ (x : Arenas g.row.K.Denot g.row.V.Denot). 1 < ascending_headroom cmp x) (sym still) more) in
-    let to : ascending_headroom cmp c.split_nodes-above.new.self ≡ ascending_headroom cmp b = ap (ascending_headroom cmp) still in
+    let still : c.open_node.new.self ≡ b = c.in_ok-above.ensures.still (flat_node cmp o key b more c.if-self-eq0.false over_b full) in
+    let grown : ascending_headroom cmp c.open_node.new.self ≤ ascending_headroom cmp c.split_leaf.new.self = c.split_leaf.ensures.ascending (subst (IsLeafFull cmp key) (sym still) full) (subst (λ (x : Arenas g.row.K.Denot g.row.V.Denot). IsAbove cmp key (pairs_of x)) (sym still) over_b) (subst (λ (x : Arenas g.row.K.Denot g.row.V.Denot). 1 < ascending_headroom cmp x) (sym still) more) in
+    let to : ascending_headroom cmp c.open_node.new.self ≡ ascending_headroom cmp b = ap (ascending_headroom cmp) still in
     omega (arith, grown, to, same)
 
 pub returns-in_err-reserve-clause-pairs : goal.returns-in_err-reserve-clause-pairs
 returns-in_err-reserve-clause-pairs g c = roomier_pairs g.K.Ord.cmp c.args.self.now c.reserve.new.self c.args.self.now.nodes (ap (λ (s : Slab (Leaf g.row.K.Denot g.row.V.Denot)). s.slots) c.reserve.ensures.rest_kept) refl
 
-pub returns-in_err-reserve-2-clause-pairs : goal.returns-in_err-reserve-2-clause-pairs
-returns-in_err-reserve-2-clause-pairs g c = roomier_pairs g.K.Ord.cmp c.args.self.now c.reserve.new.self c.reserve-2.new.self (ap (λ (s : Slab (Leaf g.row.K.Denot g.row.V.Denot)). s.slots) c.reserve.ensures.rest_kept) (ap (λ (s : Slab (InnerNode g.row.K.Denot)). s.slots) c.reserve-2.ensures.rest_kept)
-
 pub returns-in_err-reserve-clause-refused : goal.returns-in_err-reserve-clause-refused
 returns-in_err-reserve-clause-refused g c = on_err c.from_residual-in_err-reserve.result refl
 
-pub returns-in_err-reserve-2-clause-refused : goal.returns-in_err-reserve-2-clause-refused
-returns-in_err-reserve-2-clause-refused g c = on_err c.from_residual-in_err-reserve-2.result refl
-
-pub split_nodes-above-requires-clause-lowest : goal.split_nodes-above-requires-clause-lowest
-split_nodes-above-requires-clause-lowest g c =
-    c.requires.above c.if-self-eq0.false ∙ sym (roomier_way g.K.Ord.cmp c.args.self.now c.reserve.new.self c.reserve-2.new.self (ap (λ (s : Slab (Leaf g.row.K.Denot g.row.V.Denot)). s.slots) c.reserve.ensures.rest_kept) (ap (λ (s : Slab (InnerNode g.row.K.Denot)). s.slots) c.reserve-2.ensures.rest_kept) c.args.key.now (c.args.self.now.height - 1))
+pub open_node-requires-clause-lowest : goal.open_node-requires-clause-lowest
+open_node-requires-clause-lowest g c =
+    c.requires.above c.if-self-eq0.false ∙ sym (roomier_way g.K.Ord.cmp c.args.self.now c.reserve.new.self c.args.self.now.nodes (ap (λ (s : Slab (Leaf g.row.K.Denot g.row.V.Denot)). s.slots) c.reserve.ensures.rest_kept) refl c.args.key.now (c.args.self.now.height - 1))
 
 pub split_leaf-requires-clause-on : goal.split_leaf-requires-clause-on
 split_leaf-requires-clause-on g c =
-    c.requires.on ∙ sym (roomier_way g.K.Ord.cmp c.args.self.now c.reserve.new.self c.reserve-2.new.self (ap (λ (s : Slab (Leaf g.row.K.Denot g.row.V.Denot)). s.slots) c.reserve.ensures.rest_kept) (ap (λ (s : Slab (InnerNode g.row.K.Denot)). s.slots) c.reserve-2.ensures.rest_kept) c.args.key.now c.args.self.now.height) ∙ sym c.split_nodes-above.ensures.leaf
+    c.requires.on ∙ sym (roomier_way g.K.Ord.cmp c.args.self.now c.reserve.new.self c.args.self.now.nodes (ap (λ (s : Slab (Leaf g.row.K.Denot g.row.V.Denot)). s.slots) c.reserve.ensures.rest_kept) refl c.args.key.now c.args.self.now.height) ∙ sym c.open_node.ensures.leaf
 
 pub split_leaf-requires-clause-split_point : goal.split_leaf-requires-clause-split_point
 split_leaf-requires-clause-split_point g c =
-    roomier_split g.K.Ord.cmp c.args.self.now c.reserve.new.self c.reserve-2.new.self (ap (λ (s : Slab (Leaf g.row.K.Denot g.row.V.Denot)). s.slots) c.reserve.ensures.rest_kept) (ap (λ (s : Slab (InnerNode g.row.K.Denot)). s.slots) c.reserve-2.ensures.rest_kept) c.args.key.now c.split_nodes-above.new.self c.in_ok-split_point.split_point c.split_nodes-above.ensures.leaves c.split_nodes-above.ensures.leaf c.in_ok-split_point.ensures
+    roomier_split g.K.Ord.cmp c.args.self.now c.reserve.new.self c.args.self.now.nodes (ap (λ (s : Slab (Leaf g.row.K.Denot g.row.V.Denot)). s.slots) c.reserve.ensures.rest_kept) refl c.args.key.now c.open_node.new.self c.in_ok-split_point.split_point c.open_node.ensures.leaves c.open_node.ensures.leaf c.in_ok-split_point.ensures
 
 pub split_leaf-requires-clause-room : goal.split_leaf-requires-clause-room
-split_leaf-requires-clause-room g c = subst (λ (s : Slab (Leaf g.row.K.Denot g.row.V.Denot)). HasRoomFor s 1) (sym c.split_nodes-above.ensures.leaves) c.in_ok-reserve.ensures.room
+split_leaf-requires-clause-room g c = subst (λ (s : Slab (Leaf g.row.K.Denot g.row.V.Denot)). HasRoomFor s 1) (sym c.open_node.ensures.leaves) c.in_ok-reserve.ensures.room
 
 pub returns-then-self-eq0-clause-ascending : goal.returns-then-self-eq0-clause-ascending
 returns-then-self-eq0-clause-ascending g c = on_ok c.init_root.result (λ more above some. more) c.init_root.ensures.ascending
 
 pub split_leaf-requires-clause-parent : goal.split_leaf-requires-clause-parent
-split_leaf-requires-clause-parent g c = c.split_nodes-above.ensures.room
+split_leaf-requires-clause-parent g c = c.in_ok-above.ensures.room
 
 pub split_leaf-requires-clause-lowest : goal.split_leaf-requires-clause-lowest
-split_leaf-requires-clause-lowest g c = c.split_nodes-above.ensures.lowest
+split_leaf-requires-clause-lowest g c = c.in_ok-above.ensures.lowest
 
 pub pack-requires-clause-sparse : goal.pack-requires-clause-sparse
 pack-requires-clause-sparse g c = IfSome_then (get c.args.self.now.leaves (leaf_on_way g.K.Ord.cmp c.args.key.now c.args.self.now)) c.is_crowded.ensures.crowded (λ l e. sparse_are_fewer _ 12 (sym e ∙ c.if-not-is_crowded.true))
@@ -94,8 +79,7 @@ pack-requires-clause-sparse g c = IfSome_then (get c.args.self.now.leaves (leaf_
 pub split_point-requires-clause-crowded : goal.split_point-requires-clause-crowded
 split_point-requires-clause-crowded g c = IfSome_then (get c.args.self.now.leaves (leaf_on_way g.K.Ord.cmp c.args.key.now c.args.self.now)) c.is_crowded.ensures.crowded (λ l e. crowded_are_as_many _ 12 (sym e ∙ c.if-not-is_crowded.false))
 
-pub split_nodes-above-requires-clause-short : goal.split_nodes-above-requires-clause-short
-split_nodes-above-requires-clause-short g c = c.in-Some.ensures.0
 
-pub split_nodes-above-requires-clause-nodes : goal.split_nodes-above-requires-clause-nodes
-split_nodes-above-requires-clause-nodes g c = subst (HasRoomFor c.reserve-2.new.self) c.in-Some.ensures.1 c.in_ok-reserve-2.ensures.room
+pub returns-in_err-above-clause-pairs : goal.returns-in_err-above-clause-pairs
+returns-in_err-above-clause-pairs g c =
+    c.open_node.ensures.pairs ∙ roomier_pairs g.K.Ord.cmp c.args.self.now c.reserve.new.self c.args.self.now.nodes (ap (λ (s : Slab (Leaf g.row.K.Denot g.row.V.Denot)). s.slots) c.reserve.ensures.rest_kept) refl

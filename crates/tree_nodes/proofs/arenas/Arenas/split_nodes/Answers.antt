@@ -1,9 +1,7 @@
-use Rattle.std.proofs.Common.{◌≡◌, ◌+◌, ◌-◌, refl, sym, ap, ◌∙◌, subst, arith}
+use Rattle.std.proofs.Common.{◌≡◌, ◌+◌, ◌-◌, sym, ap, ◌∙◌, subst, arith}
 use Rattle.slab.specs.Slab.{slab_len}
-use Rattle.tree_nodes.specs.declared.node.InnerNode.{InnerNode}
 use Rattle.tree_nodes.specs.declared.arenas.Arenas.{Arenas}
 use Rattle.tree_nodes.specs.Content.{pairs_of, IsSound, NodeHasRoom, leaf_on_way}
-use Rattle.tree_nodes.proofs.WayLemmas.{some_same}
 use Rattle.tree_nodes.proofs.arenas.Arenas.split_nodes.Goals.{then-is_full, else-is_full}
 use Rattle.tree_nodes.proofs.arenas.Arenas.split_nodes.Goals as goal
 
@@ -67,21 +65,13 @@ loop-left-init g c =
             leaf = ap (leaf_on_way cmp key) w.self-is;
             least = omega (arith, height, c.requires.planted);
             most = omega arith;
-            room = subst (λ (a : Arenas g.row.K.Denot g.row.V.Denot). NodeHasRoom cmp key a a.height) (sym w.self-is) (c.is_full-2.ensures.room w.if-is_full.false);
+            room = subst (λ (a : Arenas g.row.K.Denot g.row.V.Denot). NodeHasRoom cmp key a a.height) (sym w.self-is) (c.is_full.ensures.room w.if-is_full.false);
             nodes = omega (arith, c.requires.nodes, height, used, capacity);
           }
     ]
 
 pub returns-clause-lowest : goal.returns-clause-lowest
 returns-clause-lowest g c = c.node_at-2.ensures
-
--- the lowest node was full, so it had no room
-pub returns-clause-still : goal.returns-clause-still
-returns-clause-still g c room =
-    let full = c.if-not-is_full.ensures.full refl in
-    let same : full.node ≡ room.node = some_same (sym full.there ∙ room.there) in
-    let used = ap (λ (n : InnerNode g.row.K.Denot). n.children.used) same in
-    absurd (omega (arith, full.full, room.room, used))
 
 pub returns-clause-room : goal.returns-clause-room
 returns-clause-room g c =
