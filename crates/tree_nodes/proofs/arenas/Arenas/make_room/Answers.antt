@@ -79,7 +79,6 @@ pack-requires-clause-sparse g c = IfSome_then (get c.args.self.now.leaves (leaf_
 pub split_point-requires-clause-crowded : goal.split_point-requires-clause-crowded
 split_point-requires-clause-crowded g c = IfSome_then (get c.args.self.now.leaves (leaf_on_way g.K.Ord.cmp c.args.key.now c.args.self.now)) c.is_crowded.ensures.crowded (λ l e. crowded_are_as_many _ 12 (sym e ∙ c.if-not-is_crowded.false))
 
-
 pub returns-in_err-above-clause-pairs : goal.returns-in_err-above-clause-pairs
 returns-in_err-above-clause-pairs g c =
     c.open_node.ensures.pairs ∙ roomier_pairs g.K.Ord.cmp c.args.self.now c.reserve.new.self c.args.self.now.nodes (ap (λ (s : Slab (Leaf g.row.K.Denot g.row.V.Denot)). s.slots) c.reserve.ensures.rest_kept) refl
