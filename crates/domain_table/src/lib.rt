@@ -18,7 +18,6 @@ pub mod leases;
 pub mod ledger;
 pub mod left;
 pub mod links;
-pub mod lives;
 pub mod loading;
 pub mod owners;
 pub mod placing;

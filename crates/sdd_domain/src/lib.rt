@@ -16,6 +16,7 @@ pub mod held;
 pub mod holding;
 pub mod holds;
 pub mod laws;
+mod lives;
 pub mod local;
 pub mod plain;
 pub mod pointer;

@@ -80,7 +80,9 @@ fn give_up<T: Holds>(
     item.end();
 }
 
-/// Reclaims all that is due, of what the participant retired, and releases what these items held.
+/// Reclaims all that is due, of what the participant retired, and releases what these items held. It is compiled into its
+/// callers, which do little else.
+#[inline(always)]
 pub(crate) fn reclaim_due<T: Holds>(
     words: &Words<T>,
     seat: &mut Seat<T>,
