@@ -8,10 +8,12 @@ use Rattle.sdd_domain.specs.Tokens.{home_of}
 use Rattle.sdd_domain.specs.declared.local.Local.{Local}
 use Rattle.sdd_domain.specs.declared.shared.Shared.{Shared}
 use Rattle.shared_containers.specs.Outcomes.{IsPlaced}
+use Rattle.shared_containers.specs.declared.bag.Bag.{Bag}
 use Rattle.shared_containers.specs.declared.queue.Queue.{Queue}
 use Rattle.shared_containers.specs.declared.stack.Stack.{Stack}
-use Rattle.shared_lists.specs.Lists.{IsLinkOf}
+use Rattle.shared_lists.specs.Lists.{IsCellAt, IsLinkOf}
 use Rattle.shared_lists.specs.declared.links.Links.{Links}
+use Rattle.shared_lists.specs.declared.links.Row.{Row}
 
 -- its last two steps on cells: it left in the one cell what the other one was then found to name, another item or none, and there this owner's item
 abbrev pub HasPutBy : {T : Type 0} → Local T → ℕ → ℕ → Shared T → Local T → Type 0
@@ -58,6 +60,18 @@ HasAppended old q links s xs new = (ys : List CellStep) × (cell : ℕ) × (w : 
 abbrev pub HasAppendedClear : {T : Type 0} → Local T → Queue T → Links T → Shared T → Local T → Type 0
 HasAppendedClear old q links s new = (xs : List CellStep) × Clears old links s xs × HasAppended old q links s xs new
 
+-- its last step on cells found nothing in this one, and no tag, and left this owner's item there
+abbrev pub HasFilledLast : {T : Type 0} → Local T → ℕ → Shared T → Local T → Type 0
+HasFilledLast old cell s new = (xs : List CellStep) × (w : ℕ) × (v : ℕ) × NamesWith w 0 0 × NamesWith v 0 (owner_code (Some s)) × HasMade old (xs ++ step_on old cell w v ∷ []) new
+
+-- the same of one of the cells of a row
+abbrev pub HasFilledOneOf : {T : Type 0} → Local T → Row T → Shared T → Local T → Type 0
+HasFilledOneOf old row s new = (i : ℕ) × (cell : ℕ) × IsCellAt row i cell × HasFilledLast old cell s new
+
+-- it filled a place of the bag's primary, or put this owner's item in front of its overflow
+abbrev pub HasPutInto : {T : Type 0} → {n : ℕ} → Local T → Bag T n → Links T → Shared T → Local T → Type 0
+HasPutInto old bag links s new = HasFilledOneOf old bag.primary s new ⊎ HasPutBefore old links (cell_number bag.overflow.first) s new
+
 -- by an owner of an item with this value, that was put in front of a stack
 abbrev pub HasPushed : {T : Type 0} → Local T → Stack T → Links T → T → TableId → Local T → Type 0
 HasPushed {T} old stack links value place new = (s : Shared T) × IsPlaced s value place × HasPutBefore old links (cell_number stack.first) s new
@@ -65,3 +79,11 @@ HasPushed {T} old stack links value place new = (s : Shared T) × IsPlaced s val
 -- or appended to a queue
 abbrev pub HasPushedLast : {T : Type 0} → Local T → Queue T → Links T → T → TableId → Local T → Type 0
 HasPushedLast {T} old q links value place new = (s : Shared T) × IsPlaced s value place × HasAppendedClear old q links s new
+
+-- or into a bag
+abbrev pub HasPushedInto : {T : Type 0} → {n : ℕ} → Local T → Bag T n → Links T → T → TableId → Local T → Type 0
+HasPushedInto {T} old bag links value place new = (s : Shared T) × IsPlaced s value place × HasPutInto old bag links s new
+
+-- or into the primary of one
+abbrev pub HasPushedIntoPrimary : {T : Type 0} → {n : ℕ} → Local T → Bag T n → T → TableId → Local T → Type 0
+HasPushedIntoPrimary {T} old bag value place new = (s : Shared T) × IsPlaced s value place × HasFilledOneOf old bag.primary s new

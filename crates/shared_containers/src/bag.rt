@@ -1,12 +1,13 @@
 //! Bags without locks: a row of places for a value each, and a stack for what has no room there.
 
-ghost use Rattle.std.specs.Prelude.{◌≡◌, ◌<◌, ℕ, [], IfOk, IfErr, IfSome};
+ghost use Rattle.std.specs.Prelude.{◌≡◌, ◌<◌, ℕ, [], OnOk, IfOk, IfErr, IfNone, IfSome};
 ghost use Rattle.sdd_domain.specs.Cells.{cell_number};
 ghost use Rattle.sdd_domain.specs.CellSteps.{HasMadeSome};
 ghost use Rattle.sdd_domain.specs.Sharing.{kept_in, IsOwnerOf};
 ghost use Rattle.sdd_domain.specs.Tokens.{place_of, home_of, own_of, cell_count, IsInNest};
 ghost use Rattle.shared_containers.specs.Containers.{AreLinksOf, IsBagOf, IsAsBefore, IsReady, IsOpenIn, IsStill};
-ghost use Rattle.shared_containers.specs.Outcomes.{Gives, IfPartly, IfUnmade, IsRefused};
+ghost use Rattle.shared_containers.specs.Outcomes.{Gives, IfPartly, IfUnmade, IsBackIn, IsRefused};
+ghost use Rattle.shared_containers.specs.Put.{HasFilledLast, HasFilledOneOf, HasPutInto, HasPushedInto, HasPushedIntoPrimary};
 ghost use Rattle.shared_containers.specs.Taken.{HasPoppedOf, HasTakenOut, IsCellAt};
 ghost use Rattle.std.specs.Iterator.{IsFiniteIterable};
 
@@ -111,6 +112,7 @@ impl<T: Holds, const ARRAY_LEN: usize> Bag<T, ARRAY_LEN> {
     fn taken(&self, domain: &Domain<T>, local: &mut Local<T>) -> usize
         requires home { home_of local.old ≡ place_of domain.now }
         requires bag { IsBagOf self.now domain.now }
+        ensures some { HasMadeSome local.old local.new }
         ensures same { IsInNest local.old local.new × (own_of local.new ≡ own_of local.old) }
     {
         let mut taken = 0usize;
@@ -136,10 +138,29 @@ impl<T: Holds, const ARRAY_LEN: usize> Bag<T, ARRAY_LEN> {
         requires ready { IsReady local.old domain.now }
         requires bag { IsBagOf self.now domain.now × AreLinksOf links.now domain.now }
         requires holds { T.holds value ≡ [] }
+        ensures put { OnOk result (HasPushedInto local.old self.now links.now value (place_of domain.now).0 local.new) }
         ensures refused { IfErr result (λ r. IsRefused r value (place_of domain.now).0 ⊥ ⊥) }
         ensures same { IsAsBefore local.old local.new }
     {
         let owner = place(domain, value, local)?;
+        self.insert(domain, owner, links, local)
+    }
+
+    /// Puts an owner's item into the primary, or into the overflow where no place was free.
+    fn insert(
+        &self,
+        domain: &Domain<T>,
+        owner: Shared<T>,
+        links: &Links<T>,
+        local: &mut Local<T>,
+    ) -> Result<(), PushRefused<T>>
+        requires ready { IsReady local.old domain.now }
+        requires mine { kept_in owner ≡ (place_of domain.now).0 }
+        requires bag { IsBagOf self.now domain.now × AreLinksOf links.now domain.now }
+        ensures put { OnOk result (HasPutInto local.old self.now links.now owner local.new) }
+        ensures refused { (x : T) → IsOwnerOf owner x → IfErr result (λ r. IsRefused r x (place_of domain.now).0 ⊥ ⊥) }
+        ensures same { IsAsBefore local.old local.new }
+    {
         match self.keep(domain, owner, local) {
             Some(back) => self.overflow.insert(domain, back, &|_| true, links, local),
             None => Ok(()),
@@ -157,6 +178,7 @@ impl<T: Holds, const ARRAY_LEN: usize> Bag<T, ARRAY_LEN> {
         requires ready { IsReady local.old domain.now }
         requires bag { IsBagOf self.now domain.now }
         requires holds { T.holds value ≡ [] }
+        ensures put { OnOk result (HasPushedIntoPrimary local.old self.now value (place_of domain.now).0 local.new) }
         ensures refused { IfErr result (λ r. IsRefused r value (place_of domain.now).0 ⊥ (Unit {0})) }
         ensures same { IsAsBefore local.old local.new }
     {
@@ -175,7 +197,9 @@ impl<T: Holds, const ARRAY_LEN: usize> Bag<T, ARRAY_LEN> {
         requires ready { IsReady local.old domain.now }
         requires bag { IsBagOf self.now domain.now }
         requires mine { kept_in owner ≡ (place_of domain.now).0 }
-        ensures back { IfSome result (λ s. (kept_in s ≡ (place_of domain.now).0) × ((x : T) → IsOwnerOf owner x → IsOwnerOf s x)) }
+        ensures back { IfSome result (λ s. IsBackIn s owner (place_of domain.now).0) }
+        ensures put { IfNone result (HasFilledOneOf local.old self.now.primary owner local.new) }
+        ensures some { HasMadeSome local.old local.new }
         ensures same { IsAsBefore local.old local.new }
     {
         let Ok(guard) = Guard::new(domain, local) else {
@@ -197,7 +221,9 @@ impl<T: Holds, const ARRAY_LEN: usize> Bag<T, ARRAY_LEN> {
         requires open { IsOpenIn guard.now local.old domain.now }
         requires bag { IsBagOf self.now domain.now }
         requires mine { kept_in owner ≡ (place_of domain.now).0 }
-        ensures back { IfSome result (λ s. (kept_in s ≡ (place_of domain.now).0) × ((x : T) → IsOwnerOf owner x → IsOwnerOf s x)) }
+        ensures back { IfSome result (λ s. IsBackIn s owner (place_of domain.now).0) }
+        ensures put { IfNone result (HasFilledOneOf local.old self.now.primary owner local.new) }
+        ensures some { HasMadeSome local.old local.new }
         ensures same { IsStill local.old local.new }
     {
         let mut owner = owner;
@@ -205,8 +231,9 @@ impl<T: Holds, const ARRAY_LEN: usize> Bag<T, ARRAY_LEN> {
             let Some(cell) = self.primary.at(i) else {
                 break;
             };
-            if cell.is_null(domain, local) {
-                owner = exchange(domain, cell, Ptr::null(), owner, guard, local)?;
+            match fill(domain, cell, owner, guard, local) {
+                Some(back) => owner = back,
+                None => return None,
             }
         }
         Some(owner)
@@ -290,6 +317,28 @@ impl<T: Holds, const ARRAY_LEN: usize> Bag<T, ARRAY_LEN> {
         overflow.end(domain, links, local);
         primary.end(domain, local);
     }
+}
+
+/// Puts an owner's item into a cell, unless that is found taken. Else the item's owner is back.
+fn fill<T: Holds>(
+    domain: &Domain<T>,
+    cell: &AtomicShared<T>,
+    owner: Shared<T>,
+    guard: &Guard,
+    local: &mut Local<T>,
+) -> Option<Shared<T>>
+    requires open { IsOpenIn guard.now local.old domain.now }
+    requires inside { cell_number cell.now < cell_count domain.now }
+    requires mine { kept_in owner ≡ (place_of domain.now).0 }
+    ensures back { IfSome result (λ s. IsBackIn s owner (place_of domain.now).0) }
+    ensures put { IfNone result (HasFilledLast local.old (cell_number cell.now) owner local.new) }
+    ensures some { HasMadeSome local.old local.new }
+    ensures same { IsStill local.old local.new }
+{
+    if !cell.is_null(domain, local) {
+        return Some(owner);
+    }
+    exchange(domain, cell, Ptr::null(), owner, guard, local)
 }
 
 /// Takes the item out of a cell, if it has one, by a swap with nothing.
