@@ -1,15 +1,17 @@
 //! Entries in hand: written, cloned, and owners of entries that are given back at once.
 
-ghost use Rattle.std.specs.Prelude.{◌≡◌, ◌<◌, ◌≤◌, [], length};
+ghost use Rattle.std.specs.Prelude.{◌≡◌, ◌<◌, ◌≤◌, [], length, false, true};
 ghost use Rattle.sdd_world.specs.Place.{IsOpen};
 ghost use Rattle.world_containers.specs.Entries.{entry_value, entry_link};
-ghost use Rattle.sdd_world.specs.Tokens.{shared_slot};
-ghost use Rattle.world_containers.specs.Chain.{Leaves, Stays};
+ghost use Rattle.sdd_world.specs.Tokens.{ptr_slot, shared_slot};
+ghost use Rattle.world_containers.specs.Chain.{Entry, Leaves, Stays, deleted};
+ghost use Rattle.world_containers.specs.Nodes.{NamesEntry};
 ghost use Rattle.world_containers.specs.Stacks.{IsMade};
 
 use crate::places::{close, end, give, guarded, place_of};
 use sdd_world::guard::WorldGuard;
 use sdd_world::owner::Shared;
+use sdd_world::pointer::Ptr;
 use sdd_world::tag::Tag;
 use sdd_world::world as place;
 use sdd_world::world::World;
@@ -138,6 +140,48 @@ fn an_entry_comes_back_from_behind_a_deleted_one(rt: HostRuntime) {
     close(&rt, &mut w, guard);
     end(&rt, w);
     assert!(rt; back == 2);
+}
+
+/// What a deletion answers where the entry that `at` names is deleted already. The place stays as it was.
+fn delete_again(w: &mut World<LinkedEntry<u64>>, at: Ptr<'static, LinkedEntry<u64>>) -> bool
+    requires { (e : Entry _) × NamesEntry entry_link w.old (ptr_slot at) e × (deleted e.tag ≡ true) }
+    ensures refused { result ≡ false }
+    ensures kept { w.new ≡ w.old }
+{
+    world::linked_list::delete_self(w, at)
+}
+
+/// Deletes an entry twice: the second answer, and whether the entry is deleted then. It ends.
+fn deleted_twice<R: Abort>(
+    rt: &R,
+    w: &mut World<LinkedEntry<u64>>,
+    guard: &WorldGuard,
+) -> (bool, bool)
+    requires { 0 < length w.old.participants }
+    ensures participant { 0 < length w.new.participants }
+    ensures open { IsOpen w.old 0 → IsOpen w.new 0 }
+{
+    let entry = made(rt, w, 1);
+    let at = place::shared::get_guarded_ptr(&entry, guard);
+    if !world::linked_list::delete_self(w, at) {
+        panic!(rt; "it wasn't deleted before");
+    }
+    let deleted = place::shared::get_guarded_ptr(&entry, guard);
+    let again = delete_again(w, deleted);
+    let still = place::shared::get_guarded_ptr(&entry, guard);
+    let is_deleted = world::linked_list::is_deleted(w, still);
+    give(rt, w, entry);
+    (again, is_deleted)
+}
+
+#[test]
+fn a_deleted_entry_is_deleted_once(rt: HostRuntime) {
+    let mut w = place_of(&rt, rt.alloc(), 1, 2);
+    let guard = guarded(&rt, &mut w);
+    let found = deleted_twice(&rt, &mut w, &guard);
+    close(&rt, &mut w, guard);
+    end(&rt, w);
+    assert!(rt; found == (false, true));
 }
 
 #[test]
