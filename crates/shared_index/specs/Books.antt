@@ -1,7 +1,13 @@
 -- what is seen of a book, and what its calls may answer
-use Rattle.std.specs.Prelude.{◌≡◌, ◌≢◌, ℕ, ◌+◌, ◌<◌, List}
+use Rattle.std.specs.Prelude.{◌≡◌, ◌≢◌, ℕ, ◌+◌, ◌<◌, List, ◌++◌, ◌∷◌, []}
 use Rattle.std.specs.declared.cmp.Ordering.{Ordering}
 use Rattle.std.specs.List.{All}
+use Rattle.atomic_table.specs.Seated.{TableId}
+use Rattle.sdd_plain.specs.declared.sizes.Sizes.{Sizes}
+use Rattle.sdd_domain.specs.CellSteps.{CellStep, NamesWith, step_on}
+use Rattle.sdd_domain.specs.Tokens.{home_of}
+use Rattle.sdd_domain.specs.declared.local.Local.{Local}
+use Rattle.shared_versions.specs.declared.node.Node.{Node}
 use Rattle.version_views.specs.Writes.{replies_to}
 use Rattle.version_views.specs.declared.write.Write.{Write}
 use Rattle.version_views.specs.declared.write.WriteRefused.{WriteRefused}
@@ -18,13 +24,14 @@ use Rattle.serial_history.specs.declared.commit.CheckpointRefused.TheVariants as
 use Rattle.shared_index.specs.declared.book.NewRefused.{NewRefused}
 use Rattle.shared_index.specs.declared.book.NewRefused.TheVariants as news
 
--- the base, the transactions that were accepted since, the last number, and how often the participant who acts for the book
--- was refused a slot, a cell or one more owner
+-- the base, the transactions that were accepted since, the last number, and of the participant who acts for the book, how often
+-- it was refused a slot, a cell or one more owner, and its steps on cells
 pub record BookState (K V : Type 0) : Type 0 where
   pub base : Base K V
   pub history : List (Transaction K V)
   pub last : ℕ
   pub misses : ℕ
+  pub cell_steps : List CellStep
 
 -- what the misses are after a commit that was refused for this cause: one more for want of a slot, else as many
 abbrev pub misses_after : Cause → ℕ → ℕ
@@ -48,6 +55,10 @@ abbrev pub LiesOutside : ℕ → CheckpointRefused → Type 0
 LiesOutside upto (checkpoints.Behind number) = upto < number
 LiesOutside upto (checkpoints.Ahead number) = number < upto
 LiesOutside upto checkpoints.Memory = Unit {0}
+
+-- The one step on a cell since, by a participant of this place, left an item in this cell, without a tag.
+abbrev pub HasPutItem : {K V : Type 0} → TableId × Sizes → ℕ → (old new : BookState K V) → Type 0
+HasPutItem {K} {V} place cell old new = (l : Local (Node K V)) × (w : ℕ) × (v : ℕ) × (k : ℕ) × (home_of l ≡ place) × NamesWith v 0 (k + 1) × (new.cell_steps ≡ old.cell_steps ++ step_on l cell w v ∷ [])
 
 -- the number of the present list
 abbrev pub number_of : {K V : Type 0} → BookState K V → ℕ

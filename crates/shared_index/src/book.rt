@@ -7,7 +7,7 @@ ghost use Rattle.leaf_array.specs.Pairs.{IsAscending};
 ghost use Rattle.serial_history.specs.Serial.{HasNumber, Holds, IsFirstConflict, IsSerial, RefusesCheckpoint, base_at, history_behind};
 ghost use Rattle.sdd_domain.specs.Cells.{cell_number};
 ghost use Rattle.sdd_domain.specs.Tokens.{place_of, misses_of, cell_count};
-ghost use Rattle.shared_index.specs.Books.{CanCommit, CanRefuse, IsAuditOf, list_after, misses_after, misses_without, next_transaction, number_of, present_list};
+ghost use Rattle.shared_index.specs.Books.{CanCommit, CanRefuse, HasPutItem, IsAuditOf, list_after, misses_after, misses_without, next_transaction, number_of, present_list};
 ghost use Rattle.shared_index.specs.SharedInvariant.{IsUnengaged};
 ghost use Rattle.version_views.specs.Writes.{replies_to};
 
@@ -50,8 +50,8 @@ pub enum NewRefused {
 /// The history of accepted commits from a base on, and the present version, as the one who commits has them: with the
 /// participant of the place who acts for it, and the ledger of all shares.
 ///
-/// Contracts see the base, the history, the last number, and how often that participant was refused a slot, a cell or one more owner: its
-/// misses. A book must be consumed by [`end`](Book::end).
+/// Contracts see the base, the history and the last number; and of that participant how often it was refused a slot, a cell or one
+/// more owner, its misses, and its steps on cells. A book must be consumed by [`end`](Book::end).
 pub struct Book<L: Naming, K: Clone + Ord, V: Clone + Eq, const S: usize> {
     alloc: Global,
     local: Local<Node<K, V>>,
@@ -66,13 +66,14 @@ pub struct Book<L: Naming, K: Clone + Ord, V: Clone + Eq, const S: usize> {
 /// Invariant: specs/SharedInvariant.antt. The participant is at rest; the history is a serial run from the base on; the present
 /// version has the list that it leaves, and the number that the ledger counts; the last number is the named one.
 impl<L: Naming, K: Clone + Ord, V: Clone + Eq, const S: usize> Model for Book<L, K, V, S> {
+    ghost use Rattle.sdd_domain.specs.CellSteps.{cell_steps_of};
     ghost use Rattle.sdd_domain.specs.Tokens.{misses_of};
     ghost use Rattle.shared_index.specs.Books.{BookState};
     ghost use Rattle.shared_index.specs.SharedInvariant.{IsUnengaged, IsHistory, IsLatest, HasBounds};
 
     ghost Value = { BookState K V };
 
-    ghost view = { λ b. record { base = b.base; history = b.history.items; last = b.last; misses = misses_of b.local } };
+    ghost view = { λ b. record { base = b.base; history = b.history.items; last = b.last; misses = misses_of b.local; cell_steps = cell_steps_of b.local } };
 
     ghost invariant = { λ b. IsUnengaged L.place b.local × IsLatest K.cmp L.place b.present b.base b.history.items × IsHistory K.cmp b.base b.history.items b.last b.ledger.total × HasBounds S b.last L.last };
 }
@@ -98,7 +99,7 @@ impl<L: Naming, K: Clone + Ord, V: Clone + Eq, const S: usize> Book<L, K, V, S> 
         requires name { blank.name ≡ L.name }
         requires parts { (blank.parts ≡ L.parts) × (blank.parts ≡ shares) }
         requires last { last ≡ L.last }
-        ensures book { IfOk result (λ made. made.0 ≡ record { base = record { number = 0; pairs = [] }; history = []; last = last; misses = misses_of local }) }
+        ensures book { IfOk result (λ made. made.0 ≡ record { base = record { number = 0; pairs = [] }; history = []; last = last; misses = misses_of local; cell_steps = made.0.cell_steps }) }
         ensures root { IfOk result (λ made. cell_number made.1 < cell_count domain.now) }
         ensures shares { IfOk result (λ made. made.2.items ≡ replicate shares 0) }
         ensures local { IfErr result (λ back. IsUnengaged L.place back.0) }
@@ -171,7 +172,8 @@ impl<L: Naming, K: Clone + Ord, V: Clone + Eq, const S: usize> Book<L, K, V, S> 
     /// The causes are decided in this order: `Conflict` with the first read whose answer isn't that of the present list,
     /// whatever its number; `Exhausted` at the last number; `Memory`; `NoSlot`, where the place has too few free slots for the
     /// new version: what was placed until then waits to be reclaimed. A commit is refused as `NoSlot` only where the participant
-    /// missed a slot or one more owner in it, once.
+    /// missed a slot or one more owner in it, once. An accepted commit makes one step on a cell, the one that it is given; a
+    /// refused one makes none.
     pub fn commit(
         &mut self,
         domain: &Domain<Node<K, V>>,
@@ -187,7 +189,8 @@ impl<L: Naming, K: Clone + Ord, V: Clone + Eq, const S: usize> Book<L, K, V, S> 
         requires equal_keys { EqualsAreSame K.eq }
         requires equal_values { EqualsAreSame V.eq }
         ensures can { OnOk result (CanCommit K.cmp self.old receipt.now.reads) }
-        ensures added { OnOk result (self.new ≡ record self.old { history = self.old.history ++ next_transaction K.cmp self.old receipt.now.reads writes.items ∷ [] }) }
+        ensures added { OnOk result (self.new ≡ record self.old { history = self.old.history ++ next_transaction K.cmp self.old receipt.now.reads writes.items ∷ []; cell_steps = self.new.cell_steps }) }
+        ensures published { OnOk result (HasPutItem L.place (cell_number root.now) self.old self.new) }
         ensures number { IfOk result (λ told. told.number ≡ number_of self.old + 1) }
         ensures last { IfOk result (λ told. told.number ≤ L.last) }
         ensures replies { IfOk result (λ told. told.replies.items ≡ replies_to K.cmp writes.items (present_list K.cmp self.old)) }
@@ -369,7 +372,8 @@ impl<L: Naming, K: Clone + Ord, V: Clone + Eq, const S: usize> Book<L, K, V, S> 
         requires fits { length writes.items ≤ vec_capacity prepared.replies }
         requires can { CanCommit K.cmp self.old prepared.reads }
         ensures told { IfOk result (λ told. told.items ≡ replies_to K.cmp writes.items (present_list K.cmp self.old)) }
-        ensures added { OnOk result (self.new ≡ record self.old { history = self.old.history ++ next_transaction K.cmp self.old prepared.reads writes.items ∷ [] }) }
+        ensures added { OnOk result (self.new ≡ record self.old { history = self.old.history ++ next_transaction K.cmp self.old prepared.reads writes.items ∷ []; cell_steps = self.new.cell_steps }) }
+        ensures published { OnOk result (HasPutItem L.place (cell_number root.now) self.old self.new) }
         ensures counted { OnOk result (share.new ≡ share.old + 1) }
         ensures cause { IfErr result (λ back. CanRefuse K.cmp self.old prepared.reads back.cause) }
         ensures missed { IfErr result (λ back. self.new.misses ≡ misses_after back.cause self.old.misses) }

@@ -4,6 +4,7 @@ ghost use Rattle.std.specs.Prelude.{◌≡◌, ◌≤◌, ◌<◌, ◌+◌, ◌-
 ghost use Rattle.leaf_array.specs.Pairs.{IsAscending};
 ghost use Rattle.leaf_array.specs.Values.{ClonesAreSame};
 ghost use Rattle.sdd_domain.specs.Cells.{cell_number};
+ghost use Rattle.sdd_domain.specs.CellSteps.{StepsOnNoCell};
 ghost use Rattle.sdd_domain.specs.Tokens.{place_of, home_of, hand_of, misses_of, cell_count};
 ghost use Rattle.shared_versions.specs.Drafts.{list_of};
 ghost use Rattle.shared_versions.specs.Placing.{HasPublished, IsOwnedIn, IsStillButMisses};
@@ -44,6 +45,7 @@ pub(crate) fn install<K: Clone + Ord, V: Clone, const S: usize>(
     ensures told { IfOk result (λ told. told.items ≡ replies_to K.cmp writes.now (list_of present.old.version)) }
     ensures published { OnOk result (HasPublished local.old (cell_number root.now) present.new.version local.new) }
     ensures refused { OnErr result (present.new ≡ present.old) }
+    ensures cells { OnErr result (StepsOnNoCell local.old local.new) }
     ensures hand { hand_of local.new ≡ [] }
     ensures hit { OnOk result (misses_of local.new ≡ misses_of local.old) }
     ensures missed { IfErr result (λ cause. misses_of local.new ≡ misses_told cause (misses_of local.old)) }

@@ -4,7 +4,7 @@ use Rattle.std.specs.Mem.{manually_drop_value}
 use Rattle.std.specs.Option.{option_map}
 use Rattle.std.specs.Prelude.{◌≡◌, ◌≢◌, ℕ, ◌<◌, List, [], ◌∷◌, ◌++◌, map, set, get_or, Option, None, Some}
 use Rattle.atomic_table.specs.Seated.{TableId}
-use Rattle.sdd_domain.specs.CellSteps.{CellStep, HasStored, NamesWith, cell_steps_of, step_on}
+use Rattle.sdd_domain.specs.CellSteps.{HasStored}
 use Rattle.sdd_domain.specs.Comparing.{owner_code}
 use Rattle.sdd_domain.specs.Sharing.{kept_in}
 use Rattle.sdd_domain.specs.Tokens.{home_of, misses_of, nest_in, number_of, own_of}
@@ -43,9 +43,9 @@ module _ {K V : Type 0} where
   abbrev pub version_owned : Shared (Node K V) → Option (Sight K V)
   version_owned s = version_in (item_owned s)
 
-  -- its last step on a cell put an owner of this version into that cell of its place
+  -- its one step on a cell put an owner of this version into that cell of its place, without a tag
   abbrev pub HasPublished : Local (Node K V) → ℕ → Sight K V → Local (Node K V) → Type 0
-  HasPublished old cell version new = (s : Shared (Node K V)) × (version_owned s ≡ Some version) × (zs : List CellStep) × (w : ℕ) × (v : ℕ) × NamesWith v 0 (owner_code (Some s)) × (cell_steps_of new ≡ zs ++ step_on old cell w v ∷ [])
+  HasPublished old cell version new = (s : Shared (Node K V)) × (version_owned s ≡ Some version) × HasPut old cell s new
 
   -- the pairs of the segment that it owns
   abbrev pub pairs_owned : Shared (Node K V) → List (K × V)

@@ -2,6 +2,7 @@
 
 ghost use Rattle.std.specs.Prelude.{◌≡◌, ◌≤◌, [], length, map, reverse, vec_capacity};
 ghost use Rattle.std.specs.List.{All, AllPairs};
+ghost use Rattle.sdd_domain.specs.CellSteps.{StepsOnNoCell};
 ghost use Rattle.sdd_domain.specs.Tokens.{place_of, home_of, hand_of};
 ghost use Rattle.shared_versions.specs.Placing.{AreApart, IsKeptSegment, IsNewIn, IsStill, IsToKeep, IsWithinKept, moved_from, owner_of, pairs_kept, pairs_kept_at, pairs_to_keep, without};
 
@@ -40,6 +41,7 @@ pub(crate) fn keep_all<K: Ord + Drop, V: Drop>(
     ensures pairs { map pairs_kept kept.new.items ≡ reverse (map (pairs_to_keep (pairs_kept_at kept.old.items)) to_keep.items) }
     ensures hand { hand_of local.new ≡ hand_of local.old }
     ensures same { IsStill local.old local.new }
+    ensures cells { StepsOnNoCell local.old local.new }
 {
     let mut older = mem::replace(kept, room);
     'moving: while let Some(one) = to_keep.pop() {
@@ -71,6 +73,7 @@ pub(crate) fn release_new<K: Ord + Drop, V: Drop>(
     requires new { All (IsNewIn (place_of domain.now).0) to_keep.items }
     ensures hand { hand_of local.new ≡ hand_of local.old }
     ensures same { IsStill local.old local.new }
+    ensures cells { StepsOnNoCell local.old local.new }
 {
     'releasing: while let Some(one) = to_keep.pop() {
         match one {

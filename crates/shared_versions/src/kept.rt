@@ -2,6 +2,7 @@
 
 ghost use Rattle.std.specs.Prelude.{◌≡◌, ◌<◌, ◌+◌, [], IfSome, IfNone, length, map, get_or};
 ghost use Rattle.std.specs.List.{All};
+ghost use Rattle.sdd_domain.specs.CellSteps.{StepsOnNoCell};
 ghost use Rattle.sdd_domain.specs.Tokens.{place_of, home_of, hand_of, misses_of};
 ghost use Rattle.shared_versions.specs.Placing.{IsKeptSegment, IsLeft, IsSegmentOf, IsStill, IsStillButMisses, pairs_kept, pairs_owned};
 
@@ -32,6 +33,7 @@ pub(crate) fn clone_at<K: Ord + Drop, V: Drop>(
     ensures hit { IfSome result (λ _. misses_of local.new ≡ misses_of local.old) }
     ensures missed { IfNone result (misses_of local.new ≡ misses_of local.old + 1) }
     ensures same { IsStillButMisses local.old local.new }
+    ensures cells { StepsOnNoCell local.old local.new }
 {
     let Some(owner) = mem::replace(&mut kept[place], None) else {
         unreachable!();
@@ -58,6 +60,7 @@ fn clone_segment<K: Ord + Drop, V: Drop>(
     ensures hit { IfSome result.1 (λ _. misses_of local.new ≡ misses_of local.old) }
     ensures missed { IfNone result.1 (misses_of local.new ≡ misses_of local.old + 1) }
     ensures same { IsStillButMisses local.old local.new }
+    ensures cells { StepsOnNoCell local.old local.new }
 {
     match owner.clone(domain, local) {
         Ok((own, other)) => (own, Some(other)),
@@ -75,6 +78,7 @@ pub(crate) fn release_kept<K: Ord + Drop, V: Drop>(
     requires left { All (IsLeft (place_of domain.now).0) kept.items }
     ensures hand { hand_of local.new ≡ hand_of local.old }
     ensures same { IsStill local.old local.new }
+    ensures cells { StepsOnNoCell local.old local.new }
 {
     'releasing: while let Some(owner) = kept.pop() {
         match owner {

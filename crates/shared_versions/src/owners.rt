@@ -29,6 +29,7 @@ pub(crate) fn place_two<T: Holds>(
     ensures hit { OnOk result (misses_of local.new ≡ misses_of local.old) }
     ensures missed { OnErr result (misses_of local.new ≡ misses_of local.old + 1) }
     ensures same { IsStillButMisses local.old local.new }
+    ensures cells { StepsOnNoCell local.old local.new }
 {
     match Shared::new(domain, item, local) {
         Ok(owner) => match owner.clone(domain, local) {
@@ -48,6 +49,7 @@ pub(crate) fn take_back<T: Holds>(domain: &Domain<T>, mut item: T, local: &mut L
     requires hand { hand_of local.old ≡ T.holds item }
     ensures hand { hand_of local.new ≡ [] }
     ensures same { IsStill local.old local.new }
+    ensures cells { StepsOnNoCell local.old local.new }
 {
     'releasing: while let Some(owner) = item.give_up() {
         let _last = owner.own(domain, local).release(domain, local);

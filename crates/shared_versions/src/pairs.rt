@@ -2,6 +2,7 @@
 
 ghost use Rattle.std.specs.Prelude.{◌≡◌, ◌≤◌, ◌<◌, ◌+◌, [], IfSome, IfNone, length, map, reverse, vec_capacity};
 ghost use Rattle.std.specs.List.{All};
+ghost use Rattle.sdd_domain.specs.CellSteps.{StepsOnNoCell};
 ghost use Rattle.sdd_domain.specs.Holding.{all_told};
 ghost use Rattle.sdd_domain.specs.Tokens.{place_of, home_of, hand_of, misses_of};
 ghost use Rattle.version_drafts.specs.Parts.{blocks_of_parts, part_pairs};
@@ -36,6 +37,7 @@ fn place_segment<K: Ord + Drop, V: Drop>(
     ensures hit { IfSome result (λ _. misses_of local.new ≡ misses_of local.old) }
     ensures missed { IfNone result (misses_of local.new ≡ misses_of local.old + 1) }
     ensures same { IsStillButMisses local.old local.new }
+    ensures cells { StepsOnNoCell local.old local.new }
 {
     match place_two(domain, Node::Segment(segment), local) {
         Ok(both) => Some(both),
@@ -70,6 +72,7 @@ fn owner_for<K: Ord + Drop, V: Drop>(
     ensures hit { IfSome result (λ _. misses_of local.new ≡ misses_of local.old) }
     ensures missed { IfNone result (misses_of local.new ≡ misses_of local.old + 1) }
     ensures same { IsStillButMisses local.old local.new }
+    ensures cells { StepsOnNoCell local.old local.new }
 {
     match part {
         Part::Taken(place) => match clone_at(domain, kept, place, local) {
@@ -110,6 +113,7 @@ pub(crate) fn all_owners<K: Ord + Drop, V: Drop>(
     ensures hit { IfSome result (λ _. misses_of local.new ≡ misses_of local.old) }
     ensures missed { IfNone result (misses_of local.new ≡ misses_of local.old + 1) }
     ensures same { IsStillButMisses local.old local.new }
+    ensures cells { StepsOnNoCell local.old local.new }
 {
     'placing: while let Some(part) = parts.pop() {
         match owner_for(domain, part, kept, local) {
@@ -137,6 +141,7 @@ fn release_all<K: Ord + Drop, V: Drop>(
     requires owners { All (IsSegmentOf (place_of domain.now).0) owners.items }
     ensures hand { hand_of local.new ≡ hand_of local.old }
     ensures same { IsStill local.old local.new }
+    ensures cells { StepsOnNoCell local.old local.new }
 {
     'releasing: while let Some(owner) = owners.pop() {
         let_go(domain, owner, local);
@@ -160,6 +165,7 @@ pub(crate) fn hold_all<K: Ord + Drop, V: Drop>(
     ensures pairs { map owned_pairs held.new.items ≡ reverse (map pairs_owned owners.items) }
     ensures hand { hand_of local.new ≡ all_told held.new.items }
     ensures same { IsStill local.old local.new }
+    ensures cells { StepsOnNoCell local.old local.new }
 {
     'holding: while let Some(owner) = owners.pop() {
         hold_last(domain, held, owner, local);

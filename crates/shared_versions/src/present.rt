@@ -2,6 +2,7 @@
 
 ghost use Rattle.std.specs.Prelude.{◌≡◌, ◌<◌, ◌+◌, [], IfNone, IfOk, IfSome, OnOk, OnErr, Some, map};
 ghost use Rattle.std.specs.List.{All};
+ghost use Rattle.sdd_domain.specs.CellSteps.{StepsOnNoCell};
 ghost use Rattle.sdd_domain.specs.Cells.{cell_number};
 ghost use Rattle.sdd_domain.specs.Tokens.{place_of, home_of, hand_of, cell_count, misses_of};
 ghost use Rattle.shared_versions.specs.Placing.{HasPut, IsKeptSegment, IsPlanned, IsPresent, IsOwnedIn, IsStill, IsStillButMisses, item_owned, pairs_kept, sight_in, sight_kept, version_owned};
@@ -83,6 +84,7 @@ impl<K: Ord + Drop, V: Drop, const S: usize> Present<K, V, S> {
         ensures hit { OnOk result (misses_of local.new ≡ misses_of local.old) }
         ensures missed { OnErr result (misses_of local.new ≡ misses_of local.old + 1) }
         ensures same { IsStillButMisses local.old local.new }
+        ensures cells { StepsOnNoCell local.old local.new }
     {
         match place_two(domain, Node::Version(Version::empty(alloc, S)), local) {
             Ok((version, root)) => {
@@ -116,6 +118,7 @@ impl<K: Ord + Drop, V: Drop, const S: usize> Present<K, V, S> {
         ensures hit { OnOk result (misses_of local.new ≡ misses_of local.old) }
         ensures missed { OnErr result (misses_of local.new ≡ misses_of local.old + 1) }
         ensures same { IsStillButMisses local.old local.new }
+        ensures cells { StepsOnNoCell local.old local.new }
     {
         let mut segments = Vec::new(alloc);
         match place_draft(domain, draft, &mut segments, local) {
@@ -149,6 +152,7 @@ impl<K: Ord + Drop, V: Drop, const S: usize> Present<K, V, S> {
         ensures hit { OnOk result (misses_of local.new ≡ misses_of local.old) }
         ensures missed { OnErr result (misses_of local.new ≡ misses_of local.old + 1) }
         ensures same { IsStillButMisses local.old local.new }
+        ensures cells { StepsOnNoCell local.old local.new }
     {
         match place_draft(domain, draft, &mut self.segments, local) {
             Some((version, root)) => {
@@ -166,6 +170,7 @@ impl<K: Ord + Drop, V: Drop, const S: usize> Present<K, V, S> {
         requires mine { self.place ≡ (place_of domain.now).0 }
         ensures hand { hand_of local.new ≡ hand_of local.old }
         ensures same { IsStill local.old local.new }
+        ensures cells { StepsOnNoCell local.old local.new }
     {
         let Present { version, segments } = self;
         let_go(domain, version, local);
@@ -196,6 +201,7 @@ fn place_draft<K: Ord + Drop, V: Drop, const S: usize>(
     ensures hit { IfSome result (λ _. misses_of local.new ≡ misses_of local.old) }
     ensures missed { IfNone result (misses_of local.new ≡ misses_of local.old + 1) }
     ensures same { IsStillButMisses local.old local.new }
+    ensures cells { StepsOnNoCell local.old local.new }
 {
     let (number, planned, room) = draft.into_parts();
     let Segments {

@@ -1,6 +1,7 @@
 //! Reclaiming versions that nobody reads.
 
 ghost use Rattle.std.specs.Prelude.{◌≡◌};
+ghost use Rattle.sdd_domain.specs.CellSteps.{StepsOnNoCell};
 ghost use Rattle.sdd_domain.specs.Tokens.{place_of, home_of, own_of, IsSame};
 
 use sdd_domain::domain::Domain;
@@ -15,6 +16,7 @@ pub fn reclaim<T: Holds>(domain: &Domain<T>, local: &mut Local<T>)
     requires closed { (own_of local.old).nesting ≡ 0 }
     ensures closed { (own_of local.new).nesting ≡ 0 }
     ensures same { IsSame local.old local.new }
+    ensures cells { StepsOnNoCell local.old local.new }
 {
     for _turn in 0..8u32 {
         reclaim_once(domain, local);
@@ -27,6 +29,7 @@ pub fn reclaim_once<T: Holds>(domain: &Domain<T>, local: &mut Local<T>)
     requires closed { (own_of local.old).nesting ≡ 0 }
     ensures closed { (own_of local.new).nesting ≡ 0 }
     ensures same { IsSame local.old local.new }
+    ensures cells { StepsOnNoCell local.old local.new }
 {
     let Ok(guard) = Guard::new(domain, local) else {
         unreachable!();

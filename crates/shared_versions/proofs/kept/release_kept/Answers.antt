@@ -22,6 +22,7 @@ releasing-preserved-in-Some-owner g c =
       kept = (All-pop (IsLeft place) c.releasing.kept.items c.pop.new.self.items c.pop.result c.pop.ensures.items before.kept).0;
       hand = c.let_go.ensures.hand ∙ before.hand;
       same = still c.args.local.now c.releasing.local c.let_go.new.local before.same c.let_go.ensures.same;
+      cells = c.let_go.ensures.cells ∙ before.cells;
     }
 
 pub releasing-preserved : goal.releasing-preserved
@@ -32,6 +33,7 @@ releasing-preserved g c =
       kept = (All-pop (IsLeft place) c.releasing.kept.items c.pop.new.self.items c.pop.result c.pop.ensures.items before.kept).0;
       hand = before.hand;
       same = before.same;
+      cells = before.cells;
     }
 
 pub returns-clause-hand : goal.returns-clause-hand
@@ -39,3 +41,6 @@ returns-clause-hand g c = c.releasing.invariant.hand
 
 pub returns-clause-same : goal.returns-clause-same
 returns-clause-same g c = c.releasing.invariant.same
+
+pub returns-clause-cells : goal.returns-clause-cells
+returns-clause-cells g c = c.releasing.invariant.cells

@@ -1,5 +1,6 @@
 use Rattle.std.proofs.Common.{◌≡◌, length}
 use Rattle.std.specs.List.{All}
+use Rattle.sdd_domain.specs.CellSteps.{StepsOnNoCell}
 use Rattle.sdd_domain.specs.Tokens.{place_of, hand_of}
 use Rattle.shared_versions.specs.Placing.{IsLeft, IsStill}
 use Rattle.shared_versions.proofs.kept.release_kept.Given as goal
@@ -10,6 +11,7 @@ invariant-releasing g l = record {
   kept : All (IsLeft (place_of l.fn.domain).0) l.kept.items;
   hand : hand_of l.local ≡ hand_of l.fn.local;
   same : IsStill l.fn.local l.local;
+  cells : StepsOnNoCell l.fn.local l.local;
 }
 
 abbrev pub decreases-releasing : goal.decreases-releasing

@@ -49,6 +49,7 @@ placing-preserved g c =
       room_to_keep = omega (arith, before.room_to_keep, ap length parts, length-append c.pop.new.self.items (part ∷ []), ap length keeps, length-append c.placing.to_keep.items (one ∷ []), c.push_reserved-in-Some-owner_for.ensures.capacity);
       hand = c.owner_for.ensures.hand;
       same = still c.args.local.now c.placing.local c.owner_for.new.local before.same (same.0, same.1, same.2, same.3, told.hit);
+      cells = c.owner_for.ensures.cells ∙ before.cells;
     }
 
 pub release_new-requires-clause-new : goal.release_new-requires-clause-new

@@ -1,6 +1,7 @@
 use Rattle.std.proofs.Common.{◌≡◌, ◌+◌, ◌≤◌, [], ◌++◌, length, map, reverse}
 use Rattle.std.specs.List.{All}
 use Rattle.std.specs.Prelude.{vec_capacity}
+use Rattle.sdd_domain.specs.CellSteps.{StepsOnNoCell}
 use Rattle.sdd_domain.specs.Tokens.{place_of, hand_of}
 use Rattle.version_drafts.specs.Parts.{blocks_of_parts}
 use Rattle.shared_versions.specs.Drafts.{IsWithinVersion, taken_from}
@@ -23,6 +24,7 @@ invariant-placing g l = record {
   room_to_keep : length l.parts.items + length l.to_keep.items ≤ vec_capacity l.to_keep;
   hand : hand_of l.local ≡ [];
   same : IsStill l.fn.local l.local;
+  cells : StepsOnNoCell l.fn.local l.local;
 }
 
 abbrev pub decreases-placing : goal.decreases-placing

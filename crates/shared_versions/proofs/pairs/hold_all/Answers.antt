@@ -28,6 +28,7 @@ holding-preserved g c =
       hand = c.hold_last.ensures.hand;
       room = omega (arith, before.room, ap length fewer, length-append c.pop.new.self.items (owner ∷ []), ap length longer, length-append c.holding.held.items (held ∷ []), c.hold_last.ensures.room);
       same = still c.args.local.now c.holding.local c.hold_last.new.local before.same (but_for_the_hand c.holding.local c.hold_last.new.local c.hold_last.ensures.same);
+      cells = c.hold_last.ensures.cells ∙ before.cells;
     }
 
 pub hold_last-requires-clause-home : goal.hold_last-requires-clause-home
@@ -53,3 +54,6 @@ returns-clause-hand g c = c.holding.invariant.hand
 
 pub returns-clause-same : goal.returns-clause-same
 returns-clause-same g c = c.holding.invariant.same
+
+pub returns-clause-cells : goal.returns-clause-cells
+returns-clause-cells g c = c.holding.invariant.cells

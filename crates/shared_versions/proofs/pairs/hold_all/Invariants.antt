@@ -1,6 +1,7 @@
 use Rattle.std.proofs.Common.{◌≡◌, ◌+◌, ◌≤◌, ◌++◌, length, map, reverse}
 use Rattle.std.specs.List.{All}
 use Rattle.std.specs.Prelude.{vec_capacity}
+use Rattle.sdd_domain.specs.CellSteps.{StepsOnNoCell}
 use Rattle.sdd_domain.specs.Holding.{all_told}
 use Rattle.sdd_domain.specs.Tokens.{place_of, hand_of}
 use Rattle.shared_versions.specs.Nodes.{OwnsSegment, owned_pairs}
@@ -16,6 +17,7 @@ invariant-holding g l = record {
   hand : hand_of l.local ≡ all_told l.held.items;
   room : length l.owners.items + length l.held.items ≤ vec_capacity l.held;
   same : IsStill l.fn.local l.local;
+  cells : StepsOnNoCell l.fn.local l.local;
 }
 
 abbrev pub decreases-holding : goal.decreases-holding

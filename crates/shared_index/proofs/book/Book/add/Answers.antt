@@ -1,5 +1,6 @@
 use Rattle.std.proofs.Common.{[], ◌∷◌, ◌++◌, length, sym, ap, ◌∙◌, subst, arith}
 use Rattle.std.specs.List.{All}
+use Rattle.sdd_domain.specs.CellSteps.{step_on}
 use Rattle.serial_history.specs.Serial.{Holds}
 use Rattle.serial_history.specs.declared.transaction.Transaction.{Transaction}
 use Rattle.serial_history.proofs.RunLemmas.{length-replies}
@@ -51,3 +52,10 @@ pub invariant_of-self-in-Err-NoSlot : goal.invariant_of-self-in-Err-NoSlot
 invariant_of-self-in-Err-NoSlot g c =
     let kept = c.self.invariant in
     rw (c.in-Err-NoSlot.ensures.refused, c.reserve.ensures.items) (still_at_rest kept.0 c.install.ensures.same c.install.ensures.hand, kept.1, kept.2, kept.3)
+
+-- its version was put into the cell
+pub returns-clause-published : goal.returns-clause-published
+returns-clause-published g c =
+    let put = c.in-Ok-install.ensures.published in
+    let old = c.self.inside.local in
+    (old, put.2.0, put.2.1.0, put.0.slot, c.self.invariant.0.home, put.2.1.1, put.2.1.2 ∙ ap (λ (b : BookState _ _). b.cell_steps ++ step_on old c.args.root.now.cell put.2.0 put.2.1.0 ∷ []) c.self.view_is)

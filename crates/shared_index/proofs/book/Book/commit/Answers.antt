@@ -27,7 +27,8 @@ returns-in-Ok-add-clause-can g c = subst (λ (rs : List _). CanCommit g.K.Ord.cm
 pub returns-in-Ok-add-clause-added : goal.returns-in-Ok-add-clause-added
 returns-in-Ok-add-clause-added g c =
     let old = c.args.self.now in
-    let added = λ (rs : List _). record old { history = old.history ++ next_transaction g.K.Ord.cmp old rs c.args.writes.items ∷ [] } in
+    let steps = c.add.new.self.cell_steps in
+    let added = λ (rs : List _). record old { history = old.history ++ next_transaction g.K.Ord.cmp old rs c.args.writes.items ∷ []; cell_steps = steps } in
     c.in-Ok-add.ensures.added ∙ ap added (c.in-Ok.ensures.reads ∙ c.as_slice-reads.ensures)
 
 pub returns-in-Ok-add-clause-replies : goal.returns-in-Ok-add-clause-replies
