@@ -2,11 +2,19 @@
 #![tactic(auto)]
 
 use index_script::run::{outcome, run};
-use std::io;
+use std::io::{self, IsTerminal};
 use std::process::ExitCode;
 
+// What a terminal shows before anything is typed. It goes to standard error: standard output has replies alone.
+const HELP: &str =
+    "index_run: type lines such as 'insert 1 ten' and 'commit -'; docs/SCRIPT.md lists all. Ctrl-D ends.\n";
+
 fn main(rt: HostRuntime) -> ExitCode {
-    let ended = run::<64, _, _>(rt.alloc(), &mut rt.reader(), &mut io::writer(&rt), 16, 4096);
+    let mut reader = rt.reader();
+    if reader.is_terminal() {
+        let _ = eprint!(rt; "{HELP}");
+    }
+    let ended = run::<64, _, _>(rt.alloc(), &mut reader, &mut io::writer(&rt), 16, 4096);
     let (status, text) = outcome(&ended);
     let _ = eprint!(rt; "{text}");
     ExitCode::from(status)
