@@ -1,7 +1,7 @@
 //! Versions of an ordered list over both kinds of place: a directory of segments that versions share.
 //!
-//! The root has the calls over a `Domain`, which threads share; [`world`] has those over a `World`. What both have alike,
-//! as [`Write`] and [`VersionView`], stands at the root. This crate is a face: it has no function of its own.
+//! The root has the calls over a `Domain`, which threads share; [`world`] has those over a `World`. Types of both, such as
+//! [`Write`] and [`VersionView`], are at the root. This crate is a face: it has no function of its own.
 #![tactic(auto)]
 
 pub mod world;
