@@ -1,6 +1,6 @@
 //! An index that is in use for long: each commit keeps the last thousand transactions, so that memory has a bound.
 //!
-//! `long_history COMMITS` makes so many commits of one upsert each, on a thousand keys in turn.
+//! `long_history COMMITS` makes that many commits of one upsert each, on a thousand keys in turn.
 #![tactic(auto)]
 
 use ordered_index::{LocalIndex, Receipt, Refused, ScopedIndex, Write};

@@ -6,8 +6,8 @@
 //! [`LocalIndex`] is a `State` of it, and each call one of its steps. A [`SharedIndex`] is the same index over a place
 //! that threads share: its sessions read in any thread, and its commits keep their order by a lock.
 //!
-//! This crate is a face: it has no function of its own, and passes on all that the calls of a `LocalIndex`, a `SharedIndex`
-//! and a `Book` take and give. Who uses a `LocalIndex` alone may list `local_index` in its place, which stands on
+//! This crate is a face: it has no function of its own, and re-exports all that the calls of a `LocalIndex`, a `SharedIndex`
+//! and a `Book` take and give. A program that uses a `LocalIndex` alone may list `local_index` in its place, which depends on
 //! fewer crates.
 //!
 //! <!-- crates/first_index/src/main.rt -->

@@ -1,7 +1,7 @@
 //! Containers over both kinds of place: stacks, queues and bags over a [`Domain`], which threads share, and with lists
 //! over a [`World`] of one thread.
 //!
-//! The root has the types and calls over a `Domain`; [`world`] has those over a `World`. It passes on `sdd_base`. This
+//! The root has the types and calls over a `Domain`; [`world`] has those over a `World`. It re-exports `sdd_base`. This
 //! crate is a face: it has no function of its own.
 #![tactic(auto)]
 

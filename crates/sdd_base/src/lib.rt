@@ -1,8 +1,8 @@
 //! Places that reclaim by epochs: a [`Domain`], which threads share, and a [`World`] of one thread.
 //!
 //! Both keep items in slots, with owners, pointers and cells, and reclaim what nobody reaches. The root has the types
-//! and calls over a `Domain`; [`world`] has those over a `World`. What both have alike, as [`Tag`] and [`Sizes`], stands
-//! at the root. This crate is a face: it has no function of its own.
+//! and calls over a `Domain`; [`world`] has those over a `World`. Types of both, such as [`Tag`] and [`Sizes`], are at
+//! the root. This crate is a face: it has no function of its own.
 #![tactic(auto)]
 
 pub mod world;
