@@ -95,7 +95,7 @@ pub use shared_index::{
     Share, SharedBaseCause, SharedBaseRefused, SharedIndex, SharedReading, Task, TransactRefused,
     Transacted, join_over, run_tasks,
 };
-pub use shared_sessions::{OpenRefused, SharedNearby, SharedSession, SharedWalk};
+pub use shared_sessions::{OpenRefused, Root, SharedNearby, SharedSession, SharedWalk};
 pub use shared_versions::{Node, Present};
 pub use tree_index::{Proximity, Range, Steps, TreeIndex};
 pub use version_views::WriteRefused;
