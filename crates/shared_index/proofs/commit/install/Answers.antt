@@ -1,4 +1,4 @@
-use Rattle.std.proofs.Common.{◌≡◌, ◌∙◌, ◌+◌, ◌*◌, ◌++◌, ◌∷◌, [], ap, sym, subst}
+use Rattle.std.proofs.Common.{◌∙◌, ◌+◌, ◌*◌, ◌++◌, ◌∷◌, [], ap, sym}
 use Rattle.sdd_domain.specs.Cells.{cell_number}
 use Rattle.sdd_domain.specs.Tokens.{home_of}
 use Rattle.shared_versions.specs.Drafts.{list_of, list_planned}
@@ -20,13 +20,16 @@ returns-in-Ok-place-clause-list g c =
 pub returns-in-Ok-place-clause-published : goal.returns-in-Ok-place-clause-published
 returns-in-Ok-place-clause-published g c =
     let e = c.in-Ok-place.ensures in
-    let put = c.publish.ensures.put in
-    let steps = c.publish.new.local.seat.me.0.cell_steps in (
+    let put = c.publish.ensures.put in (
       c.in-Ok-place.new,
       e.root.1,
-      put.0,
-      put.1.0,
-      put.1.1,
-      put.1.2 ∙ ap (λ h. c.place.new.local.seat.me.0.cell_steps ++ record { word = 8 * h.1.participants + 16 + cell_number c.args.root.now; found = put.0; left = put.1.0 } ∷ []) e.same.0
-          ∙ ap (λ zs. zs ++ record { word = 8 * (home_of c.args.local.now).1.participants + 16 + cell_number c.args.root.now; found = put.0; left = put.1.0 } ∷ []) c.place.ensures.cells,
+      (
+        put.0,
+        (
+          put.1.0,
+          put.1.1,
+          put.1.2 ∙ ap (λ h. c.place.new.local.seat.me.0.cell_steps ++ record { word = 8 * h.1.participants + 16 + cell_number c.args.root.now; found = put.0; left = put.1.0 } ∷ []) e.same.0
+              ∙ ap (λ zs. zs ++ record { word = 8 * (home_of c.args.local.now).1.participants + 16 + cell_number c.args.root.now; found = put.0; left = put.1.0 } ∷ []) c.place.ensures.cells,
+        ),
+      ),
     )
