@@ -163,9 +163,10 @@ int __wrap_pthread_create(pthread_t *name, const pthread_attr_t *how, void *(*ru
 }
 
 int __wrap_pthread_join(pthread_t name, void **answer) {
-    int it = 0;
-    while (it < count && !pthread_equal(threads[it].name, name)) it++;
-    if (it == count) give_up("a join of no thread");
+    /* (the last of this name: a thread that was joined leaves its own to a later one) */
+    int it = count - 1;
+    while (it > FIRST && !pthread_equal(threads[it].name, name)) it--;
+    if (it == FIRST) give_up("a join of no thread");
     threads[self].waits_for = it;
     if (!threads[it].has_ended) step_aside();
     threads[self].waits_for = NOBODY;
