@@ -1,7 +1,7 @@
 //! The life of the guards that a participant has open: each guard has a token of it, and the participant has the others.
 //!
-//! A life has no bytes. What stands in a branch that is never taken handles lives alone, so there is no code in either
-//! branch, and no guard tests which one it is.
+//! A life has no bytes. A branch that is never taken handles lives alone, so neither branch has code, and no guard tests
+//! which one it takes.
 
 ghost use Rattle.std.specs.Prelude.{◌≡◌, ◌+◌, ◌^◌, IsSomeAnd, IsNone};
 

@@ -24,7 +24,7 @@ use Rattle.serial_history.specs.declared.commit.CheckpointRefused.TheVariants as
 use Rattle.shared_index.specs.declared.book.NewRefused.{NewRefused}
 use Rattle.shared_index.specs.declared.book.NewRefused.TheVariants as news
 
--- the base, the transactions that were accepted since, the last number, and of the participant who acts for the book, how often
+-- the base, the transactions that were accepted since, and the last number; of the participant who acts for the book, how often
 -- it was refused a slot, a cell or one more owner, and its steps on cells
 pub record BookState (K V : Type 0) : Type 0 where
   pub base : Base K V
@@ -56,7 +56,7 @@ LiesOutside upto (checkpoints.Behind number) = upto < number
 LiesOutside upto (checkpoints.Ahead number) = number < upto
 LiesOutside upto checkpoints.Memory = Unit {0}
 
--- The one step on a cell since, by a participant of this place, left an item in this cell, without a tag.
+-- the one step on a cell since, by a participant of this place, left an item in this cell, without a tag
 abbrev pub HasPutItem : {K V : Type 0} → TableId × Sizes → ℕ → (old new : BookState K V) → Type 0
 HasPutItem {K} {V} place cell old new = (l : Local (Node K V)) × (w : ℕ) × (v : ℕ) × (k : ℕ) × (home_of l ≡ place) × NamesWith v 0 (k + 1) × (new.cell_steps ≡ old.cell_steps ++ step_on l cell w v ∷ [])
 

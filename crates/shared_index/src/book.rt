@@ -50,8 +50,8 @@ pub enum NewRefused {
 /// The history of accepted commits from a base on, and the present version, as the one who commits has them: with the
 /// participant of the place who acts for it, and the ledger of all shares.
 ///
-/// Contracts see the base, the history and the last number; and of that participant how often it was refused a slot, a cell or one
-/// more owner, its misses, and its steps on cells. A book must be consumed by [`end`](Book::end).
+/// Contracts see the base, the history and the last number. Of that participant they see its misses, which is how often it was
+/// refused a slot, a cell or one more owner, and its steps on cells. A book must be consumed by [`end`](Book::end).
 pub struct Book<L: Naming, K: Clone + Ord, V: Clone + Eq, const S: usize> {
     alloc: Global,
     local: Local<Node<K, V>>,

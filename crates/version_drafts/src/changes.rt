@@ -27,7 +27,7 @@ pub(crate) struct Changes<'w, K: Ord, V> {
     pub(crate) gone: Vec<Gone<K>>,
 }
 
-/// No change yet, with room for the edits that writes leave, so that few of them take little memory.
+/// No change yet, with room for the edits that writes can leave. Fails only if an allocation fails.
 pub(crate) fn unchanged<'w, K: Ord + Drop, V>(
     alloc: Global,
     writes: &[Write<K, V>],
