@@ -3,14 +3,14 @@ use Rattle.std.proofs.Common.{◌≡◌, ℕ, ◌+◌, ◌≤◌, List, [], None
 use Rattle.std.proofs.lemmas.List.Elements.{All-replicate}
 use Rattle.std.specs.Prelude.{IfSome}
 use Rattle.std.specs.declared.cmp.Ordering.{Ordering}
+use Rattle.serial_history.specs.Histories.{HistoryState}
 use Rattle.serial_history.specs.Serial.{Base}
-use Rattle.serial_history.specs.declared.transaction.Transaction.{Transaction}
 use Rattle.local_versions.specs.Placing.{Plan, StandsAlone, list_alone, slots_for}
 use Rattle.local_versions.specs.Store.{Store}
 use Rattle.local_index.specs.Invariant.{IsIndex, IsOf}
 
 -- its fields keep what those of an index keep
-module _ {K V : Type 0} (cmp : K → K → Ordering) (width places slots last number : ℕ) (pairs : List (K × V)) where
+module _ {K V : Type 0} (cmp : K → K → Ordering) (width places slots number : ℕ) (pairs : List (K × V)) where
   abbrev first : Base K V
   first = record { number = number; pairs = pairs }
 
@@ -18,21 +18,18 @@ module _ {K V : Type 0} (cmp : K → K → Ordering) (width places slots last nu
   abbrev unread : ℕ → Store K V
   unread used = record { present = record { number = number; pairs = pairs }; readers = replicate places None; slots = slots; used = used; raises = 0 }
 
-  begins : (used : ℕ) → 1 ≤ width → width ≤ 225 → number ≤ last → IsIndex cmp width (unread used) first [] last
-  begins used some fits upto = record {
+  begins : (used : ℕ) → 1 ≤ width → width ≤ 225 → IsIndex cmp width (unread used) first []
+  begins used some fits = record {
     some_pair = some;
     segment_fits = fits;
-    serial = tt;
-    numbered = omega (arith, upto);
     present = (let same : number ≡ number + 0 = omega arith in ap (λ n. record { number = n; pairs = pairs }) same);
     readers = All-replicate (λ r. IfSome r (IsOf cmp first [])) places None tt;
   }
 
-  pub begun_kept : (store : Store K V) (base : Base K V) (history : List (Transaction K V)) → 1 ≤ width → width ≤ 225 → number ≤ last → store ≡ unread store.used → base ≡ first → history ≡ [] → IsIndex cmp width store base history last
-  begun_kept store base history some fits upto stored based none =
-      subst (λ (s : Store K V). IsIndex cmp width s base history last) (sym stored)
-      (subst (λ (b : Base K V). IsIndex cmp width (unread store.used) b history last) (sym based)
-      (subst (λ (ts : List (Transaction K V)). IsIndex cmp width (unread store.used) first ts last) (sym none) (begins store.used some fits upto)))
+  pub begun_kept : (store : Store K V) (h : HistoryState K V) (last room : ℕ) → 1 ≤ width → width ≤ 225 → store ≡ unread store.used → h ≡ record { base = first; transactions = []; last = last; room = room } → IsIndex cmp width store h.base h.transactions
+  begun_kept store h last room some fits stored is =
+      subst (λ (s : Store K V). IsIndex cmp width s h.base h.transactions) (sym stored)
+      (subst (λ (x : HistoryState K V). IsIndex cmp width (unread store.used) x.base x.transactions) (sym is) (begins store.used some fits))
 
 -- a version that takes nothing over does so under another number
 pub renumbered : {K V : Type 0} {s : ℕ} (cmp : K → K → Ordering) (p : Plan K V s) (number : ℕ) → StandsAlone cmp p → StandsAlone cmp (record p { number = number })

@@ -2,19 +2,20 @@
 use Rattle.std.specs.Prelude.{◌≡◌, ℕ, ◌≤◌, List, IfSome}
 use Rattle.std.specs.declared.cmp.Ordering.{Ordering}
 use Rattle.std.specs.List.{All}
-use Rattle.serial_history.specs.Serial.{Base, IsSerial, after_all, latest, list_numbered}
+use Rattle.serial_history.specs.Histories.{HistoryState}
+use Rattle.serial_history.specs.Serial.{Base, after_all, latest, list_numbered}
 use Rattle.local_index.specs.State.{State}
 use Rattle.local_versions.specs.Store.{Store, Version}
 use Rattle.serial_history.specs.declared.transaction.Transaction.{Transaction}
 
 module _ {K V : Type 0} where
   -- an index, by its fields
-  abbrev pub index_state : Store K V → Base K V → List (Transaction K V) → ℕ → State K V
-  index_state store base history last = record {
-    base = base;
-    history = history;
+  abbrev pub index_state : Store K V → HistoryState K V → State K V
+  index_state store history = record {
+    base = history.base;
+    history = history.transactions;
     places = store.readers;
-    last = last;
+    last = history.last;
     slots = store.slots;
     used = store.used;
     raises = store.raises;
@@ -26,11 +27,9 @@ module _ {K V : Type 0} where
       pub within : v.number ≤ latest base history
       pub list : base.number ≤ v.number → v.pairs ≡ list_numbered cmp base history v.number
 
-    -- the history is a serial run; the present version is that after all of it, and each reader's is of some number
-    pub record IsIndex (width : ℕ) (store : Store K V) (base : Base K V) (history : List (Transaction K V)) (last : ℕ) : Type 0 where
+    -- the present version is that after all of the history, and each reader's is of some number
+    pub record IsIndex (width : ℕ) (store : Store K V) (base : Base K V) (history : List (Transaction K V)) : Type 0 where
       pub some_pair : 1 ≤ width
       pub segment_fits : width ≤ 225
-      pub serial : IsSerial cmp history base.pairs
-      pub numbered : latest base history ≤ last
       pub present : store.present ≡ record { number = latest base history; pairs = after_all cmp history base.pairs }
       pub readers : All (λ r. IfSome r (IsOf base history)) store.readers

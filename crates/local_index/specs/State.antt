@@ -3,14 +3,15 @@ use Rattle.std.specs.Prelude.{◌≡◌, ◌≢◌, ℕ, ◌+◌, ◌-◌, ◌<�
 use Rattle.std.specs.declared.cmp.Ordering.{Ordering}
 use Rattle.std.specs.List.{All}
 use Rattle.version_views.specs.Writes.{after_writes, replies_to}
+use Rattle.serial_history.specs.Histories.{transaction_on}
+use Rattle.serial_history.specs.Histories as histories
 use Rattle.version_views.specs.declared.write.Write.{Write}
 use Rattle.serial_history.specs.Answers.{answer_to}
-use Rattle.serial_history.specs.Serial.{Base, HasNumber, Read, RefusesCheckpoint, Holds, IsFirstConflict, base_at, history_behind, latest, list_numbered}
+use Rattle.serial_history.specs.Serial.{Base, HasNumber, Read, RefusesCheckpoint, base_at, history_behind, latest, list_numbered}
 use Rattle.version_views.specs.Sizes.{room_for}
 use Rattle.serial_history.specs.declared.query.Query.{Query}
 use Rattle.serial_history.specs.declared.query.Answer.{Answer}
 use Rattle.serial_history.specs.declared.transaction.Audit.{Audit}
-use Rattle.serial_history.specs.declared.transaction.Audit.TheVariants as audits
 use Rattle.serial_history.specs.declared.transaction.Transaction.{Transaction}
 use Rattle.serial_history.specs.declared.transaction.Receipt.{Receipt}
 use Rattle.serial_history.specs.declared.commit.Accepted.{Accepted}
@@ -101,20 +102,16 @@ module _ {K V : Type 0} where
 
     -- what these reads and writes add to the history
     abbrev pub transaction_of : State K V → List (Read K V) → List (Write K V) → Transaction K V
-    transaction_of s reads writes = record { reads = reads; writes = writes; replies = replies_to cmp writes (present s) }
+    transaction_of s reads writes = transaction_on cmp (present s) reads writes
 
     -- a query is answered on the session's list, and put at the end of its receipt with the answer
     pub record Reads (s : State K V) (old : OpenSession K V) (query : Query K) (answer : Answer K V) (new : OpenSession K V) : Type 0 where
       pub told : answer ≡ answer_to cmp query (list_read s old)
       pub recorded : new ≡ record old { receipt = record old.receipt { reads = old.receipt.reads ++ (query, answer) ∷ [] } }
 
-    -- whether the reads of a receipt hold of the list of its number, if the index has that: a number below the base's is too
-    -- old, and no list has a number above the present one yet
+    -- whether the reads of a receipt hold of the list of its number, if the index has that
     abbrev pub Audits : State K V → Receipt K V → Audit → Type 0
-    Audits s receipt audits.Yes = Has s receipt.number × All (Holds cmp (list_at s receipt.number)) receipt.reads
-    Audits s receipt (audits.No place) = Has s receipt.number × IsFirstConflict cmp (list_at s receipt.number) receipt.reads place
-    Audits s receipt audits.Unknown = latest_number s < receipt.number
-    Audits s receipt (audits.TooOld number) = (receipt.number < s.base.number) × (number ≡ s.base.number)
+    Audits s receipt audit = histories.Audits cmp s.base s.history receipt audit
 
     -- the base is the list of this number, and what came before is gone; sessions stay, and so do slots
     pub record Rebases (old : State K V) (upto : ℕ) (new : State K V) : Type 0 where
@@ -128,16 +125,15 @@ module _ {K V : Type 0} where
     Checkpoints old upto (Err why) new = RefusesCheckpoint old.base old.history upto why × (new ≡ old)
 
     -- each read holds, and the last number isn't reached
-    pub record MayAccept (s : State K V) (reads : List (Read K V)) : Type 0 where
-      pub reads_hold : All (Holds cmp (present s)) reads
-      pub not_last : latest_number s ≢ s.last
+    abbrev pub MayAccept : State K V → List (Read K V) → Type 0
+    MayAccept s reads = histories.MayAccept cmp (latest_number s) s.last (present s) reads
 
     module _ (width : ℕ) where
       -- why a commit of these reads and writes may be refused, with so many pairs in a segment at most
       abbrev pub MayRefuse : State K V → List (Read K V) → List (Write K V) → Cause → Type 0
-      MayRefuse s reads writes (causes.Conflict place) = IsFirstConflict cmp (present s) reads place
-      MayRefuse s reads writes causes.Exhausted = All (Holds cmp (present s)) reads × (latest_number s ≡ s.last)
-      MayRefuse s reads writes causes.Memory = MayAccept s reads
+      MayRefuse s reads writes (causes.Conflict place) = histories.MayRefuse cmp (latest_number s) s.last (present s) reads (causes.Conflict place)
+      MayRefuse s reads writes causes.Exhausted = histories.MayRefuse cmp (latest_number s) s.last (present s) reads causes.Exhausted
+      MayRefuse s reads writes causes.Memory = histories.MayRefuse cmp (latest_number s) s.last (present s) reads causes.Memory
       MayRefuse s reads writes causes.NoSlot = MayAccept s reads × (s.slots < s.used + room_for width (length (after_writes cmp writes (present s))))
 
       -- the writes are made, and the transaction is the last one of the history

@@ -23,14 +23,11 @@ pub mod past;
 
 use crate::session::Session;
 use local_versions::{LocalStore, LocalView, Reply, Write, WriteRefused};
-use serial_history::base::Base;
 use serial_history::ordered_view::{answer, first_conflict};
-use serial_history::replay::replay;
-use serial_history::transaction::{Prepared, copied_replies, prepare};
+use serial_history::transaction::{Prepared, prepare};
 use serial_history::version_view::value_in_counted;
 use serial_history::{
-    Accepted, Answer, Audit, Cause, Nearby, Query, Receipt, Recorded, Refused, Seq, Transaction,
-    Walk,
+    Accepted, Answer, Audit, Cause, History, Nearby, Query, Receipt, Recorded, Refused, Seq, Walk,
 };
 use std::alloc::{AllocError, Global};
 use std::marker::Model;
@@ -61,23 +58,20 @@ pub struct NoPlace;
 pub struct LocalIndex<K: Clone + Ord, V: Clone + Eq, const S: usize> {
     alloc: Global,
     store: LocalStore<K, V, S>,
-    base: Base<K, V>,
-    // the transactions since
-    history: Vec<Transaction<K, V>>,
-    last: u64,
+    history: History<K, V>,
 }
 
-/// Invariant: specs/Invariant.antt, IsIndex: the history is a serial run from the base on, the present version is the list after
-/// it, and each session's version is the list of its number, where the base isn't past that.
+/// Invariant: specs/Invariant.antt, IsIndex: the present version is the list after the history, and each session's version is the
+/// list of its number, where the base isn't past that.
 impl<K: Clone + Ord, V: Clone + Eq, const S: usize> Model for LocalIndex<K, V, S> {
     ghost use Rattle.local_index.specs.State.{State};
     ghost use Rattle.local_index.specs.Invariant.{IsIndex, index_state};
 
     ghost Value = { State K V };
 
-    ghost view = { λ a. index_state a.store a.base a.history.items a.last };
+    ghost view = { λ a. index_state a.store a.history };
 
-    ghost invariant = { λ a. IsIndex K.cmp S a.store a.base a.history.items a.last };
+    ghost invariant = { λ a. IsIndex K.cmp S a.store a.history.base a.history.transactions };
 }
 
 impl<K: Clone + Ord, V: Clone + Eq, const S: usize> LocalIndex<K, V, S> {
@@ -104,9 +98,7 @@ impl<K: Clone + Ord, V: Clone + Eq, const S: usize> LocalIndex<K, V, S> {
         Ok(LocalIndex {
             alloc,
             store: LocalStore::new(alloc, places, slots)?,
-            base: Base::empty(alloc),
-            history: Vec::new(alloc),
-            last,
+            history: History::empty(alloc, last),
         })
     }
 
@@ -298,12 +290,8 @@ impl<K: Clone + Ord, V: Clone + Eq, const S: usize> LocalIndex<K, V, S> {
         ensures audits { IfOk result (Audits K.cmp self.now receipt.now) }
         ensures has { OnErr result (Has self.now receipt.now.number) }
     {
-        let first = self.first_number();
-        if receipt.number < first {
-            return Ok(Audit::TooOld(first));
-        }
-        if receipt.number > self.present_number() {
-            return Ok(Audit::Unknown);
+        if let Some(outside) = self.history.audit_outside(receipt) {
+            return Ok(outside);
         }
         Ok(match self.conflict_at(receipt)? {
             Some(place) => Audit::No(place),
@@ -399,9 +387,7 @@ impl<K: Clone + Ord, V: Clone + Eq, const S: usize> LocalIndex<K, V, S> {
         let LocalIndex {
             alloc: _,
             store,
-            base: _,
             history: _,
-            last: _,
         } = self;
         store.end();
         Ok(())
@@ -412,9 +398,7 @@ impl<K: Clone + Ord, V: Clone + Eq, const S: usize> LocalIndex<K, V, S> {
         let LocalIndex {
             alloc: _,
             mut store,
-            base: _,
             history: _,
-            last: _,
         } = self;
         store.close_all();
         store.end();
@@ -476,16 +460,7 @@ impl<K: Clone + Ord, V: Clone + Eq, const S: usize> LocalIndex<K, V, S> {
         ensures none { IfNone result (MayAccept K.cmp self.now reads.now) }
         ensures early { IfSome result (λ cause. cause ≢ Cause.NoSlot) }
     {
-        match first_conflict(&self.store.present(), reads) {
-            Some(place) => Some(Cause::Conflict(place)),
-            None => {
-                if self.present_number() == self.last() {
-                    Some(Cause::Exhausted)
-                } else {
-                    None
-                }
-            }
-        }
+        self.history.validate(&self.store.present(), reads)
     }
 
     // The first read that doesn't hold of the list of the receipt's number: a version that is kept, or rebuilt.
@@ -515,44 +490,33 @@ impl<K: Clone + Ord, V: Clone + Eq, const S: usize> LocalIndex<K, V, S> {
         requires values { ClonesAreSame V.is_clone }
         ensures { IfOk result (λ list. list.pairs ≡ list_at K.cmp self.now number) }
     {
-        let first = self.base.number();
         if let Some((from, version)) = self.store.latest_at(number) {
-            if from > first {
-                let since = &self.history[(from - first) as usize..(number - first) as usize];
-                return replay(self.alloc, &version, since);
+            if from > self.first_number() {
+                return self
+                    .history
+                    .rebuild_from(self.alloc, from, &version, number);
             }
         }
-        let since = &self.history[..(number - first) as usize];
-        replay(self.alloc, &self.base, since)
-    }
-
-    fn last(&self) -> u64
-        ensures { result ≡ self.now.last }
-    {
-        self.last
+        self.history.rebuild(self.alloc, number)
     }
 
     fn first_number(&self) -> u64
         ensures { result ≡ self.now.base.number }
     {
-        self.base.number()
+        self.history.first_number()
     }
 
     fn present_number(&self) -> u64
         ensures { result ≡ latest_number self.now }
     {
-        // what is read here tells the proof that the number is at most the last one
-        let _last = self.last;
-        self.base.number() + self.history.len() as u64
+        self.history.number()
     }
 
     fn next_number(&self) -> u64
         requires { latest_number self.now ≢ self.now.last }
         ensures { result ≡ latest_number self.now + 1 }
     {
-        // what is read here tells the proof that the number is below the last one
-        let _last = self.last;
-        self.base.number() + self.history.len() as u64 + 1
+        self.history.next_number()
     }
 
     // Adds a transaction whose reads hold. All memory is had before anything changes.
@@ -573,9 +537,9 @@ impl<K: Clone + Ord, V: Clone + Eq, const S: usize> LocalIndex<K, V, S> {
         ensures refused { IfErr result (λ back. Refuses K.cmp S self.old prepared.reads writes.items back self.new) }
         ensures short { IfErr result (λ back. back.cause ≡ Cause.NoSlot → self.old.slots < self.old.used + (2 * length writes.items + 1)) }
     {
-        // what is read here tells the proof that the number is below the last one
-        let _last = self.last;
-        let Ok(()) = self.history.reserve(1) else {
+        // what is asked here tells the proof that the number is below the last one
+        self.history.laws();
+        let Ok(()) = self.history.reserve() else {
             let cause = Cause::Memory;
             return Err(Refused { cause, writes });
         };
@@ -590,13 +554,7 @@ impl<K: Clone + Ord, V: Clone + Eq, const S: usize> LocalIndex<K, V, S> {
                 return Err(Refused { cause, writes });
             }
         };
-        let replies = copied_replies(prepared.replies, told.as_slice());
-        let transaction = Transaction {
-            reads: prepared.reads,
-            writes: Seq::from_vec(writes),
-            replies: Seq::from_vec(replies),
-        };
-        self.history.push_reserved(transaction);
+        self.history.push(prepared, writes, told.as_slice());
         Ok(told)
     }
 }

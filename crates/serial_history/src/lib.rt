@@ -18,6 +18,7 @@
 pub mod base;
 mod commit;
 mod ghost_items;
+mod history;
 pub mod ordered_view;
 mod query;
 mod reads;
@@ -29,6 +30,7 @@ pub mod version_view;
 
 pub use base::Base;
 pub use commit::{Accepted, Cause, CheckpointRefused, Refused, SinceRefused};
+pub use history::History;
 pub use query::{Answer, Near, Part, Query};
 pub use reads::Reads;
 pub use seq::{Seq, clones_of_lists, equals_of_lists};

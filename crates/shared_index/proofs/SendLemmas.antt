@@ -11,11 +11,9 @@ use denote.Param.SendFields.{as_row_sync, declared_send, declared_sync}
 use denote.RattleType.{RattleType}
 use denote.Ref.{NamedLft}
 use denote.Struct.Field.{shr_ref_field}
-use Rattle.std.proofs.Crossing.{Vec-send, crosses, send, sync}
+use Rattle.std.proofs.Crossing.{crosses, send, sync}
 use Rattle.std.proofs.sync.ledger.Book.TheSendSync as ledgers
-use Rattle.serial_history.specs.contracts.transaction.Transaction as transaction
-use Rattle.serial_history.proofs.base.Base.TheSendSync as bases
-use Rattle.serial_history.proofs.transaction.Transaction.TheSendSync as transactions
+use Rattle.serial_history.proofs.history.History.TheSendSync as histories
 use Rattle.sdd_domain.specs.contracts.domain.Domain as domain
 use Rattle.sdd_domain.specs.declared.holds.Holds
 use Rattle.sdd_domain.proofs.atomic_shared.AtomicShared.TheSendSync as cells
@@ -40,9 +38,8 @@ module _ (L K V S : RattleType) (n : Naming.Ghosts L.Denot) (l : Ledger.Ghosts L
       let row = node.the_row K V ko kp kq in
       let local = locals.the_send row (node_send K V ko kp kq ks kt vs vt) (node_sync K V ko kp kq kt vt) in
       let present = present_send K V ko kp kq S kt vt in
-      let base = bases.the_send K V ko kp kq ks vs in
-      let history = Vec-send (transaction.the_row K V) (transactions.the_send K V ks vs) in
-      let within : IsSend (book_inside.the_row L K V S n l kc ko kp kq vc vp) = declared_send (book_inside.the_type L K V S n l kc ko kp kq vc vp) (send, (local, (present, (base, (history, (search sendable depth 10, (search (ledgers.the_send, crosses, sendable) depth 10, tt))))))) in
+      let history = histories.the_send K V ko kp kq ks vs in
+      let within : IsSend (book_inside.the_row L K V S n l kc ko kp kq vc vp) = declared_send (book_inside.the_type L K V S n l kc ko kp kq vc vp) (send, (local, (present, (history, (search (ledgers.the_send, crosses, sendable) depth 10, tt))))) in
       view_send (book_inside.the_row L K V S n l kc ko kp kq vc vp) _ _ _ _ within
 
   pub index_sync : (d : NamedLft) (ke : Eq.Ghosts K.Denot) → IsSend K → IsSync K → IsSend V → IsSync V → IsSync (index.the_row d L K V S n l kc ko ke kp kq vc vp)

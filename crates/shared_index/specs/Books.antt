@@ -1,20 +1,19 @@
 -- what is seen of a book, and what its calls may answer
-use Rattle.std.specs.Prelude.{◌≡◌, ◌≢◌, ℕ, ◌+◌, ◌<◌, List, ◌++◌, ◌∷◌, []}
+use Rattle.std.specs.Prelude.{◌≡◌, ℕ, ◌+◌, ◌<◌, List, ◌++◌, ◌∷◌, []}
 use Rattle.std.specs.declared.cmp.Ordering.{Ordering}
-use Rattle.std.specs.List.{All}
 use Rattle.atomic_table.specs.Seated.{TableId}
 use Rattle.sdd_plain.specs.declared.sizes.Sizes.{Sizes}
 use Rattle.sdd_domain.specs.CellSteps.{CellStep, NamesWith, step_on}
 use Rattle.sdd_domain.specs.Tokens.{home_of}
 use Rattle.sdd_domain.specs.declared.local.Local.{Local}
 use Rattle.shared_versions.specs.declared.node.Node.{Node}
-use Rattle.version_views.specs.Writes.{replies_to}
+use Rattle.serial_history.specs.Histories.{transaction_on}
+use Rattle.serial_history.specs.Histories as histories
 use Rattle.version_views.specs.declared.write.Write.{Write}
 use Rattle.version_views.specs.declared.write.WriteRefused.{WriteRefused}
 use Rattle.version_views.specs.declared.write.WriteRefused.TheVariants as writes
-use Rattle.serial_history.specs.Serial.{Base, HasNumber, Read, after_all, Holds, IsFirstConflict, latest, list_numbered}
+use Rattle.serial_history.specs.Serial.{Base, Read, after_all, latest, list_numbered}
 use Rattle.serial_history.specs.declared.transaction.Audit.{Audit}
-use Rattle.serial_history.specs.declared.transaction.Audit.TheVariants as audits
 use Rattle.serial_history.specs.declared.transaction.Receipt.{Receipt}
 use Rattle.serial_history.specs.declared.transaction.Transaction.{Transaction}
 use Rattle.serial_history.specs.declared.commit.Cause.{Cause}
@@ -61,36 +60,29 @@ abbrev pub HasPutItem : {K V : Type 0} → TableId × Sizes → ℕ → (old new
 HasPutItem {K} {V} place cell old new = (l : Local (Node K V)) × (w : ℕ) × (v : ℕ) × (k : ℕ) × (home_of l ≡ place) × NamesWith v 0 (k + 1) × (new.cell_steps ≡ old.cell_steps ++ step_on l cell w v ∷ [])
 
 -- the number of the present list
-abbrev pub number_of : {K V : Type 0} → BookState K V → ℕ
-number_of b = latest b.base b.history
+abbrev pub latest_number : {K V : Type 0} → BookState K V → ℕ
+latest_number b = latest b.base b.history
 
 module _ {K V : Type 0} (cmp : K → K → Ordering) where
   -- the list that all transactions leave, and that of a number
   abbrev pub present_list : BookState K V → List (K × V)
   present_list b = after_all cmp b.history b.base.pairs
 
-  abbrev pub list_after : BookState K V → ℕ → List (K × V)
-  list_after b number = list_numbered cmp b.base b.history number
+  abbrev pub list_at : BookState K V → ℕ → List (K × V)
+  list_at b number = list_numbered cmp b.base b.history number
 
   -- the transaction of these reads and writes, told what they are told on the present list
-  abbrev pub next_transaction : BookState K V → List (Read K V) → List (Write K V) → Transaction K V
-  next_transaction b reads writes = record { reads = reads; writes = writes; replies = replies_to cmp writes (present_list b) }
+  abbrev pub transaction_of : BookState K V → List (Read K V) → List (Write K V) → Transaction K V
+  transaction_of b reads writes = transaction_on cmp (present_list b) reads writes
 
   -- each read holds of the present list, and the last number isn't reached
-  pub record CanCommit (b : BookState K V) (reads : List (Read K V)) : Type 0 where
-    pub reads_hold : All (Holds cmp (present_list b)) reads
-    pub not_last : number_of b ≢ b.last
+  abbrev pub MayAccept : BookState K V → List (Read K V) → Type 0
+  MayAccept b reads = histories.MayAccept cmp (latest_number b) b.last (present_list b) reads
 
   -- why a commit that rests on these reads may be refused
-  abbrev pub CanRefuse : BookState K V → List (Read K V) → Cause → Type 0
-  CanRefuse b reads (causes.Conflict place) = IsFirstConflict cmp (present_list b) reads place
-  CanRefuse b reads causes.Exhausted = All (Holds cmp (present_list b)) reads × (number_of b ≡ b.last)
-  CanRefuse b reads causes.Memory = CanCommit b reads
-  CanRefuse b reads causes.NoSlot = CanCommit b reads
+  abbrev pub MayRefuse : BookState K V → List (Read K V) → Cause → Type 0
+  MayRefuse b reads cause = histories.MayRefuse cmp (latest_number b) b.last (present_list b) reads cause
 
   -- whether the reads of a receipt hold of the list of its number, if the book has that
-  abbrev pub IsAuditOf : BookState K V → Receipt K V → Audit → Type 0
-  IsAuditOf b receipt audits.Yes = HasNumber b.base b.history receipt.number × All (Holds cmp (list_after b receipt.number)) receipt.reads
-  IsAuditOf b receipt (audits.No place) = HasNumber b.base b.history receipt.number × IsFirstConflict cmp (list_after b receipt.number) receipt.reads place
-  IsAuditOf b receipt audits.Unknown = number_of b < receipt.number
-  IsAuditOf b receipt (audits.TooOld number) = (receipt.number < b.base.number) × (number ≡ b.base.number)
+  abbrev pub Audits : BookState K V → Receipt K V → Audit → Type 0
+  Audits b receipt audit = histories.Audits cmp b.base b.history receipt audit

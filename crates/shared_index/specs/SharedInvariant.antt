@@ -5,7 +5,7 @@ use Rattle.atomic_table.specs.Seated.{TableId}
 use Rattle.sdd_plain.specs.declared.sizes.Sizes.{Sizes}
 use Rattle.sdd_domain.specs.Tokens.{home_of, own_of, hand_of}
 use Rattle.sdd_domain.specs.declared.local.Local.{Local}
-use Rattle.serial_history.specs.Serial.{Base, after_all, IsSerial, latest}
+use Rattle.serial_history.specs.Serial.{Base, after_all, latest}
 use Rattle.serial_history.specs.declared.transaction.Transaction.{Transaction}
 use Rattle.shared_versions.specs.Drafts.{list_of}
 use Rattle.shared_versions.specs.Placing.{Placed}
@@ -21,15 +21,13 @@ pub record HasBounds (s number named : ℕ) : Type 0 where
   pub size : (1 ≤ s) × (s ≤ 225)
   pub last : number ≡ named
 
+-- each number is counted in the ledger
+abbrev pub IsCounted : {K V : Type 0} → Base K V → List (Transaction K V) → ℕ → Type 0
+IsCounted base history total = total ≡ latest base history
+
 module _ {K V : Type 0} (cmp : K → K → Ordering) where
   -- the version of a place is that of the list that the transactions leave of the base's, and has its number
   pub record IsLatest (place : TableId × Sizes) (present : Placed K V) (base : Base K V) (history : List (Transaction K V)) : Type 0 where
     pub here : present.place ≡ place.0
     pub number : present.version.number ≡ latest base history
     pub list : list_of present.version ≡ after_all cmp history base.pairs
-
-  -- the history is a serial run from the base on, up to the last number at most; each number is counted in the ledger
-  pub record IsHistory (base : Base K V) (history : List (Transaction K V)) (last total : ℕ) : Type 0 where
-    pub serial : IsSerial cmp history base.pairs
-    pub numbered : latest base history ≤ last
-    pub counted : total ≡ latest base history

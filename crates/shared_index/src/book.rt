@@ -7,7 +7,7 @@ ghost use Rattle.leaf_array.specs.Pairs.{IsAscending};
 ghost use Rattle.serial_history.specs.Serial.{HasNumber, Holds, IsFirstConflict, IsSerial, RefusesCheckpoint, base_at, history_behind};
 ghost use Rattle.sdd_domain.specs.Cells.{cell_number};
 ghost use Rattle.sdd_domain.specs.Tokens.{place_of, misses_of, cell_count};
-ghost use Rattle.shared_index.specs.Books.{CanCommit, CanRefuse, HasPutItem, IsAuditOf, list_after, misses_after, misses_without, next_transaction, number_of, present_list};
+ghost use Rattle.shared_index.specs.Books.{MayAccept, MayRefuse, HasPutItem, Audits, list_at, misses_after, misses_without, transaction_of, latest_number, present_list};
 ghost use Rattle.shared_index.specs.SharedInvariant.{IsUnengaged};
 ghost use Rattle.version_views.specs.Writes.{replies_to};
 
@@ -20,12 +20,10 @@ use crate::share::{Share, cut, end_all};
 use sdd_domain::atomic_shared::AtomicShared;
 use sdd_domain::domain::Domain;
 use sdd_domain::local::Local;
-use serial_history::base::{Base, drop_first, pairs_of};
 use serial_history::ordered_view::first_conflict;
-use serial_history::replay::replay;
-use serial_history::transaction::{Prepared, copied_replies, prepare};
+use serial_history::transaction::{Prepared, prepare};
 use serial_history::{
-    Accepted, Audit, Cause, CheckpointRefused, Receipt, Recorded, Refused, Seq, Transaction,
+    Accepted, Audit, Cause, CheckpointRefused, History, Receipt, Recorded, Refused,
 };
 use shared_versions::{Node, Present, reclaim, reclaim_once};
 use std::alloc::{AllocError, Global};
@@ -56,26 +54,23 @@ pub struct Book<L: Naming, K: Clone + Ord, V: Clone + Eq, const S: usize> {
     alloc: Global,
     local: Local<Node<K, V>>,
     present: Present<K, V, S>,
-    base: Base<K, V>,
-    // the transactions since
-    history: Vec<Transaction<K, V>>,
-    last: u64,
+    history: History<K, V>,
     ledger: ledger::Book<L>,
 }
 
-/// Invariant: specs/SharedInvariant.antt. The participant is at rest; the history is a serial run from the base on; the present
-/// version has the list that it leaves, and the number that the ledger counts; the last number is the named one.
+/// Invariant: specs/SharedInvariant.antt. The participant is at rest; the present version has the list that the history leaves,
+/// and the number that the ledger counts; the last number is the named one.
 impl<L: Naming, K: Clone + Ord, V: Clone + Eq, const S: usize> Model for Book<L, K, V, S> {
     ghost use Rattle.sdd_domain.specs.CellSteps.{cell_steps_of};
     ghost use Rattle.sdd_domain.specs.Tokens.{misses_of};
     ghost use Rattle.shared_index.specs.Books.{BookState};
-    ghost use Rattle.shared_index.specs.SharedInvariant.{IsUnengaged, IsHistory, IsLatest, HasBounds};
+    ghost use Rattle.shared_index.specs.SharedInvariant.{IsUnengaged, IsCounted, IsLatest, HasBounds};
 
     ghost Value = { BookState K V };
 
-    ghost view = { λ b. record { base = b.base; history = b.history.items; last = b.last; misses = misses_of b.local; cell_steps = cell_steps_of b.local } };
+    ghost view = { λ b. record { base = b.history.base; history = b.history.transactions; last = b.history.last; misses = misses_of b.local; cell_steps = cell_steps_of b.local } };
 
-    ghost invariant = { λ b. IsUnengaged L.place b.local × IsLatest K.cmp L.place b.present b.base b.history.items × IsHistory K.cmp b.base b.history.items b.last b.ledger.total × HasBounds S b.last L.last };
+    ghost invariant = { λ b. IsUnengaged L.place b.local × IsLatest K.cmp L.place b.present b.history.base b.history.transactions × IsCounted b.history.base b.history.transactions b.ledger.total × HasBounds S b.history.last L.last };
 }
 
 impl<L: Naming, K: Clone + Ord, V: Clone + Eq, const S: usize> Book<L, K, V, S> {
@@ -119,9 +114,7 @@ impl<L: Naming, K: Clone + Ord, V: Clone + Eq, const S: usize> Book<L, K, V, S> 
             alloc,
             local,
             present,
-            base: Base::empty(alloc),
-            history: Vec::new(alloc),
-            last,
+            history: History::empty(alloc, last),
             ledger,
         };
         Ok((book, root, cut(mark, shares, room)))
@@ -129,22 +122,20 @@ impl<L: Naming, K: Clone + Ord, V: Clone + Eq, const S: usize> Book<L, K, V, S> 
 
     /// The number of the present list: the base's, and one more for each commit that was accepted since.
     pub fn number(&self) -> u64
-        ensures number { result ≡ number_of self.now }
+        ensures number { result ≡ latest_number self.now }
         ensures last { result ≤ L.last }
     {
-        // what is read here tells the proof that the number is at most the last one
-        let _last = self.last;
-        self.base.number() + self.history.len() as u64
+        self.history.number()
     }
 
     /// The number of the base, and that of the present list.
     pub fn numbers(&self) -> (u64, u64)
         ensures base { result.0 ≡ self.now.base.number }
-        ensures present { result.1 ≡ number_of self.now }
+        ensures present { result.1 ≡ latest_number self.now }
         ensures rising { result.0 ≤ result.1 }
         ensures last { result.1 ≤ L.last }
     {
-        (self.base.number(), self.number())
+        (self.history.first_number(), self.number())
     }
 
     /// How many pairs the present list has.
@@ -158,11 +149,10 @@ impl<L: Naming, K: Clone + Ord, V: Clone + Eq, const S: usize> Book<L, K, V, S> 
     /// the named one. Nothing here runs.
     pub fn laws(&self)
         ensures serial { IsSerial K.cmp self.now.history self.now.base.pairs }
-        ensures numbered { number_of self.now ≤ self.now.last }
+        ensures numbered { latest_number self.now ≤ self.now.last }
         ensures last { self.now.last ≡ L.last }
     {
-        // what is read here opens the book to the proof
-        let _last = self.last;
+        self.history.laws();
     }
 
     /// Makes the writes on the present list, in order, if each read of the receipt still holds there, and has the cell name
@@ -188,14 +178,14 @@ impl<L: Naming, K: Clone + Ord, V: Clone + Eq, const S: usize> Book<L, K, V, S> 
         requires values { ClonesAreSame V.is_clone }
         requires equal_keys { EqualsAreSame K.eq }
         requires equal_values { EqualsAreSame V.eq }
-        ensures can { OnOk result (CanCommit K.cmp self.old receipt.now.reads) }
-        ensures added { OnOk result (self.new ≡ record self.old { history = self.old.history ++ next_transaction K.cmp self.old receipt.now.reads writes.items ∷ []; cell_steps = self.new.cell_steps }) }
+        ensures can { OnOk result (MayAccept K.cmp self.old receipt.now.reads) }
+        ensures added { OnOk result (self.new ≡ record self.old { history = self.old.history ++ transaction_of K.cmp self.old receipt.now.reads writes.items ∷ []; cell_steps = self.new.cell_steps }) }
         ensures published { OnOk result (HasPutItem L.place (cell_number root.now) self.old self.new) }
-        ensures number { IfOk result (λ told. told.number ≡ number_of self.old + 1) }
+        ensures number { IfOk result (λ told. told.number ≡ latest_number self.old + 1) }
         ensures last { IfOk result (λ told. told.number ≤ L.last) }
         ensures replies { IfOk result (λ told. told.replies.items ≡ replies_to K.cmp writes.items (present_list K.cmp self.old)) }
         ensures counted { OnOk result (share.new ≡ share.old + 1) }
-        ensures cause { IfErr result (λ back. CanRefuse K.cmp self.old receipt.now.reads back.cause) }
+        ensures cause { IfErr result (λ back. MayRefuse K.cmp self.old receipt.now.reads back.cause) }
         ensures missed { IfErr result (λ back. self.new.misses ≡ misses_after back.cause self.old.misses) }
         ensures back { IfErr result (λ back. back.writes.items ≡ writes.items) }
         ensures err { OnErr result (self.new ≡ record self.old { misses = self.new.misses }) }
@@ -228,14 +218,11 @@ impl<L: Naming, K: Clone + Ord, V: Clone + Eq, const S: usize> Book<L, K, V, S> 
         requires values { ClonesAreSame V.is_clone }
         requires equal_keys { EqualsAreSame K.eq }
         requires equal_values { EqualsAreSame V.eq }
-        ensures audits { IfOk result (IsAuditOf K.cmp self.now receipt.now) }
+        ensures audits { IfOk result (Audits K.cmp self.now receipt.now) }
         ensures has { OnErr result (HasNumber self.now.base self.now.history receipt.now.number) }
     {
-        if receipt.number < self.base.number() {
-            return Ok(Audit::TooOld(self.base.number()));
-        }
-        if receipt.number > self.number() {
-            return Ok(Audit::Unknown);
+        if let Some(outside) = self.history.audit_outside(receipt) {
+            return Ok(outside);
         }
         Ok(match self.conflict_at(receipt)? {
             Some(place) => Audit::No(place),
@@ -257,22 +244,13 @@ impl<L: Naming, K: Clone + Ord, V: Clone + Eq, const S: usize> Book<L, K, V, S> 
         ensures refused { IfErr result (RefusesCheckpoint self.old.base self.old.history upto) }
         ensures err { OnErr result (self.new ≡ self.old) }
     {
-        let first = self.base.number();
-        if upto < first {
-            return Err(CheckpointRefused::Behind(first));
-        }
-        let present = self.number();
-        if upto > present {
-            return Err(CheckpointRefused::Ahead(present));
-        }
-        if upto == first {
+        if !self.history.can_begin_at(upto)? {
             return Ok(());
         }
-        let Ok(pairs) = self.pairs_at(upto) else {
-            return Err(CheckpointRefused::Memory);
-        };
-        self.rebase(upto, pairs);
-        Ok(())
+        match self.rebase_at(upto) {
+            Ok(()) => Ok(()),
+            Err(AllocError) => Err(CheckpointRefused::Memory),
+        }
     }
 
     /// The number of the base, and the pairs of its list by rising keys. It takes no memory.
@@ -280,7 +258,7 @@ impl<L: Naming, K: Clone + Ord, V: Clone + Eq, const S: usize> Book<L, K, V, S> 
         ensures number { result.0 ≡ self.now.base.number }
         ensures pairs { result.1.now ≡ self.now.base.pairs }
     {
-        (self.base.number(), self.base.pairs())
+        self.history.base()
     }
 
     /// Reclaims versions that nobody reads, with their segments: it opens and closes eight accelerated guards of its
@@ -313,9 +291,7 @@ impl<L: Naming, K: Clone + Ord, V: Clone + Eq, const S: usize> Book<L, K, V, S> 
             alloc: _,
             mut local,
             present,
-            base: _,
             history: _,
-            last: _,
             ledger: _,
         } = self;
         present.end(domain, &mut local);
@@ -326,7 +302,7 @@ impl<L: Naming, K: Clone + Ord, V: Clone + Eq, const S: usize> Book<L, K, V, S> 
     /// The number, which is the amount of a mark that has all parts.
     pub(crate) fn balance(&mut self, all: &mut ledger::Share<L>) -> u64
         requires { all.old.parts ≡ L.parts }
-        ensures number { result ≡ number_of self.old }
+        ensures number { result ≡ latest_number self.old }
         ensures last { result ≤ L.last }
         ensures amount { result ≡ all.old.amount }
         ensures same { self.new ≡ self.old }
@@ -339,20 +315,11 @@ impl<L: Naming, K: Clone + Ord, V: Clone + Eq, const S: usize> Book<L, K, V, S> 
     fn validate(&self, reads: &[Recorded<K, V>]) -> Option<Cause>
         requires keys { EqualsAreSame K.eq }
         requires values { EqualsAreSame V.eq }
-        ensures some { IfSome result (CanRefuse K.cmp self.now reads.now) }
+        ensures some { IfSome result (MayRefuse K.cmp self.now reads.now) }
         ensures unmissed { IfSome result (λ cause. (misses : ℕ) → misses ≡ misses_after cause misses) }
-        ensures none { IfNone result (CanCommit K.cmp self.now reads.now) }
+        ensures none { IfNone result (MayAccept K.cmp self.now reads.now) }
     {
-        match first_conflict(&self.present.view(), reads) {
-            Some(place) => Some(Cause::Conflict(place)),
-            None => {
-                if self.number() == self.last {
-                    Some(Cause::Exhausted)
-                } else {
-                    None
-                }
-            }
-        }
+        self.history.validate(&self.present.view(), reads)
     }
 
     // Makes writes on the present list, and adds the transaction, whose reads hold. All memory is had before anything changes.
@@ -370,12 +337,12 @@ impl<L: Naming, K: Clone + Ord, V: Clone + Eq, const S: usize> Book<L, K, V, S> 
         requires values { ClonesAreSame V.is_clone }
         requires empty { prepared.replies.items ≡ [] }
         requires fits { length writes.items ≤ vec_capacity prepared.replies }
-        requires can { CanCommit K.cmp self.old prepared.reads }
+        requires can { MayAccept K.cmp self.old prepared.reads }
         ensures told { IfOk result (λ told. told.items ≡ replies_to K.cmp writes.items (present_list K.cmp self.old)) }
-        ensures added { OnOk result (self.new ≡ record self.old { history = self.old.history ++ next_transaction K.cmp self.old prepared.reads writes.items ∷ []; cell_steps = self.new.cell_steps }) }
+        ensures added { OnOk result (self.new ≡ record self.old { history = self.old.history ++ transaction_of K.cmp self.old prepared.reads writes.items ∷ []; cell_steps = self.new.cell_steps }) }
         ensures published { OnOk result (HasPutItem L.place (cell_number root.now) self.old self.new) }
         ensures counted { OnOk result (share.new ≡ share.old + 1) }
-        ensures cause { IfErr result (λ back. CanRefuse K.cmp self.old prepared.reads back.cause) }
+        ensures cause { IfErr result (λ back. MayRefuse K.cmp self.old prepared.reads back.cause) }
         ensures missed { IfErr result (λ back. self.new.misses ≡ misses_after back.cause self.old.misses) }
         ensures back { IfErr result (λ back. back.writes.items ≡ writes.items) }
         ensures err { OnErr result (self.new ≡ record self.old { misses = self.new.misses }) }
@@ -385,12 +352,12 @@ impl<L: Naming, K: Clone + Ord, V: Clone + Eq, const S: usize> Book<L, K, V, S> 
             alloc,
             local,
             present,
-            base: _,
             history,
-            last: _,
             ledger,
         } = self;
-        let Ok(()) = history.reserve(1) else {
+        // what is asked here tells the proof that the number is below the last one
+        history.laws();
+        let Ok(()) = history.reserve() else {
             let cause = Cause::Memory;
             return Err(Refused { cause, writes });
         };
@@ -405,12 +372,7 @@ impl<L: Naming, K: Clone + Ord, V: Clone + Eq, const S: usize> Book<L, K, V, S> 
                 return Err(Refused { cause, writes });
             }
         };
-        let replies = copied_replies(prepared.replies, told.as_slice());
-        history.push_reserved(Transaction {
-            reads: prepared.reads,
-            writes: Seq::from_vec(writes),
-            replies: Seq::from_vec(replies),
-        });
+        history.push(prepared, writes, told.as_slice());
         share.raise(ledger);
         Ok(told)
     }
@@ -422,8 +384,8 @@ impl<L: Naming, K: Clone + Ord, V: Clone + Eq, const S: usize> Book<L, K, V, S> 
         requires values { ClonesAreSame V.is_clone }
         requires equal_keys { EqualsAreSame K.eq }
         requires equal_values { EqualsAreSame V.eq }
-        ensures some { IfOk result (λ r. IfSome r (IsFirstConflict K.cmp (list_after K.cmp self.now receipt.now.number) receipt.now.reads)) }
-        ensures none { IfOk result (λ r. IfNone r (All (Holds K.cmp (list_after K.cmp self.now receipt.now.number)) receipt.now.reads)) }
+        ensures some { IfOk result (λ r. IfSome r (IsFirstConflict K.cmp (list_at K.cmp self.now receipt.now.number) receipt.now.reads)) }
+        ensures none { IfOk result (λ r. IfNone r (All (Holds K.cmp (list_at K.cmp self.now receipt.now.number)) receipt.now.reads)) }
     {
         let reads = receipt.reads.as_slice();
         if receipt.number == self.number() {
@@ -438,35 +400,20 @@ impl<L: Naming, K: Clone + Ord, V: Clone + Eq, const S: usize> Book<L, K, V, S> 
         requires number { HasNumber self.now.base self.now.history number }
         requires keys { ClonesAreSame K.is_clone }
         requires values { ClonesAreSame V.is_clone }
-        ensures { IfOk result (λ list. list.pairs ≡ list_after K.cmp self.now number) }
+        ensures { IfOk result (λ list. list.pairs ≡ list_at K.cmp self.now number) }
     {
-        let count = (number - self.base.number()) as usize;
-        replay(self.alloc, &self.base, &self.history[..count])
+        self.history.rebuild(self.alloc, number)
     }
 
-    // Copies of the pairs of a number's list.
-    fn pairs_at(&self, number: u64) -> Result<Vec<(K, V)>, AllocError>
-        requires number { HasNumber self.now.base self.now.history number }
+    // Makes the list of a number the base. All memory is had before anything changes.
+    fn rebase_at(&mut self, upto: u64) -> Result<(), AllocError>
+        requires has { HasNumber self.old.base self.old.history upto }
         requires keys { ClonesAreSame K.is_clone }
         requires values { ClonesAreSame V.is_clone }
-        ensures pairs { IfOk result (λ pairs. pairs.items ≡ list_after K.cmp self.now number) }
-        ensures rising { IfOk result (λ pairs. IsAscending K.cmp pairs.items) }
+        ensures rebased { OnOk result (self.new ≡ record self.old { base = base_at K.cmp self.old.base self.old.history upto; history = history_behind self.old.base self.old.history upto }) }
+        ensures err { OnErr result (self.new ≡ self.old) }
     {
-        let list = self.rebuild_at(number)?;
-        // what is asked here tells the proof that the keys rise
-        let _count = list.len();
-        pairs_of(self.alloc, &list)
-    }
-
-    // Makes a list, that of a number, the base.
-    fn rebase(&mut self, upto: u64, pairs: Vec<(K, V)>)
-        requires has { HasNumber self.old.base self.old.history upto }
-        requires pairs { pairs.items ≡ list_after K.cmp self.old upto }
-        requires rising { IsAscending K.cmp pairs.items }
-        ensures { self.new ≡ record self.old { base = base_at K.cmp self.old.base self.old.history upto; history = history_behind self.old.base self.old.history upto } }
-    {
-        let count = (upto - self.base.number()) as usize;
-        drop_first(&mut self.history, count);
-        self.base = Base::new(upto, pairs);
+        let list = self.rebuild_at(upto)?;
+        self.history.begin_at(self.alloc, upto, &list)
     }
 }

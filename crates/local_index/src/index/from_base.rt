@@ -9,7 +9,7 @@ ghost use Rattle.local_index.specs.FromBase.{MayRefuseBase};
 use crate::index::LocalIndex;
 use local_versions::draft::rising_until;
 use local_versions::{LocalStore, StoreRefused, build_list};
-use serial_history::base::Base;
+use serial_history::{Base, History};
 use std::alloc::Global;
 use thiserror::Error;
 
@@ -68,9 +68,7 @@ impl<K: Clone + Ord, V: Clone + Eq, const S: usize> LocalIndex<K, V, S> {
             Ok(store) => Ok(LocalIndex {
                 alloc,
                 store,
-                base: Base::new(number, pairs),
-                history: Vec::new(alloc),
-                last: u64::MAX,
+                history: History::beginning_with(alloc, Base::new(number, pairs)),
             }),
             Err(StoreRefused::Memory) => {
                 let cause = BaseCause::Memory;

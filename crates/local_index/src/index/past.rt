@@ -8,7 +8,6 @@ ghost use Rattle.local_index.specs.State.{Has, Checkpoints, Rebases, list_at};
 ghost use Rattle.local_index.specs.Past.{CommitsKeeping, RefusesPast, Trims};
 
 use crate::index::LocalIndex;
-use serial_history::base::{Base, drop_first, pairs_of};
 use serial_history::{Accepted, CheckpointRefused, Receipt, Refused, SinceRefused, Transaction};
 use std::alloc::AllocError;
 use thiserror::Error;
@@ -37,15 +36,7 @@ impl<K: Clone + Ord, V: Clone + Eq, const S: usize> LocalIndex<K, V, S> {
         requires values { ClonesAreSame V.is_clone }
         ensures { Checkpoints K.cmp self.old upto result self.new }
     {
-        let first = self.first_number();
-        if upto < first {
-            return Err(CheckpointRefused::Behind(first));
-        }
-        let present = self.present_number();
-        if upto > present {
-            return Err(CheckpointRefused::Ahead(present));
-        }
-        if upto == first {
+        if !self.history.can_begin_at(upto)? {
             return Ok(());
         }
         match self.rebase_at(upto) {
@@ -103,7 +94,7 @@ impl<K: Clone + Ord, V: Clone + Eq, const S: usize> LocalIndex<K, V, S> {
         ensures pairs { result.1.now ≡ self.now.base.pairs }
         ensures rising { IsAscending K.cmp result.1.now }
     {
-        (self.base.number(), self.base.pairs())
+        self.history.base()
     }
 
     /// The transactions behind a number, in order: those that lead from its list to the present one, with their writes and
@@ -116,15 +107,7 @@ impl<K: Clone + Ord, V: Clone + Eq, const S: usize> LocalIndex<K, V, S> {
         ensures has { IfOk result (λ _. Has self.now number) }
         ensures refused { IfErr result (RefusesSince self.now.base self.now.history number) }
     {
-        let first = self.first_number();
-        if number < first {
-            return Err(SinceRefused::TooOld(first));
-        }
-        let present = self.present_number();
-        if number > present {
-            return Err(SinceRefused::Ahead(present));
-        }
-        Ok(&self.history[(number - first) as usize..])
+        self.history.since(number)
     }
 
     /// The list of an older number, or of the present one, rebuilt as an audit does: a copy that takes no slot, and stays as
@@ -147,20 +130,6 @@ impl<K: Clone + Ord, V: Clone + Eq, const S: usize> LocalIndex<K, V, S> {
         }
     }
 
-    // Copies of the pairs of a number's list.
-    fn pairs_at(&self, number: u64) -> Result<Vec<(K, V)>, AllocError>
-        requires number { Has self.now number }
-        requires keys { ClonesAreSame K.is_clone }
-        requires values { ClonesAreSame V.is_clone }
-        ensures pairs { IfOk result (λ pairs. pairs.items ≡ list_at K.cmp self.now number) }
-        ensures rising { IfOk result (λ pairs. IsAscending K.cmp pairs.items) }
-    {
-        let list = self.rebuild_at(number)?;
-        // what is asked here tells the proof that the keys rise
-        let _count = list.len();
-        pairs_of(self.alloc, &list)
-    }
-
     // Makes the list of a number the base. All memory is had before anything changes.
     fn rebase_at(&mut self, upto: u64) -> Result<(), AllocError>
         requires number { Has self.old upto }
@@ -169,20 +138,7 @@ impl<K: Clone + Ord, V: Clone + Eq, const S: usize> LocalIndex<K, V, S> {
         ensures rebases { OnOk result (Rebases K.cmp self.old upto self.new) }
         ensures refused { OnErr result (self.new ≡ self.old) }
     {
-        let pairs = self.pairs_at(upto)?;
-        self.rebase(upto, pairs);
-        Ok(())
-    }
-
-    // Makes a list, that of a number, the base.
-    fn rebase(&mut self, upto: u64, pairs: Vec<(K, V)>)
-        requires has { Has self.old upto }
-        requires pairs { pairs.items ≡ list_at K.cmp self.old upto }
-        requires rising { IsAscending K.cmp pairs.items }
-        ensures { Rebases K.cmp self.old upto self.new }
-    {
-        let count = (upto - self.base.number()) as usize;
-        drop_first(&mut self.history, count);
-        self.base = Base::new(upto, pairs);
+        let list = self.rebuild_at(upto)?;
+        self.history.begin_at(self.alloc, upto, &list)
     }
 }

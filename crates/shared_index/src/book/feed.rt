@@ -8,7 +8,7 @@ ghost use Rattle.shared_index.specs.SharedFeeds.{RefusesFeed};
 use crate::book::Book;
 use crate::naming::Naming;
 use serial_history::transaction::copied_replies;
-use serial_history::{Seq, Transaction};
+use serial_history::{Seq, SinceRefused, Transaction};
 use std::alloc::{AllocError, Global};
 use thiserror::Error;
 use version_views::Write;
@@ -40,15 +40,12 @@ impl<L: Naming, K: Clone + Ord, V: Clone + Eq, const S: usize> Book<L, K, V, S> 
         ensures has { OnOk result (HasNumber self.now.base self.now.history number) }
         ensures refused { IfErr result (RefusesFeed self.now.base self.now.history number) }
     {
-        let first = self.base.number();
-        if number < first {
-            return Err(FeedRefused::TooOld(first));
-        }
-        let present = self.number();
-        if number > present {
-            return Err(FeedRefused::Ahead(present));
-        }
-        match copied_all(self.alloc, &self.history[(number - first) as usize..]) {
+        let rest = match self.history.since(number) {
+            Ok(rest) => rest,
+            Err(SinceRefused::TooOld(first)) => return Err(FeedRefused::TooOld(first)),
+            Err(SinceRefused::Ahead(present)) => return Err(FeedRefused::Ahead(present)),
+        };
+        match copied_all(self.alloc, rest) {
             Ok(rest) => Ok(rest),
             Err(AllocError) => Err(FeedRefused::Memory),
         }

@@ -18,7 +18,7 @@ use crate::share::{Share, cut_counting};
 use sdd_domain::atomic_shared::AtomicShared;
 use sdd_domain::domain::Domain;
 use sdd_domain::local::Local;
-use serial_history::base::Base;
+use serial_history::{Base, History};
 use shared_versions::{Node, Present, rising_until};
 use std::alloc::{AllocError, Global};
 use std::sync::ledger::Blank;
@@ -111,9 +111,7 @@ impl<L: Naming, K: Clone + Ord, V: Clone + Eq, const S: usize> Book<L, K, V, S> 
                     alloc,
                     local,
                     present,
-                    base: Base::new(number, pairs),
-                    history: Vec::new(alloc),
-                    last: u64::MAX,
+                    history: History::beginning_with(alloc, Base::new(number, pairs)),
                     ledger,
                 };
                 Ok((book, root, cut))
@@ -140,8 +138,8 @@ impl<L: Naming, K: Clone + Ord, V: Clone + Eq, const S: usize> Book<L, K, V, S> 
     {
         // what is asked here tells the proof that the number is at most the last one
         let _number = self.number();
-        let number = self.base.number();
-        let pairs = copied(self.alloc, self.base.pairs())?;
+        let (number, pairs) = self.history.base();
+        let pairs = copied(self.alloc, pairs)?;
         Ok(BaseList { number, pairs })
     }
 }

@@ -7,13 +7,13 @@ use Rattle.local_index.proofs.index.LocalIndex.close_place.Goals as goal
 
 pub close-requires : goal.close-requires
 close-requires g c =
-    let v = session_reads g.K.Ord.cmp c.self.invariant _ c.args.place c.args.number c.self.view_is c.requires in
+    let v = session_reads g.K.Ord.cmp c.self.inside.history c.self.invariant _ c.args.place c.args.number c.self.view_is c.requires in
     (lit< tt, (v.0, v.1))
 
 pub invariant_of-self : goal.invariant_of-self
-invariant_of-self g c = kept_close g.K.Ord.cmp c.self.invariant c.close.new.self c.args.place c.close.ensures
+invariant_of-self g c = kept_close g.K.Ord.cmp c.self.inside.history c.self.invariant c.close.new.self c.args.place c.close.ensures
 
 pub returns : goal.returns
 returns g c =
-    ap (λ (x : Store _ _). index_state x c.self.inside.base c.self.inside.history.items c.self.inside.last) c.close.ensures
+    ap (λ (x : Store _ _). index_state x c.self.inside.history) c.close.ensures
     ∙ ap (λ (x : State _ _). record x { places = set x.places c.args.place None }) c.self.view_is

@@ -12,20 +12,20 @@ pub returns-in_default-clause-full : goal.returns-in_default-clause-full
 returns-in_default-clause-full g c = (λ e. subst (λ (x : State _ _). All IsSome x.places) c.self.view_is c.in_default.ensures.full, λ full. refl)
 
 pub invariant_of-self-2 : goal.invariant_of-self-2
-invariant_of-self-2 g c = kept_open g.K.Ord.cmp c.self.invariant c.open.new.self c.in-Some.place c.in-Some.ensures.opened
+invariant_of-self-2 g c = kept_open g.K.Ord.cmp c.self.inside.history c.self.invariant c.open.new.self c.in-Some.place c.in-Some.ensures.opened
 
 pub returns-clause-opens : goal.returns-clause-opens
 returns-clause-opens g c =
     let cmp = g.K.Ord.cmp in
     let place = c.in-Some.place in
     let number = c.present_number-number.result in
-    let before : State _ _ = index_state c.self.inside.store c.self.inside.base c.self.inside.history.items c.self.inside.last in
+    let before : State _ _ = index_state c.self.inside.store c.self.inside.history in
     let free = sym (ap (λ (x : State _ _). slice_get x.places place) c.self.view_is) ∙ c.in-Some.ensures.free in
-    let numbered = present_number cmp c.self.invariant ∙ ap (λ (x : State _ _). latest_number x) c.self.view_is ∙ sym c.present_number-number.ensures in
-    let pairs = present_pairs cmp c.self.invariant ∙ ap (λ (x : State _ _). present cmp x) c.self.view_is in
+    let numbered = present_number cmp c.self.inside.history c.self.invariant ∙ ap (λ (x : State _ _). latest_number x) c.self.view_is ∙ sym c.present_number-number.ensures in
+    let pairs = present_pairs cmp c.self.inside.history c.self.invariant ∙ ap (λ (x : State _ _). present cmp x) c.self.view_is in
     let version = ap (λ (n : ℕ). record { number = n; pairs = c.self.inside.store.present.pairs }) numbered ∙ ap (λ (ps : List _). record { number = number; pairs = ps }) pairs in
     let changed =
-    ap (λ (x : Store _ _). index_state x c.self.inside.base c.self.inside.history.items c.self.inside.last) c.in-Some.ensures.opened
+    ap (λ (x : Store _ _). index_state x c.self.inside.history) c.in-Some.ensures.opened
     ∙ ap (λ (v : Version _ _). record before { places = set c.self.inside.store.readers place (Some v) }) version
     ∙ ap (λ (x : State _ _). record x { places = set x.places place (Some (record { number = number; pairs = present cmp c.args.self.now })) }) c.self.view_is in
     rw (c.new-2.ensures.place, c.new-2.ensures.receipt) (record { free = free; number = c.present_number-number.ensures; unread = c.new.ensures; changed = changed })
@@ -39,7 +39,7 @@ returns-clause-full g c =
     (λ e. cc, λ full. absurd (let h = at_get IsSome c.args.self.now.places c.in-Some.place None full free in cc))
 
 pub invariant_of-self : goal.invariant_of-self
-invariant_of-self g c = subst (λ (x : Store _ _). IsIndex g.K.Ord.cmp g.row.S x c.self.inside.base c.self.inside.history.items c.self.inside.last) (sym c.in_default.ensures.refused) c.self.invariant
+invariant_of-self g c = subst (λ (x : Store _ _). IsIndex g.K.Ord.cmp g.row.S x c.self.inside.history.base c.self.inside.history.transactions) (sym c.in_default.ensures.refused) c.self.invariant
 
 pub returns-clause-back : goal.returns-clause-back
 returns-clause-back g c =

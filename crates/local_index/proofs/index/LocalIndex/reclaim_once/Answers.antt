@@ -7,12 +7,12 @@ use Rattle.local_index.proofs.IndexLemmas.{kept_same}
 use Rattle.local_index.proofs.index.LocalIndex.reclaim_once.Goals as goal
 
 pub invariant_of-self : goal.invariant_of-self
-invariant_of-self g c = kept_same g.K.Ord.cmp c.self.invariant c.reclaim_once.new.self c.reclaim_once.new.self.used c.reclaim_once.new.self.raises c.reclaim_once.ensures.same
+invariant_of-self g c = kept_same g.K.Ord.cmp c.self.inside.history c.self.invariant c.reclaim_once.new.self c.reclaim_once.new.self.used c.reclaim_once.new.self.raises c.reclaim_once.ensures.same
 
 pub returns-clause-changed : goal.returns-clause-changed
 returns-clause-changed g c =
     let now = c.reclaim_once.new.self in
-    ap (λ (x : Store _ _). index_state x c.self.inside.base c.self.inside.history.items c.self.inside.last) c.reclaim_once.ensures.same ∙ ap (λ (x : State _ _). record x { used = now.used; raises = now.raises }) c.self.view_is
+    ap (λ (x : Store _ _). index_state x c.self.inside.history) c.reclaim_once.ensures.same ∙ ap (λ (x : State _ _). record x { used = now.used; raises = now.raises }) c.self.view_is
 
 pub returns-clause-fewer : goal.returns-clause-fewer
 returns-clause-fewer g c = subst (λ (x : State _ _). c.reclaim_once.new.self.used ≤ x.used) c.self.view_is c.reclaim_once.ensures.fewer

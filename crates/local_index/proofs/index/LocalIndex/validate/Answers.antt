@@ -1,23 +1,26 @@
-use Rattle.std.proofs.Common.{List, sym, ap, ◌∙◌, subst}
-use Rattle.std.specs.List.{All}
-use Rattle.serial_history.specs.Serial.{Holds, IsFirstConflict}
-use Rattle.local_index.specs.State.{State, present}
-use Rattle.local_index.proofs.IndexLemmas.{present_pairs}
+use Rattle.std.proofs.Common.{◌∙◌, IfSome, IfNone, subst}
+use Rattle.serial_history.specs.Histories as histories
+use Rattle.serial_history.specs.Serial.{latest}
+use Rattle.local_index.specs.State.{State, latest_number, present}
+use Rattle.local_index.proofs.IndexLemmas.{present_pairs, refuses_first, slots_later}
 use Rattle.local_index.proofs.index.LocalIndex.validate.Goals as goal
 
-pub returns-in-Some-clause-some : goal.returns-in-Some-clause-some
-returns-in-Some-clause-some g c = λ writes.
-    let is = c.present.ensures ∙ present_pairs g.K.Ord.cmp c.self.invariant ∙ ap (λ (x : State _ _). present g.K.Ord.cmp x) c.self.view_is in
-    subst (λ (ps : List _). IsFirstConflict g.K.Ord.cmp ps c.args.reads.now c.in-Some.place) is c.in-Some.ensures.some
+pub returns-clause-some : goal.returns-clause-some
+returns-clause-some g c =
+    let cmp = g.K.Ord.cmp in
+    let h = c.self.inside.history in
+    let reads = c.args.reads.now in
+    let there = subst (λ ps. IfSome c.validate.result (histories.MayRefuse cmp (latest h.base h.transactions) h.last ps reads)) (c.present.ensures ∙ present_pairs cmp h c.self.invariant) c.validate.ensures.some in
+    let here = subst (λ (x : State _ _). IfSome c.validate.result (histories.MayRefuse cmp (latest_number x) x.last (present cmp x) reads)) c.self.view_is there in
+    refuses_first cmp g.row.S c.args.self.now reads c.validate.result here c.validate.ensures.first
 
-pub returns-then-present_number-last-clause-some : goal.returns-then-present_number-last-clause-some
-returns-then-present_number-last-clause-some g c = λ writes.
-    let is = c.present.ensures ∙ present_pairs g.K.Ord.cmp c.self.invariant ∙ ap (λ (x : State _ _). present g.K.Ord.cmp x) c.self.view_is in
-    (subst (λ (ps : List _). All (Holds g.K.Ord.cmp ps) c.args.reads.now) is c.in-None.ensures.none, sym c.present_number.ensures ∙ c.if-present_number-last.true ∙ c.last.ensures)
+pub returns-clause-none : goal.returns-clause-none
+returns-clause-none g c =
+    let cmp = g.K.Ord.cmp in
+    let h = c.self.inside.history in
+    let reads = c.args.reads.now in
+    let there = subst (λ ps. IfNone c.validate.result (histories.MayAccept cmp (latest h.base h.transactions) h.last ps reads)) (c.present.ensures ∙ present_pairs cmp h c.self.invariant) c.validate.ensures.none in
+    subst (λ (x : State _ _). IfNone c.validate.result (histories.MayAccept cmp (latest_number x) x.last (present cmp x) reads)) c.self.view_is there
 
-pub returns-else-present_number-last-clause-none : goal.returns-else-present_number-last-clause-none
-returns-else-present_number-last-clause-none g c =
-    let is = c.present.ensures ∙ present_pairs g.K.Ord.cmp c.self.invariant ∙ ap (λ (x : State _ _). present g.K.Ord.cmp x) c.self.view_is in record {
-      reads_hold = subst (λ (ps : List _). All (Holds g.K.Ord.cmp ps) c.args.reads.now) is c.in-None.ensures.none;
-      not_last = λ e. c.if-present_number-last.false (c.present_number.ensures ∙ e ∙ sym c.last.ensures);
-    }
+pub returns-clause-early : goal.returns-clause-early
+returns-clause-early g c = slots_later c.validate.result c.validate.ensures.first

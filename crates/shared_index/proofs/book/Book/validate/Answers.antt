@@ -1,21 +1,26 @@
-use Rattle.std.proofs.Common.{List, sym, ap, ◌∙◌, subst}
-use Rattle.std.specs.List.{All}
-use Rattle.serial_history.specs.Serial.{Holds}
+use Rattle.std.proofs.Common.{ap, ◌∙◌, IfSome, IfNone, subst}
+use Rattle.serial_history.specs.Histories as histories
+use Rattle.serial_history.specs.Serial.{latest}
 use Rattle.version_views.specs.Cuts.{pairs_in}
-use Rattle.shared_index.specs.Books.{BookState, present_list}
+use Rattle.shared_index.specs.Books.{BookState, latest_number, present_list}
+use Rattle.shared_index.proofs.BookLemmas.{unmissed}
 use Rattle.shared_index.proofs.book.Book.validate.Goals as goal
 
-pub returns-then-number-self-clause-some : goal.returns-then-number-self-clause-some
-returns-then-number-self-clause-some g c =
-    let is = ap pairs_in c.view.ensures ∙ c.self.invariant.1.list ∙ ap (present_list g.K.Ord.cmp) c.self.view_is in (
-      subst (λ (ps : List _). All (Holds g.K.Ord.cmp ps) c.args.reads.now) is c.in-None.ensures.none,
-      sym c.number.ensures.number ∙ c.if-number-self.true ∙ ap (λ (b : BookState _ _). b.last) c.self.view_is,
-    )
+pub returns-clause-some : goal.returns-clause-some
+returns-clause-some g c =
+    let cmp = g.K.Ord.cmp in
+    let h = c.self.inside.history in
+    let reads = c.args.reads.now in
+    let there = subst (λ ps. IfSome c.validate.result (histories.MayRefuse cmp (latest h.base h.transactions) h.last ps reads)) (ap pairs_in c.view.ensures ∙ c.self.invariant.1.list) c.validate.ensures.some in
+    subst (λ (x : BookState _ _). IfSome c.validate.result (histories.MayRefuse cmp (latest_number x) x.last (present_list cmp x) reads)) c.self.view_is there
 
-pub returns-else-number-self-clause-none : goal.returns-else-number-self-clause-none
-returns-else-number-self-clause-none g c =
-    let is = ap pairs_in c.view.ensures ∙ c.self.invariant.1.list ∙ ap (present_list g.K.Ord.cmp) c.self.view_is in
-    record {
-      reads_hold = subst (λ (ps : List _). All (Holds g.K.Ord.cmp ps) c.args.reads.now) is c.in-None.ensures.none;
-      not_last = λ e. c.if-number-self.false (c.number.ensures.number ∙ e ∙ ap (λ (b : BookState _ _). b.last) (sym c.self.view_is));
-    }
+pub returns-clause-unmissed : goal.returns-clause-unmissed
+returns-clause-unmissed g c = unmissed c.validate.result c.validate.ensures.first
+
+pub returns-clause-none : goal.returns-clause-none
+returns-clause-none g c =
+    let cmp = g.K.Ord.cmp in
+    let h = c.self.inside.history in
+    let reads = c.args.reads.now in
+    let there = subst (λ ps. IfNone c.validate.result (histories.MayAccept cmp (latest h.base h.transactions) h.last ps reads)) (ap pairs_in c.view.ensures ∙ c.self.invariant.1.list) c.validate.ensures.none in
+    subst (λ (x : BookState _ _). IfNone c.validate.result (histories.MayAccept cmp (latest_number x) x.last (present_list cmp x) reads)) c.self.view_is there
