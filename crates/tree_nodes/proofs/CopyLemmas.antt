@@ -62,7 +62,7 @@ module _ {X : Type 0} where
   take_taken (suc j) (suc n) [] h = refl
   take_taken (suc j) (suc n) (y ∷ ys) h = ap (λ zs. y ∷ zs) (take_taken j n ys (omega (arith, h)))
 
-  slice_taken : (j n : ℕ) (ys : List X) → j < n → slice_get (take n ys) j ≡ slice_get ys j
+  pub slice_taken : (j n : ℕ) (ys : List X) → j < n → slice_get (take n ys) j ≡ slice_get ys j
   slice_taken j zero ys h = absurd (omega (arith, h))
   slice_taken j (suc n) [] h = refl
   slice_taken zero (suc n) (y ∷ ys) h = refl

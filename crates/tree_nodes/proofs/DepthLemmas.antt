@@ -57,7 +57,7 @@ module _ {X : Type 0} (f : X → Bool) where
         | false ↦ any_rear xs ys h
       ]
 
-both_true : (a b : Bool) → (a && b) ≡ true → (a ≡ true) × (b ≡ true)
+pub both_true : (a b : Bool) → (a && b) ≡ true → (a ≡ true) × (b ≡ true)
 both_true true b h = (refl, h)
 both_true false b h = absurd (let e : false ≡ true = h in cc)
 

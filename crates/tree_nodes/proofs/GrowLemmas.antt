@@ -3,8 +3,9 @@ use Rattle.std.proofs.Common.{◌≡◌, ◌≢◌, ◌≤◌, ◌⊎◌, inl, i
 use Rattle.std.specs.declared.cmp.Ordering.{Ordering}
 use Rattle.std.specs.Ordering.{is_lt}
 use Rattle.std.specs.List.Sorted.{IsStrictlySortedBy}
-use Rattle.leaf_array.specs.Cells.{no_cells}
-use Rattle.tree_nodes.specs.Shape.{ArenaContent, child_for, child_in, way, sum_along, node_sum, pairs_under, leaves_under, leaf_times, node_times, IsNode, IsTree, Stands}
+use Rattle.leaf_array.specs.Cells.{Cells, no_cells}
+use Rattle.leaf_array.specs.Pairs.{IsAscending}
+use Rattle.tree_nodes.specs.Shape.{ArenaContent, AllKeys, IsWithin, child_for, child_in, way, sum_along, node_sum, pairs_under, leaves_under, leaf_times, node_times, IsNode, IsTree, Stands}
 use Rattle.std.proofs.lemmas.Bool.Decides.{eqb_tells}
 use Rattle.tree_nodes.proofs.ShapeLemmas.{self_once, Agrees, kept}
 use Rattle.tree_nodes.proofs.WayLemmas.{tree_below}
@@ -21,20 +22,24 @@ at_most_one false = omega arith
 empty_node : {K : Type 0} → IsNode {K = K} (no_cells false)
 empty_node = record { thawed = refl; living = refl; packed = refl }
 
-module _ {K V : Type 0} (cmp : K → K → Ordering) (b : ArenaContent K V) where
-  -- a node over one empty leaf
-  pub one_node : (leaf root : ℕ) → b.leaf leaf ≡ Some (no_cells false) → b.node root ≡ Some (no_cells false, leaf) → Stands cmp b 1 root
-  one_node leaf root l n = record {
-    tree = ((no_cells false, leaf), n, empty_node, (no_cells false, l, record { thawed = refl; rising = none_rising cmp; within = tt }));
+module _ {K V : Type 0} (cmp : K → K → Ordering) (b : ArenaContent K V) (leaf root : ℕ) (c : Cells K V) (l : b.leaf leaf ≡ Some c) (n : b.node root ≡ Some (no_cells false, leaf)) where
+  -- a node over one leaf
+  pub one_node : c.frozen ≡ false → IsAscending cmp c.pairs → Stands cmp b 1 root
+  one_node thawed rising = record {
+    tree = ((no_cells false, leaf), n, empty_node, (c, l, record { thawed = thawed; rising = rising; within = unbounded c.pairs }));
     leaf_once = λ k. rw n (at_most_one (leaf == k));
     node_once = λ k. rw n (let m : cond (root == k) 1 0 ≤ 1 = at_most_one (root == k) in omega (arith, m));
   }
+    where
+      unbounded : (ps : List (K × V)) → AllKeys (IsWithin cmp None None) ps
+      unbounded [] = tt
+      unbounded (p ∷ ps) = ((tt, tt), unbounded ps)
 
-  pub one_pairs : (leaf root : ℕ) → b.leaf leaf ≡ Some (no_cells false) → b.node root ≡ Some (no_cells false, leaf) → pairs_under b 1 root ≡ []
-  one_pairs leaf root l n = rw n (rw l refl)
+  pub one_pairs : pairs_under b 1 root ≡ c.pairs
+  one_pairs = rw n (rw l refl)
 
-  pub one_order : (leaf root : ℕ) → b.node root ≡ Some (no_cells false, leaf) → leaves_under b 1 root ≡ leaf ∷ []
-  one_order leaf root n = rw n refl
+  pub one_order : leaves_under b 1 root ≡ leaf ∷ []
+  one_order = rw n refl
 
 module _ {K V : Type 0} (cmp : K → K → Ordering) (a b : ArenaContent K V) where
   -- a tree whose numbers hold the same has the same ways

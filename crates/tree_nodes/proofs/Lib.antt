@@ -1,3 +1,4 @@
+pub mod AppendLemmas
 pub mod ChildLemmas
 pub mod ShapeLemmas
 pub mod FocusLemmas

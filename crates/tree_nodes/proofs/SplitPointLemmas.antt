@@ -63,7 +63,7 @@ module _ {K V : Type 0} (cmp : K → K → Ordering) (o : IsTotalOrder cmp) wher
     pub lower : AllKeys (IsWithin cmp from (Some sep)) (take n ps)
     pub upper : AllKeys (IsWithin cmp (Some sep) upto) (drop n ps)
 
-  sides_at : (from upto : Option K) (sep : K) (m : ℕ) (ps : List (K × V)) → IsAscending cmp ps → AllKeys (IsWithin cmp from upto) ps → key_at ps m ≡ Some sep → IsUnder cmp upto sep → Sides from upto sep (suc m) ps
+  pub sides_at : (from upto : Option K) (sep : K) (m : ℕ) (ps : List (K × V)) → IsAscending cmp ps → AllKeys (IsWithin cmp from upto) ps → key_at ps m ≡ Some sep → IsUnder cmp upto sep → Sides from upto sep (suc m) ps
   sides_at from upto sep m ps up all here under =
       let parts = cut_at cmp o ps m sep up here in
       let overs = all_map (IsWithin cmp from upto) (IsOver cmp from) (λ k w. w.0) ps all in

@@ -11,7 +11,6 @@ ghost use Rattle.tree_nodes.specs.Push.{LastLeafTakes};
 use crate::arenas::Arenas;
 use crate::leaf::Leaf;
 use crate::walk::Position;
-use leaf_array::InsertResult;
 use std::alloc::{AllocError, Global};
 
 impl<K: Ord, V> Arenas<K, V> {
@@ -91,13 +90,15 @@ impl<K: Ord, V> Arenas<K, V> {
         let mut next = from;
         let mut left = count;
         while left > 0 {
-            let Some(spot) = next else { unreachable!() };
-            let (key, val) = spot.pair();
-            match self.push(key.clone()?, val.clone()?) {
-                InsertResult::Success => {},
-                _ => return Err(AllocError),
+            (next, left) = self.fill(source, next, left)?;
+            if left == 0 {
+                return Ok(next);
             }
-            (next, left) = self.fill(source, source.behind(spot), left - 1)?;
+            let Some(spot) = next else { unreachable!() };
+            let run = (spot.leaf.len() - spot.place).min(left);
+            let done = self.push_leaf(spot.leaf, spot.place, run)?;
+            next = source.first_at(spot.moved(done));
+            left -= done;
         }
         Ok(next)
     }
@@ -165,6 +166,7 @@ impl<K: Ord, V> Arenas<K, V> {
     {
         match self.leaves.get_mut(at) {
             Some(leaf) => {
+                let _ = leaf.len();
                 leaf.extend(source, from, count)?;
                 self.len += count;
                 Ok(())

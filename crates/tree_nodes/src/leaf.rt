@@ -93,8 +93,8 @@ impl<K: Ord, V> Leaf<K, V> {
         let _ = self.array.len();
     }
 
-    /// Puts clones of so many pairs of another leaf, from a place on, behind all others, whose keys are lesser. There are some,
-    /// and nothing that was removed or replaced is kept.
+    /// Puts clones of so many pairs of another leaf, from a place on, behind all others, whose keys are lesser. Nothing that
+    /// was removed or replaced is kept.
     #[inline]
     pub(crate) fn extend(
         &mut self,
@@ -107,7 +107,7 @@ impl<K: Ord, V> Leaf<K, V> {
         V: Clone + Drop,
         requires keys { ClonesAreSame K.is_clone }
         requires values { ClonesAreSame V.is_clone }
-        requires some { 0 < length self.old.array.pairs }
+        requires living { self.old.array.retired ≡ false }
         requires packed { self.old.array.used ≡ length self.old.array.pairs }
         requires room { self.old.array.used + count ≤ 15 }
         requires within { from + count ≤ length source.now.array.pairs }

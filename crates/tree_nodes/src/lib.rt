@@ -15,6 +15,7 @@
 //! ```
 #![tactic(auto)]
 
+mod append;
 mod arenas;
 mod copy;
 mod equal;

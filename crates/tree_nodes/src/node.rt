@@ -180,6 +180,19 @@ impl<K: Ord> InnerNode<K> {
         let _ = self.children.len();
     }
 
+    /// Puts a child behind all others, and a separator above all others between it and the one before.
+    pub(crate) fn append(&mut self, separator: K, child: usize)
+        requires node { IsNode self.old.children }
+        requires room { self.old.children.used < 15 }
+        requires above { lesser K.cmp separator self.old.children.pairs ≡ length self.old.children.pairs }
+        ensures node { IsNode self.new.children }
+        ensures separators { self.new.children.pairs ≡ self.old.children.pairs ++ (separator, self.old.last) ∷ [] }
+        ensures last { self.new.last ≡ child }
+    {
+        self.children.push_last(separator, self.last);
+        self.last = child;
+    }
+
     /// The child on the way to a key, and how many children come before it.
     pub(crate) fn turn(&self, key: &K) -> (usize, usize)
         ensures place { result.0 ≡ lesser K.cmp key.now self.now.children.pairs }

@@ -17,7 +17,7 @@ use slab::Slab;
 use std::alloc::AllocError;
 
 /// A leaf with fewer pairs than this is packed where it has no room, one with as many is split.
-const CROWDED: usize = 12;
+pub(crate) const CROWDED: usize = 12;
 
 impl<K: Ord, V> Arenas<K, V> {
     /// Makes room for one more pair in the leaf on the way to a key, which is named with the node above it, and
@@ -78,16 +78,8 @@ impl<K: Ord, V> Arenas<K, V> {
         let _ = key;
         self.leaves.reserve(1)?;
         self.nodes.reserve(1)?;
-        let leaf = self.leaves.insert_reserved(Leaf {
-            array: Array::new(),
-            prev: None,
-            next: None,
-        });
-        self.root = self.nodes.insert_reserved(InnerNode {
-            children: Array::new(),
-            last: leaf,
-        });
-        self.height = 1;
+        let leaf = self.leaves.insert_reserved(Leaf::new());
+        self.plant(leaf, 0);
         Ok(leaf)
     }
 
@@ -356,7 +348,7 @@ fn set_prev<K: Ord, V>(leaves: &mut Slab<Leaf<K, V>>, at: usize, prev: usize)
 }
 
 /// Names the leaf behind one, if that is there.
-fn set_next<K: Ord, V>(leaves: &mut Slab<Leaf<K, V>>, at: usize, next: usize)
+pub(crate) fn set_next<K: Ord, V>(leaves: &mut Slab<Leaf<K, V>>, at: usize, next: usize)
     ensures arrays { AreSameArrays leaves.old leaves.new }
     ensures links { (n : ℕ) → leaf_links leaves.new n ≡ option_map (λ l. (l.0, cond (at == n) (Some next) l.1)) (leaf_links leaves.old n) }
 {

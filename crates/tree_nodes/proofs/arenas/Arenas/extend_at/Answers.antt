@@ -1,11 +1,13 @@
-use Rattle.std.proofs.Common.{◌≡◌, drop, take, Some, sym}
+use Rattle.std.proofs.Common.{◌≡◌, drop, take, Some, sym, arith}
 use Rattle.slab.specs.Slab.{get}
 use Rattle.tree_nodes.specs.declared.leaf.Leaf.{Leaf}
-use Rattle.tree_nodes.proofs.ExtendLemmas.{found_takes, leaf_rising, run_length, extended_sound, extended_takes, extended_pairs, extended_headroom}
+use Rattle.tree_nodes.proofs.ExtendLemmas.{living_of, found_takes, leaf_rising, run_length, extended_sound, extended_takes, extended_pairs, extended_headroom}
 use Rattle.tree_nodes.proofs.arenas.Arenas.extend_at.Goals as goal
 
-pub extend-requires-clause-some : goal.extend-requires-clause-some
-extend-requires-clause-some g c = (found_takes c.args.self.now c.args.at c.args.count c.requires.room c.in-Some.leaf.now (sym c.in-Some.ensures.value)).some
+pub extend-requires-clause-living : goal.extend-requires-clause-living
+extend-requires-clause-living g c =
+    let l : Leaf g.row.K.Denot g.row.V.Denot = c.in-Some.leaf.now in
+    living_of l.array.retired l.array.pairs (λ r. omega (arith, c.len.ensures.count, c.len.ensures.living r)) (found_takes c.args.self.now c.args.at c.args.count c.requires.room l (sym c.in-Some.ensures.value)).some
 
 pub extend-requires-clause-packed : goal.extend-requires-clause-packed
 extend-requires-clause-packed g c = (found_takes c.args.self.now c.args.at c.args.count c.requires.room c.in-Some.leaf.now (sym c.in-Some.ensures.value)).packed c.requires.some

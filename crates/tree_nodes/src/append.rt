@@ -1,0 +1,179 @@
+//! Leaves with their pairs come behind all others, without a way down and without a split.
+
+ghost use Rattle.std.specs.Prelude.{◌≡◌, ◌≢◌, ◌<◌, ◌≤◌, ◌+◌, ◌++◌, IfOk, IfSome, OnOk, length, take, drop};
+ghost use Rattle.leaf_array.specs.Pairs.{IsAscending};
+ghost use Rattle.leaf_array.specs.Values.{ClonesAreSame};
+ghost use Rattle.slab.specs.Slab.{get, HasRoomFor};
+ghost use Rattle.tree_nodes.specs.Content.{pairs_of, IsSound, leaf_on_way};
+ghost use Rattle.tree_nodes.specs.Depth.{ascending_headroom};
+ghost use Rattle.tree_nodes.specs.Push.{IsAdded, IsFullLast, IsLone};
+
+use crate::arenas::Arenas;
+use crate::leaf::Leaf;
+use crate::node::InnerNode;
+use crate::split::{CROWDED, set_next};
+use leaf_array::{Array, InsertResult};
+use slab::Slab;
+use std::alloc::AllocError;
+
+impl<K: Ord, V> Arenas<K, V> {
+    /// Puts clones of pairs of another tree's leaf, from a place on, behind all others, whose keys are lesser: so many of
+    /// them, in a leaf of their own, or the first one alone. It says how many.
+    pub(crate) fn push_leaf(
+        &mut self,
+        source: &Leaf<K, V>,
+        from: usize,
+        count: usize,
+    ) -> Result<usize, AllocError>
+    where
+        K: Clone + Drop,
+        V: Clone + Drop,
+        requires keys { ClonesAreSame K.is_clone }
+        requires values { ClonesAreSame V.is_clone }
+        requires sound { IsSound K.cmp self.old }
+        requires some { 0 < count }
+        requires within { from + count ≤ length source.now.array.pairs }
+        requires rising { IsAscending K.cmp (pairs_of self.old ++ take count (drop from source.now.array.pairs)) }
+        ensures some { IfOk result (λ n. 0 < n) }
+        ensures most { IfOk result (λ n. n ≤ count) }
+        ensures sound { OnOk result (IsSound K.cmp self.new) }
+        ensures pairs { IfOk result (λ n. pairs_of self.new ≡ pairs_of self.old ++ take n (drop from source.now.array.pairs)) }
+        ensures ascending { IfOk result (λ n. ascending_headroom K.cmp self.old ≤ ascending_headroom K.cmp self.new + n) }
+    {
+        let _ = source.len();
+        if self.height == 0 {
+            self.leaves.reserve(1)?;
+            self.nodes.reserve(1)?;
+            let first = insert_run(&mut self.leaves, None, source, from, count)?;
+            self.plant(first, count);
+            return Ok(count);
+        }
+        if let Some((last, separator)) = self.full_last()? {
+            self.leaves.reserve(1)?;
+            self.append(last, separator, source, from, count)?;
+            return Ok(count);
+        }
+        let (key, val) = source.pair(from);
+        match self.push(key.clone()?, val.clone()?) {
+            InsertResult::Success => {},
+            _ => return Err(AllocError),
+        }
+        Ok(1)
+    }
+
+    /// Plants a first leaf, which has so many pairs, under a first node.
+    pub(crate) fn plant(&mut self, first: usize, len: usize)
+        requires room { HasRoomFor self.old.nodes 1 }
+        requires lone { IsLone K.cmp self.old.leaves first len }
+        ensures sound { IsSound K.cmp self.new }
+        ensures pairs { IfSome (get self.old.leaves first) (λ l. pairs_of self.new ≡ l.array.pairs) }
+        ensures height { self.new.height ≡ 1 }
+        ensures leaves { self.new.leaves ≡ self.old.leaves }
+        ensures on { (key : K) → first ≡ leaf_on_way K.cmp key self.new }
+        ensures ascending { 241 ≤ ascending_headroom K.cmp self.new + len }
+    {
+        self.root = self.nodes.insert_reserved(InnerNode {
+            children: Array::new(),
+            last: first,
+        });
+        self.height = 1;
+        self.len = len;
+    }
+
+    /// The last leaf with its greatest key, if it is full and has pairs, and hangs on the root, which has room.
+    fn full_last(&self) -> Result<Option<(usize, K)>, AllocError>
+    where
+        K: Clone,
+        requires clones { ClonesAreSame K.is_clone }
+        requires sound { IsSound K.cmp self.now }
+        requires planted { self.now.height ≢ 0 }
+        ensures { IfOk result (λ r. IfSome r (λ p. IsFullLast self.now p.0 p.1)) }
+    {
+        if self.height > 1 || self.len > usize::MAX - 15 {
+            return Ok(None);
+        }
+        let Some(root) = self.nodes.get(self.root) else {
+            unreachable!()
+        };
+        if root.is_full() {
+            return Ok(None);
+        }
+        let Some(leaf) = self.leaves.get(root.last) else {
+            unreachable!()
+        };
+        let len = leaf.len();
+        if len < CROWDED || !leaf.array.is_full() {
+            return Ok(None);
+        }
+        Ok(Some((root.last, leaf.key(len - 1).clone()?)))
+    }
+
+    /// Puts clones of so many pairs of a leaf, from a place on, into a leaf behind the last one, under the root, with the
+    /// separator between both.
+    fn append(
+        &mut self,
+        last: usize,
+        separator: K,
+        source: &Leaf<K, V>,
+        from: usize,
+        count: usize,
+    ) -> Result<(), AllocError>
+    where
+        K: Clone + Drop,
+        V: Clone + Drop,
+        requires keys { ClonesAreSame K.is_clone }
+        requires values { ClonesAreSame V.is_clone }
+        requires sound { IsSound K.cmp self.old }
+        requires last { IsFullLast self.old last separator }
+        requires room { HasRoomFor self.old.leaves 1 }
+        requires within { from + count ≤ length source.now.array.pairs }
+        requires rising { IsAscending K.cmp (pairs_of self.old ++ take count (drop from source.now.array.pairs)) }
+        ensures sound { OnOk result (IsSound K.cmp self.new) }
+        ensures pairs { OnOk result (pairs_of self.new ≡ pairs_of self.old ++ take count (drop from source.now.array.pairs)) }
+        ensures ascending { OnOk result (ascending_headroom K.cmp self.old ≤ ascending_headroom K.cmp self.new + count) }
+    {
+        let _ = source.len();
+        let fresh = insert_run(&mut self.leaves, Some(last), source, from, count)?;
+        set_next(&mut self.leaves, last, fresh);
+        self.len += count;
+        match self.nodes.get_mut(self.root) {
+            Some(root) => root.append(separator, fresh),
+            None => unreachable!(),
+        }
+        Ok(())
+    }
+}
+
+/// Puts a leaf into an arena with clones of so many pairs of another leaf, from a place on, and behind the one that is named. It
+/// gives its number.
+// The leaf is filled where it stands: a leaf that goes from hand to hand is copied each time.
+#[inline]
+fn insert_run<K: Ord, V>(
+    leaves: &mut Slab<Leaf<K, V>>,
+    prev: Option<usize>,
+    source: &Leaf<K, V>,
+    from: usize,
+    count: usize,
+) -> Result<usize, AllocError>
+where
+    K: Clone + Drop,
+    V: Clone + Drop,
+    requires keys { ClonesAreSame K.is_clone }
+    requires values { ClonesAreSame V.is_clone }
+    requires room { HasRoomFor leaves.old 1 }
+    requires within { from + count ≤ length source.now.array.pairs }
+    requires rising { IsAscending K.cmp (take count (drop from source.now.array.pairs)) }
+    ensures { IfOk result (λ n. IsAdded leaves.old leaves.new n prev (take count (drop from source.now.array.pairs))) }
+{
+    let _ = source.len();
+    let fresh = leaves.insert_reserved(Leaf {
+        array: Array::new(),
+        prev,
+        next: None,
+    });
+    match leaves.get_mut(fresh) {
+        Some(leaf) => leaf.extend(source, from, count)?,
+        None => unreachable!(),
+    }
+    Ok(fresh)
+}
