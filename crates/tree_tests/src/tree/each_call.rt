@@ -95,6 +95,25 @@ pub(super) fn push_run(tree: &mut Tree, cursor: &mut Iter<'_, u64, u64>, source:
     tree.push_run(cursor, source.len()).is_ok()
 }
 
+/// The same in two runs, of which the first has so many pairs.
+pub(super) fn push_runs(
+    tree: &mut Tree,
+    cursor: &mut Iter<'_, u64, u64>,
+    source: &Tree,
+    first: usize,
+) -> bool
+    requires empty { tree.old.pairs ≡ [] }
+    requires first { unread cursor.old ≡ source.now.pairs }
+    ensures refused { OnFalse result (tree.new.pairs ≡ []) }
+{
+    let len = source.len();
+    let few = first.min(len);
+    let Ok(()) = tree.push_run(cursor, few) else {
+        return false;
+    };
+    tree.push_run(cursor, len - few).is_ok()
+}
+
 /// Removes a key, and tells whether it was there.
 pub(super) fn remove(tree: &mut Tree, key: u64) -> bool {
     tree.remove_sync(&key)

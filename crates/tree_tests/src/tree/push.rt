@@ -35,7 +35,7 @@ fn a_tree_that_was_emptied_takes_pairs_behind_its_last_one(rt: HostRuntime) {
 }
 
 // Keys below 300, in no order and none twice, as 337 and 300 have no common divisor, each with its number.
-const BELOW_300: Pairs = Pairs {
+pub(super) const BELOW_300: Pairs = Pairs {
     factor: 337,
     shift: 0,
     modulus: 300,
@@ -44,7 +44,7 @@ const BELOW_300: Pairs = Pairs {
 };
 
 /// How many pairs the first leaf has, if there is a pair.
-fn first_leaf(tree: &Tree) -> Option<usize> {
+pub(super) fn first_leaf(tree: &Tree) -> Option<usize> {
     let (key, _) = first_of(tree)?;
     Some(leaf_at(tree, key)?.array.len())
 }

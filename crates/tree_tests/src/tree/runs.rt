@@ -2,15 +2,19 @@
 
 use super::Tree;
 use super::calls::Told::Is;
-use super::calls::{equal, read};
-use super::each_call::{depth_of, empty, len_of, push_run, started, upsert};
+use super::calls::{equal, fill, read};
+use super::each_call::{depth_of, empty, len_of, push_run, push_runs, started, upsert};
+use super::push::{BELOW_300, first_leaf};
 use std::alloc::Global;
 
-/// A tree of the keys below a hundred, each with its complement, and whether memory was refused to it.
-fn hundred(alloc: Global) -> (Tree, bool) {
+/// How many pairs fill a leaf, fifteen leaves and sixteen, and one more of each.
+const LENGTHS: [u64; 6] = [15, 16, 225, 226, 240, 241];
+
+/// A tree of so many keys from 0 on, each with its complement, and whether memory was refused to it.
+fn rising(alloc: Global, count: u64) -> (Tree, bool) {
     let mut tree = empty(alloc);
     let mut met = false;
-    for key in 0..100u64 {
+    for key in 0..count {
         if !upsert(&mut tree, key, !key) {
             met = true;
             let _again = upsert(&mut tree, key, !key);
@@ -22,7 +26,7 @@ fn hundred(alloc: Global) -> (Tree, bool) {
 /// Whether memory was refused while an empty tree took the pairs of another as a run, and whether all was as it has to be: none
 /// was left in it then, the cursor stood where it did, and a second try took them.
 fn runs(alloc: Global) -> (bool, bool) {
-    let (source, mut met) = hundred(alloc);
+    let (source, mut met) = rising(alloc, 100);
     let mut tree = empty(alloc);
     let mut cursor = started(&source);
     let mut right = true;
@@ -33,6 +37,48 @@ fn runs(alloc: Global) -> (bool, bool) {
     }
     let passed = cursor.get().is_none() && len_of(&tree) == 100;
     (met, right && passed && equal(&tree, &source) == Is(true))
+}
+
+/// Whether an empty tree takes so many pairs of another, whose leaves aren't full, in two runs, of which the first has so
+/// many: into full leaves, at the least depth.
+fn takes_two(alloc: Global, count: u64, first: usize) -> bool {
+    let mut source = empty(alloc);
+    let filled = fill(&mut source, BELOW_300, 0, count);
+    let mut tree = empty(alloc);
+    let mut cursor = started(&source);
+    let pushed = push_runs(&mut tree, &mut cursor, &source, first);
+    let depth = if count > 240 { 2 } else { 1 };
+    let full = depth_of(&tree) == depth && first_leaf(&tree) == Some(15);
+    filled && pushed && full && equal(&tree, &source) == Is(true)
+}
+
+#[test]
+fn two_runs_fill_their_leaves(rt: HostRuntime) {
+    for count in LENGTHS {
+        for first in [0usize, 1, 14, 15, 16] {
+            assert!(rt; takes_two(rt.alloc(), count, first));
+        }
+    }
+}
+
+/// Whether an empty tree has no pair where memory is refused to one of two runs, and takes all by a second try.
+fn tries_two(alloc: Global, count: u64) -> bool {
+    let (source, _) = rising(alloc, count);
+    let mut tree = empty(alloc);
+    let mut cursor = started(&source);
+    let mut right = true;
+    if !push_runs(&mut tree, &mut cursor, &source, 16) {
+        let mut again = started(&source);
+        right = depth_of(&tree) == 0 && push_runs(&mut tree, &mut again, &source, 16);
+    }
+    right && equal(&tree, &source) == Is(true)
+}
+
+#[test]
+fn a_refusal_of_memory_to_two_runs_leaves_no_pair(rt: HostRuntime) {
+    for count in LENGTHS {
+        assert!(rt; tries_two(rt.alloc(), count));
+    }
 }
 
 #[test]
