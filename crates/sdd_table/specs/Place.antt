@@ -1,5 +1,5 @@
 -- what holds of every place of one thread between two calls
-use Rattle.std.specs.Prelude.{◌≡◌, ◌≢◌, ℕ, ◌+◌, ◌<◌, ◌≤◌, [], length, is_some, Option, None, Some, true}
+use Rattle.std.specs.Prelude.{◌≡◌, ◌≢◌, ℕ, ◌+◌, ◌-◌, ◌<◌, ◌≤◌, [], length, is_some, Option, None, Some, true}
 use Rattle.std.specs.List.{sum_by}
 use Rattle.sdd_table.specs.State.{State, ParticipantState, status_at, value_at, cell_at, participant_at, local_at, weight, is_used, with_status, with_cell}
 use Rattle.sdd_table.specs.Steps.{times}
@@ -77,6 +77,18 @@ HasOneOwner w i = (n : ℕ) × (status_at w i ≡ status.Shared n) × (n ≤ 1)
 -- the item in slot i has one owner more
 abbrev pub AddsOwner : {T : Type 0} → ℕ → State T → State T → Type 0
 AddsOwner i w w' = (n : ℕ) × (status_at w i ≡ status.Shared n) × (w' ≡ with_status i (status.Shared (n + 1)) w)
+
+-- slot i has a shared item with fewer owners than can be counted
+abbrev pub TakesOwner : {T : Type 0} → ℕ → State T → Type 0
+TakesOwner i w = (n : ℕ) × (status_at w i ≡ status.Shared n) × (n < 4294967295)
+
+-- slot i has a shared item with more than one owner
+abbrev pub HasOtherOwners : {T : Type 0} → State T → ℕ → Type 0
+HasOtherOwners w i = (n : ℕ) × (status_at w i ≡ status.Shared n) × (1 < n)
+
+-- the item in slot i, which had more than one owner, has one owner less
+abbrev pub LosesOwner : {T : Type 0} → ℕ → State T → State T → Type 0
+LosesOwner i w w' = (n : ℕ) × (status_at w i ≡ status.Shared n) × (1 < n) × (w' ≡ with_status i (status.Shared (n - 1)) w)
 
 -- slot i has no shared item, or one with as many owners as are counted
 abbrev pub TakesNoOwner : {T : Type 0} → ℕ → State T → Type 0

@@ -61,8 +61,21 @@ fn give_owned<T, J: Deferred>(table: &mut Table<T, J>, p: usize, slot: usize)
     }
 }
 
-/// Gives one owner of slot `slot` back, where it has some.
+/// Gives one owner of slot `slot` back, where it has some. Most items have others: then the count alone is lowered.
+#[inline(always)]
 fn give_shared<T, J: Deferred>(table: &mut Table<T, J>, p: usize, slot: usize)
+    requires { p < length table.old.participants }
+    ensures { table.new ≡ released p slot table.old }
+{
+    if !table.lower_owner(slot) {
+        give_last(table, p, slot);
+    }
+}
+
+/// Gives the last owner of slot `slot` back, where it has one. Few are the last: so it stands apart, and the loop over all
+/// stays short.
+#[inline(never)]
+fn give_last<T, J: Deferred>(table: &mut Table<T, J>, p: usize, slot: usize)
     requires { p < length table.old.participants }
     ensures { table.new ≡ released p slot table.old }
 {

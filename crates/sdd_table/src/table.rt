@@ -8,7 +8,7 @@ ghost use Rattle.sdd_table.specs.State.{changing, recalled, IsIdle, NoneIdle, wi
 ghost use Rattle.std.specs.List.{list_all};
 ghost use Rattle.sdd_table.specs.View.{Lists, IsFreeList};
 ghost use Rattle.sdd_table.specs.Steps.{bags_empty, NoneOpen};
-ghost use Rattle.sdd_table.specs.Place.{IsOpen};
+ghost use Rattle.sdd_table.specs.Place.{IsOpen, AddsOwner, HasOtherOwners, LosesOwner, TakesOwner};
 ghost use Rattle.sdd_table.specs.Tokens.{kept_slot};
 
 use crate::bags::Participants;
@@ -220,6 +220,38 @@ impl<T, J: Deferred> Table<T, J> {
         ensures { self.new ≡ with_status i status self.old }
     {
         self.states[i] = status;
+    }
+
+    /// The item in slot `i` has one more owner. The count alone is written. Condition: it has owners, and fewer than
+    /// `2^32 - 1`.
+    pub fn add_owner(&mut self, i: usize)
+        requires { TakesOwner i self.old }
+        ensures { AddsOwner i self.old self.new }
+    {
+        match &mut self.states[i] {
+            Status::Shared(owners) => *owners += 1,
+            _ => unreachable!(),
+        }
+    }
+
+    /// The item in slot `i` has one owner less, where it has more than one; answers whether it had. The count alone is
+    /// written.
+    pub(crate) fn lower_owner(&mut self, i: usize) -> bool
+        ensures lowered { IsTrue result → LosesOwner i self.old self.new }
+        ensures kept { IsFalse result → self.new ≡ self.old }
+        ensures few { IsFalse result → ¬ HasOtherOwners self.old i }
+    {
+        let Status::Shared(owners) = self.status_of(i) else {
+            return false;
+        };
+        if owners <= 1 {
+            return false;
+        }
+        match &mut self.states[i] {
+            Status::Shared(count) => *count = owners - 1,
+            _ => unreachable!(),
+        }
+        true
     }
 
     /// The next place that is due has nothing from now on, and what it had is taken.
