@@ -7,7 +7,7 @@ ghost use Rattle.sdd_table.specs.Steps.{released};
 ghost use Rattle.sdd_table.specs.Frame.{Frame, OnlyParticipant};
 ghost use Rattle.sdd_table.specs.Dropping.{Dropped};
 ghost use Rattle.sdd_table.specs.Holding.{SharedItem};
-ghost use Rattle.sdd_table.specs.Place.{IsOpen, IsShared, HasOneOwner, AddsOwner, TakesNoOwner};
+ghost use Rattle.sdd_table.specs.Place.{IsOpen, IsShared, HasOneOwner, AddsOwner, TakesNoOwner, TakesOwner};
 ghost use Rattle.sdd_world.specs.Tokens.{kept_slot, loaded_slot, shared_slot, ptr_slot, ptr_tag};
 
 use crate::exclusive_access::ExclusiveAccess;
@@ -85,6 +85,23 @@ pub fn of_loaded<T, J: Deferred>(w: &mut World<T, J>, at: &Loaded<T>) -> Option<
     match tokens::slot_of_loaded(at) {
         None => None,
         Some(slot) => ptr::add_owner(w, slot),
+    }
+}
+
+/// One more owner of the item that was loaded, for an item to keep: as `of_loaded`, where there is one for sure.
+/// Condition: the item has owners, and fewer than `2^32 - 1`.
+pub fn keep_loaded<T, J: Deferred>(w: &mut World<T, J>, at: &Loaded<T>) -> Kept
+    requires { (i : ℕ) × (loaded_slot at.now ≡ Some i) × TakesOwner i w.old }
+    ensures slot { loaded_slot at.now ≡ Some (kept_slot result) }
+    ensures more { AddsOwner (kept_slot result) w.old w.new }
+    ensures keeps { Frame w.old w.new }
+{
+    match tokens::slot_of_loaded(at) {
+        Some(slot) => {
+            w.table.add_owner(slot);
+            Kept::of(tokens::shared_at::<T>(slot))
+        }
+        None => unreachable!(),
     }
 }
 
