@@ -182,12 +182,7 @@ impl<'d, L: Naming, K: Clone + Ord, V: Clone + Eq, const S: usize> SharedIndex<'
     /// reads what was committed; 0 asks for nothing. `NoVersion` never comes: only commits write to the cell, and each
     /// has it name a version of this width.
     ///
-    /// ```text
-    /// let mut session = index.open(&mut local, accepted.number)?;
-    /// session.read(Query::Get(1))?;
-    /// let receipt = session.close(index.domain(), &mut local);
-    /// index.commit(&rt, &mut share, &receipt, writes)?;
-    /// ```
+    /// [`Participant::reading`](crate::Participant::reading) opens one that closes by itself.
     pub fn open(
         &self,
         local: &mut Local<Node<K, V>>,

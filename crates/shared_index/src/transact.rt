@@ -57,10 +57,22 @@ impl<'i, 'd, L: Naming, K: Clone + Ord, V: Clone + Eq, const S: usize> Participa
     ///
     /// The plan is asked without the lock, once in each try. Its session is closed by then.
     ///
+    /// <!-- crates/shared_configuration/src/service.rt raised -->
     /// ```text
-    /// let queries = [Query::Get(1)];
-    /// member.transact(&rt, &mut share, &queries, 9, |reads| plan_of(alloc, reads))?;   // ten tries at most
+    /// /// Reads both settings, and commits one more of each. Where either was changed since, it reads them again, nine times at most.
+    /// /// True if it is accepted.
+    /// fn raised<L: Naming, R: Wait>(
+    ///     rt: &R,
+    ///     alloc: Global,
+    ///     member: &mut Member<'_, '_, L>,
+    ///     share: &mut Share<L>,
+    /// ) -> bool {
+    ///     let queries = [Query::Get(WORKERS), Query::Get(WAITING)];
+    ///     let told = member.transact(rt, share, &queries, 9, |reads| one_more(alloc, reads));
+    ///     told.is_ok()
+    /// }
     /// ```
+    /// <!-- end -->
     pub fn transact<R: Wait, F: Fn(&[Recorded<K, V>]) -> Result<Vec<Write<K, V>>, AllocError>>(
         &mut self,
         rt: &R,

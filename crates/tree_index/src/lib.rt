@@ -9,14 +9,27 @@
 //! nodes that have it alone, and its place is free for the next one. Reads, cursors, removals and
 //! `clear` take no memory.
 //!
+//! <!-- crates/word_count/src/main.rt count_word show_from -->
+//! ```text
+//! // Counts one more of a word.
+//! fn count_word(alloc: Global, counts: &mut Counts, word: &str) -> Result<(), AllocError> {
+//!     let key = Text::new(alloc, word)?;
+//!     let count = counts.peek(&key).copied().unwrap_or(0).saturating_add(1);
+//!     match counts.upsert_sync(key, count) {
+//!         Ok(()) => Ok(()),
+//!         Err(_) => Err(AllocError),
+//!     }
+//! }
+//!
+//! // Prints the words from one on.
+//! fn show_from<'a, R: Print>(rt: &R, counts: &'a Counts, from: &'a Text) -> io::Result<()> {
+//!     for (word, count) in counts.range(Bound::Included(from), Bound::Unbounded) {
+//!         println!(rt; "{word} {count}")?;
+//!     }
+//!     Ok(())
+//! }
 //! ```
-//! let mut tree = TreeIndex::new(alloc);
-//! tree.insert_sync(2, "two")?;
-//! tree.upsert_sync(1, "one")?;
-//! tree.peek(&1); // Some(&"one")
-//! tree.iter().next_back(); // Some((&2, &"two"))
-//! tree.remove_sync(&2); // true
-//! ```
+//! <!-- end -->
 #![tactic(auto)]
 
 mod copy;

@@ -65,12 +65,6 @@ pub fn as_ref<'w, T, J: Deferred>(w: &'w World<T, J>, owned: &Owned<T>) -> &'w T
 /// unsafe, and asks of its caller that nobody reads.
 ///
 /// `W` is `World<T>`: the place is named by what it does, since a clause on a borrow can't name the type of a `World`.
-///
-/// ```
-/// if let Ok(value) = world::owned::get_mut(&mut w, &owned) {
-///     *value = 7;
-/// }
-/// ```
 pub fn get_mut<'w, T, W: ExclusiveAccess<T>>(
     w: &'w mut W,
     owned: &Owned<T>,

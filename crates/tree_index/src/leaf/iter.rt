@@ -15,15 +15,7 @@ use tree_nodes::Leaf;
 /// It stands at the start, before all pairs, or at a pair; past the last one it gives none and stays
 /// where it is.
 ///
-/// ```
-/// // of the keys 1 and 2
-/// let mut pairs = Iter::new(&leaf);
-/// pairs.get(); // None
-/// pairs.next(); // Some((&1, ..))
-/// pairs.next(); // Some((&2, ..))
-/// pairs.next(); // None
-/// pairs.get(); // Some((&2, ..))
-/// ```
+/// Of the keys 1 and 2, `next` gives 1, then 2, then none. `get` gives none before the first `next`, and 2 at the end.
 #[derive(Drop)]
 pub struct Iter<'l, K: Ord, V> {
     pub(crate) at: LeafPosition<'l, K, V>,

@@ -15,12 +15,7 @@ use tree_nodes::Leaf;
 /// It stands at the start, behind all pairs, or at a pair; past the first one it gives none and stays
 /// where it is.
 ///
-/// ```
-/// // of the keys 1 and 2
-/// let mut pairs = RevIter::new(&leaf);
-/// pairs.next(); // Some((&2, ..))
-/// pairs.rev().get(); // Some((&2, ..))
-/// ```
+/// Of the keys 1 and 2, the first `next` gives 2. Turned round by `rev`, the cursor still stands at 2.
 #[derive(Drop)]
 pub struct RevIter<'l, K: Ord, V> {
     pub(crate) at: LeafPosition<'l, K, V>,
