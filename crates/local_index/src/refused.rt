@@ -22,7 +22,7 @@ pub enum DeskRefused<K, V> {
     NoSession(Vec<Write<K, V>>),
     /// The commit was refused.
     #[error(transparent)]
-    Commit(Refused<K, V>),
+    Commit(#[from] Refused<K, V>),
     /// The number of the checkpoint is below that of the base, which this is.
     #[error("the history begins at number {0}; the index is as it was")]
     Behind(u64),

@@ -56,13 +56,13 @@ impl<K, V> Refused<K, V> {
 #[derive(Clone, Copy, Debug, PartialEq, Eq, Error)]
 pub enum CheckpointRefused {
     /// The number is below that of the base, which this is.
-    #[error("the history begins at number {0}")]
+    #[error("the history begins at number {0}; the index is as it was")]
     Behind(u64),
     /// The number is above the present one, which this is.
-    #[error("the present number is {0}")]
+    #[error("the present number is {0}; the index is as it was")]
     Ahead(u64),
     /// A growth or a clone was refused.
-    #[error("memory was refused")]
+    #[error("memory was refused; the index is as it was")]
     Memory,
 }
 
@@ -70,9 +70,9 @@ pub enum CheckpointRefused {
 #[derive(Clone, Copy, Debug, PartialEq, Eq, Error)]
 pub enum SinceRefused {
     /// The number is below that of the base, which this is: some of them are gone.
-    #[error("the history begins at number {0}")]
+    #[error("the history begins at number {0}; the index is as it was")]
     TooOld(u64),
     /// The number is above the present one, which this is.
-    #[error("the present number is {0}")]
+    #[error("the present number is {0}; the index is as it was")]
     Ahead(u64),
 }

@@ -59,23 +59,34 @@ pub struct Ran<A> {
 #[derive(Clone, Copy, Debug, PartialEq, Eq, Error)]
 pub enum RunCause {
     /// There are more than 2^30 slots, or 2^30 tasks or more.
-    #[error("there are more than 2^30 slots, or 2^30 tasks or more")]
+    #[error("there are more than 2^30 slots, or 2^30 tasks or more; no task was run")]
     Sizes,
     /// There is no memory for the place, its participants, or what is kept for each task.
-    #[error("memory was refused")]
+    #[error("memory was refused; no task was run")]
     Memory,
     /// No slot is free for the empty version.
-    #[error("no slot is free for the empty version")]
+    #[error("no slot is free for the empty version; no task was run")]
     NoSlot,
 }
 
 /// Tasks that weren't run.
-#[derive(Drop)]
+#[derive(Debug, Drop, Error)]
+#[error("{cause}")]
 pub struct RunRefused<A> {
     /// Why.
     pub cause: RunCause,
-    /// The tasks.
+    /// The tasks, as they were handed in.
     pub tasks: Vec<A>,
+}
+
+impl<A> RunRefused<A> {
+    /// The tasks, as they were handed in.
+    pub fn into_tasks(self) -> Vec<A>
+        ensures { result ≡ self.tasks }
+    {
+        let RunRefused { cause: _, tasks } = self;
+        tasks
+    }
 }
 
 // A task at its share.

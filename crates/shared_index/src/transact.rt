@@ -29,8 +29,8 @@ pub struct Transacted<K, V> {
 #[derive(Clone, Debug, PartialEq, Eq, Drop, Error)]
 pub enum TransactRefused<K, V> {
     /// Its commit was refused, with its writes: as `Conflict` where that was its last try.
-    #[error("{0}")]
-    Commit(Refused<K, V>),
+    #[error(transparent)]
+    Commit(#[from] Refused<K, V>),
     /// There was no memory for what it reads, or the plan had none for its writes.
     #[error("memory was refused before the commit; the index is as it was")]
     Memory,

@@ -22,7 +22,7 @@ pub enum PastRefused {
     #[error(transparent)]
     Outside(#[from] SinceRefused),
     /// A growth or a clone was refused.
-    #[error("memory was refused")]
+    #[error("memory was refused; the index is as it was")]
     Memory,
 }
 

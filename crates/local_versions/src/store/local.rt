@@ -29,14 +29,17 @@ use sdd_world::world::{World, atomic_shared, guard};
 use std::alloc::{AllocError, Global};
 use std::marker::Model;
 use std::mem;
+use thiserror::Error;
 use version_views::{Directory, Item, LocalView, Reply, Write, WriteRefused};
 
 /// Why no store was made of a version.
-#[derive(Clone, Copy, Debug, PartialEq, Eq)]
+#[derive(Clone, Copy, Debug, PartialEq, Eq, Error)]
 pub enum StoreRefused {
     /// The memory of the store was refused.
+    #[error("memory was refused; there is no store")]
     Memory,
     /// The version takes more slots than the store was to have.
+    #[error("the version takes more slots; there is no store")]
     NoSlot,
 }
 

@@ -17,13 +17,13 @@ use version_views::Write;
 #[derive(Clone, Copy, Debug, PartialEq, Eq, Error)]
 pub enum FeedRefused {
     /// The number is below that of the base, which this is: some of them are gone.
-    #[error("the history begins at number {0}")]
+    #[error("the history begins at number {0}; the index is as it was")]
     TooOld(u64),
     /// The number is above the present one, which this is.
-    #[error("the present number is {0}")]
+    #[error("the present number is {0}; the index is as it was")]
     Ahead(u64),
     /// A growth or a clone was refused.
-    #[error("memory was refused")]
+    #[error("memory was refused; the index is as it was")]
     Memory,
 }
 
