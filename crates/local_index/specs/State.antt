@@ -133,7 +133,7 @@ module _ {K V : Type 0} where
       pub not_last : latest_number s ≢ s.last
 
     module _ (width : ℕ) where
-      -- why a commit of these reads and writes may be refused, with so many pairs in a segment at most
+      -- why a commit of these reads and writes may be refused, with at most s pairs in a segment
       abbrev pub MayRefuse : State K V → List (Read K V) → List (Write K V) → Cause → Type 0
       MayRefuse s reads writes (causes.Conflict place) = IsFirstConflict cmp (present s) reads place
       MayRefuse s reads writes causes.Exhausted = All (Holds cmp (present s)) reads × (latest_number s ≡ s.last)

@@ -33,7 +33,7 @@ pub fn a_changed_range_is_a_conflict<K: Ord, V>()
 {}
 
 /// Whatever is written behind the first pairs of a recorded range, or before its last ones, is no conflict: the answer of a list is
-/// that of each that begins, or ends, with the same pairs, as long as these have so many of the range.
+/// that of each that begins, or ends, with the same pairs, if these pairs have that many of the range.
 pub fn pairs_beyond_a_part_are_no_conflict<K: Ord, V>()
     ensures first { FirstPairsHold V K.cmp }
     ensures last { LastPairsHold V K.cmp }

@@ -69,7 +69,7 @@ pub enum DeskReply<K, V> {
     Busy,
     /// The session is closed, and this is its receipt.
     Closed(Receipt<K, V>),
-    /// The label has no session. Nothing changed; the writes of a commit come back.
+    /// The label has no session. Nothing changed. It has the writes of a commit.
     NoSession(Vec<Write<K, V>>),
     /// What the session's list answers.
     Answer(Answer<K, V>),
@@ -81,11 +81,11 @@ pub enum DeskReply<K, V> {
     Refused(Refused<K, V>),
     /// Versions were reclaimed.
     Reclaimed,
-    /// So many slots are in use.
+    /// How many slots are in use.
     Slots(usize),
     /// The session's list has this number.
     Number(u64),
-    /// The session's list has so many pairs.
+    /// How many pairs the session's list has.
     Len(usize),
     /// The list of this number is the base.
     Checkpointed(u64),

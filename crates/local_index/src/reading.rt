@@ -88,7 +88,7 @@ impl<'a, K: Clone + Ord, V: Clone + Eq, const S: usize> Reading<'a, K, V, S, Seq
         self.list().len()
     }
 
-    /// Where the key stands, with a cursor there (as `locate` of a `TreeIndex`). The read isn't recorded.
+    /// Where the key is, with a cursor there (as `locate` of a `TreeIndex`). The read isn't recorded.
     pub fn locate<'b>(&'b self, key: &K) -> Nearby<'b, K, V, S>
         ensures { IsLocated K.cmp key.now (list_read self.now) (as_proximity result) }
     {

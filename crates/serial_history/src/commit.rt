@@ -10,7 +10,7 @@ use version_views::{Reply, Write};
 pub struct Accepted {
     /// The number of the list that it left, one above that of the list before.
     pub number: u64,
-    /// What each of its writes was told, in order.
+    /// The reply to each of its writes, in order.
     pub replies: Vec<Reply>,
 }
 
@@ -26,8 +26,8 @@ pub enum Cause {
     /// A growth or a clone was refused.
     #[error("memory was refused")]
     Memory,
-    /// Too few slots are free for the new version: in an index of one thread, fewer than a version of so many pairs may take; in
-    /// one that threads share, fewer than this one takes, or an item has as many owners as it can have.
+    /// Too few slots are free for the new version: in an index of one thread, fewer than a version with that many pairs may
+    /// take; in one that threads share, fewer than this one takes, or an item has as many owners as it can have.
     #[error("too few slots are free")]
     NoSlot,
 }

@@ -72,7 +72,7 @@ module _ {K V : Type 0} (cmp : K → K → Ordering) where
   abbrev pub list_after : BookState K V → ℕ → List (K × V)
   list_after b number = list_numbered cmp b.base b.history number
 
-  -- the transaction of these reads and writes, told what they are told on the present list
+  -- the transaction of these reads and writes, with the replies that the writes get on the present list
   abbrev pub next_transaction : BookState K V → List (Read K V) → List (Write K V) → Transaction K V
   next_transaction b reads writes = record { reads = reads; writes = writes; replies = replies_to cmp writes (present_list b) }
 

@@ -77,7 +77,7 @@ impl<'a, 'i, 'd, L: Naming, K: Clone + Ord, V: Clone + Eq, const S: usize> Share
         self.participant.session().len()
     }
 
-    /// Where the key stands, with a cursor there (as `locate` of a `TreeIndex`). The read isn't recorded.
+    /// Where the key is, with a cursor there (as `locate` of a `TreeIndex`). The read isn't recorded.
     pub fn locate(&self, key: &K) -> SharedNearby<'_, K, V>
         ensures { IsLocated K.cmp key.now (list_read self.now) (as_proximity result) }
     {

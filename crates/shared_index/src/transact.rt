@@ -21,7 +21,7 @@ use version_views::Write;
 pub struct Transacted<K, V> {
     /// The reads that it rests on, with the number of the list that they were read in.
     pub receipt: Receipt<K, V>,
-    /// The number of the list that it left, and what each of its writes was told.
+    /// The number of the list that it left, and the reply to each of its writes.
     pub accepted: Accepted,
 }
 
@@ -34,7 +34,7 @@ pub enum TransactRefused<K, V> {
     /// There was no memory for what it reads, or the plan had none for its writes.
     #[error("memory was refused before the commit; the index is as it was")]
     Memory,
-    /// The root was found to name no version of such segments. It never comes, as with [`open`](crate::SharedIndex::open).
+    /// The root was found to name no version with segments of this width. It never comes, as with [`open`](crate::SharedIndex::open).
     #[error("the root names no version of such segments; the index is as it was")]
     NoVersion,
 }
