@@ -26,8 +26,8 @@ impl<K: Ord, V> TreeIndex<K, V> {
             arenas: self.arenas.copy(alloc)?,
         })
     }
-    /// Puts clones of so many pairs of another tree behind all others, whose keys are lesser: that of a cursor's forward end
-    /// and those behind it, which the cursor passes. Each pair takes one place at most. Where memory is refused, no pair of
+    /// Appends clones of `count` pairs of another tree, whose keys are greater than all here: the pair at a cursor's forward
+    /// end and those after it, which the cursor passes. Each pair takes at most one place. If an allocation fails, no pair of
     /// this tree is left, and the cursor stays.
     pub fn push_run(&mut self, source: &mut Iter<'_, K, V>, count: usize) -> Result<(), AllocError>
     where

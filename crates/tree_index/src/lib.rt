@@ -1,10 +1,10 @@
-//! An ordered index: a B+ tree whose leaves and nodes stand in two arenas.
+//! An ordered index: a B+ tree whose leaves and nodes are in two arenas.
 //!
-//! [`TreeIndex`] is one list of pairs, strictly ascending by key, to every contract; under it stand
+//! Contracts see a [`TreeIndex`] as one list of pairs, strictly ascending by key. Inside, it has
 //! leaves of at most fifteen pairs and nodes of at most sixteen children (`leaf_array::Array`). A
 //! look-up follows one path and clones nothing. An insertion that finds its leaf full makes room
-//! first: it packs the leaf or splits it, and the full nodes above it, and needs memory for that
-//! before anything is changed; so a refused one leaves the tree as it was. A cursor goes along the
+//! first: it packs the leaf or splits it, and the full nodes above it. It allocates the memory for that
+//! before anything is changed, so a refused one leaves the tree as it was. A cursor walks along the
 //! leaves, each of which names its neighbours. A leaf that loses its last pair leaves the tree, with the
 //! nodes that have it alone, and its place is free for the next one. Reads, cursors, removals and
 //! `clear` take no memory.
