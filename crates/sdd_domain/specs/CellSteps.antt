@@ -54,7 +54,7 @@ HasOnlyRead old cell new = (xs : List CellStep) × All (IsReadOf old cell) xs ×
 abbrev pub HasFoundLast : {T : Type 0} → Local T → ℕ → ℕ → ℕ → Local T → Type 0
 HasFoundLast old cell t k new = (xs : List CellStep) × (w : ℕ) × All (IsReadOf old cell) xs × NamesWith w t k × HasMade old (xs ++ step_on old cell w w ∷ []) new
 
--- it read this cell so many times at least, and did nothing else to cells
+-- it read this cell at least this many times, and did nothing else to cells
 abbrev pub HasReadOften : {T : Type 0} → Local T → ℕ → ℕ → Local T → Type 0
 HasReadOften old cell n new = (xs : List CellStep) × All (IsReadOf old cell) xs × (n ≤ length xs) × HasMade old xs new
 

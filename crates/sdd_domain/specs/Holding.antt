@@ -3,7 +3,7 @@ use Rattle.std.specs.Prelude.{◌≡◌, ℕ, List, [], ◌∷◌, ◌++◌, map
 use Rattle.std.specs.Mem.{manually_drop_value}
 use Rattle.sdd_domain.specs.declared.held.Held.{Held}
 
--- one that an item holds, told by the slot and the round of its item
+-- an owner that an item holds, as the slot and the round of the owned item
 abbrev pub told_of : {T : Type 0} → Held T → ℕ × ℕ
 told_of h = (h.slot, h.part.part.life.id)
 

@@ -126,7 +126,7 @@ pub record OwnersAreCounted {T : Type 0} (holds : T → List Hold) : Type 0 wher
   pub owned_cell_made : (c : ℕ) (o : Option ℕ) (t : Tag) (hand : List Hold) (w : State T) → IsFreeCell w c → Counted holds (kept_by (cell.OfOwned o t) ++ hand) w → Counted holds (OwnedIn c ∷ hand) (with_cell c (cell.OfOwned o t) w)
   pub owned_cell_swapped : (c : ℕ) (o o' : Option ℕ) (t t' : Tag) (hand : List Hold) (w : State T) → c < length w.cells → cell_at w c ≡ cell.OfOwned o t → Counted holds (kept_by (cell.OfOwned o' t') ++ hand) w → Counted holds (kept_by (cell.OfOwned o t) ++ hand) (with_cell c (cell.OfOwned o' t') w)
   pub owned_cell_ended : (c : ℕ) (o : Option ℕ) (t : Tag) (hand : List Hold) (w : State T) → c < length w.cells → cell_at w c ≡ cell.OfOwned o t → Counted holds (OwnedIn c ∷ hand) w → Counted holds (kept_by (cell.OfOwned o t) ++ hand) (with_cell c cell.Free w)
-  -- an owner is out as a raw pointer, and comes back
+  -- an owner is handed out as a raw pointer, and taken back
   pub raw_out : (i : ℕ) (hand : List Hold) (w : State T) → Counted holds (OwnedItem i ∷ hand) w → Counted holds hand (with_status i status.Raw w)
   pub raw_back : (i : ℕ) (hand : List Hold) (w : State T) → status_at w i ≡ status.Raw → Counted holds hand w → Counted holds (OwnedItem i ∷ hand) (with_status i status.Owned w)
   -- a cell of raw pointers is made, changed and ended

@@ -14,7 +14,7 @@ pub fn owners_are_counted<T: Holds>()
 {}
 
 /// What a cell keeps whose owner is in hand, or in an item that has an owner, stays while a guard opens, though that
-/// reclaims items, which give up owners and cells.
+/// reclaims items, whose owners and cells are released.
 pub fn held_cells_stay<T: Holds>()
     ensures { HeldCellsStay T.holds }
 {}

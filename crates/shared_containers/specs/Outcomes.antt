@@ -56,7 +56,7 @@ IfDone Done P = P
 IfDone (Unwanted s) P = Unit {0}
 IfDone (Slow s) P = Unit {0}
 
--- what is back after a push is the value, or its owner in this place; it may be refused by a condition, and as full, where these are so
+-- a refused push returns the value, or its owner in this place; it may be refused by a condition, and as full, where these are so
 abbrev pub IsRefused : {T : Type 0} → PushRefused T → T → TableId → Type 0 → Type 0 → Type 0
 IsRefused (NoSlot v) value place unwanted full = v ≡ value
 IsRefused (Full v) value place unwanted full = (v ≡ value) × full

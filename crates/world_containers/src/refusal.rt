@@ -30,7 +30,7 @@ impl<T> PushRefused<T> {
 
 /// Why a container of the values of an iterator wasn't made, with what was built of it.
 pub enum FromIterRefused<C, T, I> {
-    /// Not even an empty container could be made. Nothing has changed, and what was to give the values comes back.
+    /// Not even an empty container could be made. Nothing has changed. It has what was to give the values.
     Unmade(NotMade, I),
     /// There is no slot or no cell for this value: the container of those before it, and the value.
     NoSlot(C, T),

@@ -22,7 +22,7 @@ use crate::world::World;
 use sdd_table::{reclaim, tokens};
 use std::marker::PhantomData;
 
-/// Makes an item of `value`, if and only if a slot is free; else `value` comes back.
+/// Makes an item of `value`, if and only if a slot is free; else returns `value`.
 pub fn new<T, J: Deferred>(w: &mut World<T, J>, value: T) -> Result<Owned<T>, T>
     ensures placed { IfOk result (λ o. IsFree w.old (owned_slot o) × (w.new ≡ placed (owned_slot o) value Status.Owned w.old)) }
     ensures refused { IfErr result (λ v. (v ≡ value) × (w.new ≡ w.old) × NoneFree w.old) }
