@@ -32,8 +32,8 @@ pub enum RunError {
 // How many bytes are read at a time.
 const PIECE: usize = 4096;
 
-/// Runs the script that the reader gives on an empty index for so many sessions at a time and with
-/// so many slots, and writes its output.
+/// Runs the script that the reader gives on an empty index for at most `places` sessions at a time and with
+/// `slots` slots, and writes its output.
 ///
 /// The reply of each line is written before the next is acted on, and nothing is held back. A line
 /// at fault takes no memory but what its bytes are read into. A run makes at most 4,294,967,295

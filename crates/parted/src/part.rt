@@ -19,7 +19,7 @@ pub struct Part<T> {
     ghost same: { seen.life ≡ life.id },
 }
 
-/// Freezes a value: nobody writes it until all its parts are back. The value stays where it is.
+/// Freezes a value: nobody writes it until all its parts are joined again. The value stays where it is.
 ///
 /// Answers with the right to have the box back, and all `2^63` parts of a new round. Takes no memory.
 pub fn freeze<T: Drop, A: Allocator>(whole: Box<T, A>) -> (Deed<T, A>, Part<T>)

@@ -60,7 +60,7 @@ HasPushedBehind old e m s new = (own : ℕ) × (t : ℕ) × (q : Shared _) × (t
 abbrev pub HasFoundDeleted : {T : Type 0} → Local T → ℕ → Local T → Type 0
 HasFoundDeleted old cell new = (xs : List CellStep) × (w : ℕ) × (t : ℕ) × (k : ℕ) × (2 ≤ t) × NamesWith w t k × HasMade old (xs ++ step_on old cell w w ∷ []) new
 
--- it made so many steps on cells
+-- it made this many steps on cells
 abbrev pub HasMadeMany : {T : Type 0} → Local T → ℕ → Local T → Type 0
 HasMadeMany old n new = (xs : List CellStep) × (n ≤ length xs) × HasMade old xs new
 

@@ -81,8 +81,8 @@ impl<T: Holds> RawItems<T> {
         self.cells.get(slot)
     }
 
-    /// Lets an item be out as a raw one: a pointer to it, without a tag. The owner is back where the place has no such slot,
-    /// which is never so of an item of the same place.
+    /// Hands an item out as a raw one: a pointer to it, without a tag. Returns the owner if the place has no such slot, which
+    /// is never so of an item of the same place.
     pub fn into_raw(
         &self,
         domain: &Domain<T>,

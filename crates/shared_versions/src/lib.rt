@@ -1,6 +1,6 @@
 //! Versions of an ordered list of pairs in a place that threads share.
 //!
-//! What stands in a slot is a [`Node`]: a version, a segment of versions, or what is left of a version that is reclaimed. A
+//! What is in a slot is a [`Node`]: a version, a segment of versions, or what is left of a version that is reclaimed. A
 //! version owns its segments by [`Held`](sdd_domain::held::Held), and is whole by its type: who has a node that is a
 //! [`Version`] reads it without a look at the place. A [`Reader`] keeps what was loaded from a cell, once it was found to be a
 //! version, and reads it under the guard.
