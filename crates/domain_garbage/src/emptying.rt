@@ -94,8 +94,8 @@ pub fn empty<T, H: Holding<T>>(words: &Words<T, H>, seat: &mut Seat<T>)
     let _ = words.load::<OnEmpty<H>>(seat, 0);
 }
 
-/// Gives `slot` back, for `participants` and `cells` of them: all homes are empty, and the room is in the item's own, which goes
-/// back in the same step.
+/// Gives `slot` back, for `participants` and `cells` of them: all homes are empty, and the room is in the item's own, which is
+/// put back in the same step.
 pub fn vacate<T, H: Holding<T>>(
     words: &Words<T, H>,
     seat: &mut Seat<T>,

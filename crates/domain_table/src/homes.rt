@@ -131,7 +131,7 @@ fn first_home<T, H: Holding<T>>(
     }
 }
 
-/// The homes of free slots, so many of them, those of deeds from `deeds` on, where there is room for all.
+/// The homes of a number of free slots, those of deeds from `deeds` on, where there is room for all.
 fn push_rooms<T, H: Holding<T>>(
     homes: &mut Vec<Home<T>>,
     alloc: Global,
@@ -149,7 +149,7 @@ fn push_rooms<T, H: Holding<T>>(
     Ok(())
 }
 
-/// So many empty slots behind these, where there is room for them.
+/// Appends `count` empty slots, where there is room for them.
 fn push_blanks<T>(homes: &mut Vec<Home<T>>, count: usize)
     requires { vec_len homes.old + count ≤ vec_capacity homes.old }
     ensures homes { homes.new.items ≡ homes.old.items ++ replicate count Blank }

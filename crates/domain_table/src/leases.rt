@@ -1,4 +1,4 @@
-//! What a participant has leased under its open guards goes home.
+//! What a participant has leased under its open guards is returned to its home.
 
 ghost use Rattle.std.specs.Prelude.{◌≡◌, ℕ, ◌+◌, ◌*◌, ◌<◌, ◌++◌, ◌∷◌, [], List, map, length, drop, slice_index_or, IfSome, IfNone, IsSome};
 ghost use Rattle.std.specs.VecDeque.{deque_capacity, deque_len};

@@ -14,7 +14,7 @@ pub struct Ledger<T> {
 impl<T> Ledger<T> {
     ghost use Rattle.domain_table.specs.Ledgers.{IsEmpty};
 
-    /// An empty one, with room for so many leases.
+    /// An empty one, with room for `room` leases.
     pub fn new(alloc: Global, room: usize) -> Result<Ledger<T>, AllocError>
         ensures { IfOk result (IsEmpty room) }
     {

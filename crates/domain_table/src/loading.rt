@@ -28,7 +28,7 @@ use sdd_plain::sizes::Sizes;
 use sdd_plain::tag::Tag;
 use std::collections::VecDeque;
 
-/// The slot that a cell's word names, if it names one: one more than it stands above the number of the spare slot and
+/// The slot that a cell's word names, if it names one: one more than what the word has above the number of the spare slot and
 /// the tag.
 pub fn slot_named(word: u64) -> Option<usize>
     ensures some { IfSome result (λ k. (k < 2 ^ 31) × ((y t c : ℕ) → y < 2 ^ 31 → t < 4 → word ≡ packed y t c → c ≡ k + 1)) }

@@ -102,7 +102,7 @@ pub(crate) fn give_next<T, H: Holding<T>>(words: &Words<T, H>, seat: &mut Seat<T
 }
 
 /// Gives the slot to a new item, which holds the items whose owners are in hand, and has one owner, which is in hand from
-/// now on. The item's own home goes back in the same step, with its deed.
+/// now on. The item's own home is put back in the same step, with its deed.
 pub(crate) fn place<T, H: Holding<T>>(
     words: &Words<T, H>,
     seat: &mut Seat<T>,

@@ -37,8 +37,8 @@ pub(crate) const STRIDE: usize = 8;
 /// Where the first participant publishes.
 pub(crate) const STATE: usize = 16;
 
-/// Where it stands whether somebody acts for the first participant: then it is 0, and else one more than the number of
-/// the participant's spare slot.
+/// The place of the word that says whether somebody acts for the first participant: then it is 0, and else one more than
+/// the number of the participant's spare slot.
 const CLAIM: usize = 17;
 
 struct OnRead;
@@ -177,7 +177,7 @@ pub fn any_claimed<T, H: Holding<T>>(words: &Words<T, H>, sizes: &Sizes) -> bool
 }
 
 /// Ends what the seat does for participant `number`, which has left what it retired, and which somebody else may act for
-/// from now on. Its spare slot, which is in front of what is out with the seat, goes back empty.
+/// from now on. Its spare slot, which is in front of what is out with the seat, is put back empty.
 pub fn end<T, H: Holding<T>>(words: &Words<T, H>, seat: &mut Seat<T>, number: usize, spare: u64)
     requires table { (seat.old.table_id ≡ words.now.table_id) × (number < 2 ^ 30) × (claim_word number < words.now.table_id.words) }
     requires rests { (seat.old.me.0.kind ≡ 1) × (seat.old.me.0.number ≡ number) × (seat.old.me.0.known.phase ≡ Idle) × (seat.old.me.0.known.found ≡ 0) × IsBare seat.old.me.0 }

@@ -4,8 +4,8 @@
 //! and what a read of a list answers; every structure of the crates above states itself by them.
 //! [`plain`] computes them slowly, and is what faster bodies are tested against.
 //!
-//! An [`Array`] has fifteen places. Its reachable pairs stand there by rising keys, so a search is a
-//! handful of comparisons and an insertion moves what is greater up by one. A pair that is removed
+//! An [`Array`] has fifteen places. Its reachable pairs are there in ascending order of keys, so a search is
+//! a handful of comparisons, and an insertion moves what is greater up by one. A pair that is removed
 //! or replaced keeps its place, its slot and its bit until the array is packed, cut or dropped:
 //! so an array with few pairs can be full. Each place has a slot, which is given out in the order of
 //! insertion, and each reachable one a rank, which rises with the keys. The word of ranks by slots

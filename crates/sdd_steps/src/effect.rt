@@ -46,7 +46,7 @@ impl ItemState {
 }
 
 impl Cell {
-    // An empty cell of item i stands by itself.
+    // An empty cell of item i has no holder any more.
     fn let_go(self, i: usize) -> Cell
         ensures { result ≡ let_go i self }
     {

@@ -37,7 +37,7 @@ impl Model for State {
 }
 
 impl State {
-    /// The start: the count is 0, no participant has a guard, all cells are empty and stand by themselves, and there
+    /// The start: the count is 0, no participant has a guard, all cells are empty and without a holder, and there
     /// is no item. Cell 0 is the root. Fails only if an allocation fails.
     pub fn start(alloc: Global, participants: usize, cells: usize) -> Result<State, AllocError>
         requires participants { (1 ≤ participants) × (participants ≤ 2 ^ 30) }
@@ -103,8 +103,8 @@ impl State {
     }
 }
 
-/// The next state if the step is enabled, else `None`. Fails only if an allocation fails, or if so many items
-/// were placed that one more can't be kept. The state that is given stays as it is in each case.
+/// The next state if the step is enabled, else `None`. Fails only if an allocation fails, or if as many items
+/// were placed as can be kept. The state that is passed in stays as it is in each case.
 ///
 /// <!-- crates/version_tests/src/single_steps.rt after -->
 /// ```text

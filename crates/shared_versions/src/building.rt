@@ -87,10 +87,9 @@ impl<K: Ord + Drop, V: Drop, const S: usize> Drop for Draft<K, V, S> {
     }
 }
 
-/// The version that writes make of an older one, under the next number, and the replies to them. Fails only if an allocation
-/// fails.
-/// Nothing is placed yet, and no word of the place is read. Segments that no write touches are taken over, so the older
-/// version has to be there when it is placed.
+/// The version that writes make of an older one, under the next number, and the replies to them. Fails only if an
+/// allocation fails. Nothing is placed yet, and no word of the place is read. Segments that no write touches are taken
+/// over, so the older version has to be there when it is placed.
 pub fn build<K: Clone + Ord + Drop, V: Clone + Drop, const S: usize>(
     alloc: Global,
     old: &Version<K, V>,
