@@ -38,7 +38,7 @@ module _ {T : Type 0} (holds : T → List (ℕ × ℕ)) where
   AreNewHomes sizes homes = (own : List (Home T)) × (length own ≡ all_homes sizes) × AreResting (own_homes sizes) own × (homes ≡ own ++ replicate (all_spares sizes) Blank)
 
 module _ {T : Type 0} where
-  -- these parts lie there, so many of them
+  -- these parts lie there, this many of them
   abbrev pub AreIn : parted.Part (Option (ManuallyDrop T)) → ℕ → Home T → Type 0
   AreIn p c y = y ≡ Part p c
 

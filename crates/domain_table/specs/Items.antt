@@ -48,7 +48,7 @@ IsGiven items slot_of hs it = (items_of hs ≡ it.holds) × ((o : Owner) → Has
 abbrev pub HasState : List Item → (ℕ → ℕ) → ItemState → Garbage → Type 0
 HasState items slot_of state w = (it : Item) × At items w.item it × (it.state ≡ state) × (it.value ≡ w.round) × (slot_of w.item ≡ w.slot)
 
--- p retired it, so many rotations ago
+-- p retired it, this many rotations ago
 abbrev pub IsWaiting : List Item → (ℕ → ℕ) → ℕ → Garbage → Type 0
 IsWaiting items slot_of p w = HasState items slot_of (Retired p w.age) w
 
@@ -95,7 +95,7 @@ pub record Links (sizes : Sizes) (words : List ℕ) (left : ℕ → List Garbage
 abbrev pub Rests : Sizes → Book → List ℕ → ℕ → Type 0
 Rests sizes book words p = (book.out p ≡ []) × (slice_index words (claim_word p) ≡ suc (book.spare (sizes.cells + p))) × (book.extra (book.spare (sizes.cells + p)) ≡ blank)
 
--- what stands of a view that acts for a participant
+-- what is true of a view that acts for a participant
 pub record Carries (sizes : Sizes) (book : Book) (d : Acting) : Type 0 where
   pub sizes_are : d.sizes ≡ sizes
   pub leases : book.out d.number ≡ d.leases

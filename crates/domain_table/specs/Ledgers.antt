@@ -18,6 +18,6 @@ WaitsIn n ws b = (by_age ws ≡ ws) × (all_below n (garbage_slots ws) ≡ true)
 abbrev pub Rearranges : {S : Type 0} → ℕ → Me S Acting → Bags → Me S Acting → Type 0
 Rearranges n m b m' = (ws : List Garbage) × (length ws ≡ length m.0.waits) × WaitsIn n ws b × (m' ≡ (record m.0 { waits = ws }, m.1))
 
--- nothing is leased, and there is room for so many leases
+-- nothing is leased, and there is room for this many leases
 abbrev pub IsEmpty : {T : Type 0} → ℕ → Ledger T → Type 0
 IsEmpty n l = (l.rows.items ≡ []) × (n ≤ deque_capacity l.rows)

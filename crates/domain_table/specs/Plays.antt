@@ -20,7 +20,7 @@ use Rattle.domain_table.specs.Chains.{is_threaded, left_code, AllBelow}
 use Rattle.domain_table.specs.Owners.{slot_code, part_of, besides}
 use Rattle.domain_table.specs.declared.board.Acting.{Acting}
 
--- the seat's step is told: on which word it was, what it found there, and what it left
+-- the seat's step is recorded: on which word it was, what it found there, and what it left
 abbrev pub with_step : {S : Type 0} → ℕ → ℕ → ℕ → Me S Acting → Me S Acting
 with_step i found left m = (record m.0 { cell_steps = m.0.cell_steps ++ record { word = i; found = found; left = left } ∷ [] }, m.1)
 
@@ -72,7 +72,7 @@ module _ {S : Type 0} where
   abbrev pub sit_then : Step S → Me S Acting → ℕ → Me S Acting → Type 0
   sit_then t m n m' = m'.0 ≡ spent
 
-  -- the slot that was in front of what was out with the seat is back
+  -- the slot that was in front of what was out with the seat is put back
   abbrev pub end_then : Step S → Me S Acting → ℕ → Me S Acting → Type 0
   end_then t m n m' = m' ≡ (spent, rest m.1)
 
@@ -215,7 +215,7 @@ releasing_one to n l os d = record d { leases = recounted l.slot (l.count + 1) d
 abbrev pub HasRoom : Acting → Type 0
 HasRoom d = (length d.waits < d.sizes.slots) × (length d.collected < d.sizes.slots)
 
--- the first owner in hand is released, and its item goes where `to` tells
+-- the first owner in hand is released, and its item is retired or put into a private bag, as `to` says
 abbrev pub release_then : {S : Type 0} → (Participant → Option ℕ) → Step S → Me S Acting → ℕ → Me S Acting → Type 0
 release_then to t m n m' = (l : Lease) (o : Owner) (os : List Owner) → Has m.0.leases l → o.slot ≡ l.slot → m.0.hand ≡ o ∷ os → (2 < n) × (l.count < 2 ^ 63) × HasRoom m.0 × Apart m.0.leases × (o.round ≡ l.round) × (m' ≡ (releasing_one (to m.0.known) n l os m.0, m.1))
 
@@ -227,7 +227,7 @@ HasBegun IsIn m o m' = (c : ℕ) × (u : _) × IsIn (part o.round c) u × (c < 2
 abbrev pub begin_then : {S : Type 0} → (Content → S → Type 0) → Step S → Me S Acting → ℕ → Me S Acting → Type 0
 begin_then IsIn t m n m' = (o : Owner) (os : List Owner) → m.0.hand ≡ o ∷ os → HasBegun IsIn m o m'
 
--- the participant's home is back, and the owner is gone
+-- the participant's home is put back, and the owner is released
 abbrev pub ended_release : Option ℕ → ℕ → Lease → List Lease → List Owner → Acting → Acting
 ended_release to n l ls os d = record d { leases = ls; hand = os; releasing = 0; waits = retiring to n l d.waits; collected = collecting to n l d.collected }
 
@@ -244,7 +244,7 @@ module _ {S : Type 0} (IsIn : Content → S → Type 0) where
   abbrev pub CanKeep : Me S Acting → Lease → List Lease → List (ℕ × S) → Type 0
   CanKeep m l ls tail = (m.0.leases ≡ ls ++ l ∷ []) × (m.0.releasing ≡ suc l.item) × ((u : S) × IsIn (part l.round l.count) u × (m.1 ≡ (own_home m.0 l.slot, u) ∷ tail))
 
-  -- the home is back, and the owners in hand stay
+  -- the home is put back, and the owners in hand stay
   abbrev pub keep_then : Step S → Me S Acting → ℕ → Me S Acting → Type 0
   keep_then t m n m' = (l : Lease) (ls : List Lease) (tail : List (ℕ × S)) → CanKeep m l ls tail → m' ≡ (record m.0 { leases = ls; releasing = 0 }, tail)
 
@@ -272,7 +272,7 @@ filling_at k f d = record d { slot = k; filling = Some f }
 abbrev pub claimed_by : Acting → Filling
 claimed_by d = record { by = d.number; filled = 0; round = 0; left = 2 ^ 63; out = d.sizes.participants }
 
--- the next home is out; it is back, with a parts of the round c
+-- the next home is out; it is put back, with a parts of the round c
 abbrev pub next_out : Filling → Filling
 next_out f = record f { out = f.filled }
 
@@ -305,7 +305,7 @@ module _ {S : Type 0} (IsIn : Content → S → Type 0) where
   abbrev pub fill_gives_then : Step S → Me S Acting → ℕ → Me S Acting → Type 0
   fill_gives_then t m n m' = (f : Filling) (c a : ℕ) (tail : List (ℕ × S)) → CanFill m f c a tail → m' ≡ (filling_at m.0.slot (next_filled m.0 c a f) m.0, tail)
 
-  -- a value is so many parts of one round only
+  -- a value is a number of parts of one round only
   abbrev pub AreTold : Type 0
   AreTold = (c a c' a' : ℕ) (u : S) → IsIn (part c a) u → IsIn (part c' a') u → (c ≡ c') × (a ≡ a')
 
@@ -335,7 +335,7 @@ with_bag d e = record d { collected = e.collected }
 abbrev pub owning : Owner → Acting → Acting
 owning o d = record d { slot = o.slot; hand = o ∷ [] }
 
--- the new item i stands in the slot that was filled, with its one owner in hand
+-- the new item i is in the slot that was filled, with its one owner in hand
 abbrev pub placing : ℕ → Filling → Acting → Acting
 placing i f d = record d { filling = None; hand = record { item = i; slot = d.slot; round = f.round } ∷ [] }
 
@@ -353,7 +353,7 @@ abbrev pub taken_all : List Garbage → List Garbage → List Garbage
 taken_all [] vs = vs
 taken_all (w ∷ ws) vs = record w { age = 0 } ∷ taken_all ws vs
 
--- what the word of an ended participant told is taken over, with age 0, in its order
+-- what the word of an ended participant names is taken over, with age 0, in its order
 abbrev pub HasTakenLeft : {S : Type 0} → Me S Acting → ℕ → ℕ → Me S Acting → Type 0
 HasTakenLeft m n own m' = (ws : List Garbage) × (n ≡ left_code ws) × (is_threaded ws ≡ true) × AllBelow m.0.sizes.slots ws × (m' ≡ (record m.0 { waits = taken_all ws m.0.waits; left = own }, m.1))
 
@@ -379,7 +379,7 @@ handing_over w ws d = record d { collected = ws; waits = record w { age = 0 } �
 abbrev pub hand_all_then : {S : Type 0} → Step S → Me S Acting → ℕ → Me S Acting → Type 0
 hand_all_then t m n m' = m' ≡ (record m.0 { collected = []; waits = taken_all m.0.collected m.0.waits }, m.1)
 
--- the item w is being reclaimed, and has given up the owners hs; the others still wait
+-- the item w is being reclaimed, and has handed over the owners hs; the others still wait
 abbrev pub reclaiming : Garbage → List Owner → List Garbage → Acting → Acting
 reclaiming w hs ws d = record d { hand = hs ++ d.hand; slot = w.slot; filling = Some (record { by = d.number; filled = d.sizes.participants; round = w.round; left = 0; out = d.sizes.participants }); waits = ws }
 

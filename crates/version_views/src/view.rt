@@ -193,7 +193,7 @@ fn place_of_counted<K: Ord>(separators: &[K], key: &K, steps: &mut Steps) -> usi
     low
 }
 
-/// How many separators are passed: so many and the one behind them, or none.
+/// How many separators are passed: `half` and the one behind them, or none.
 #[inline]
 fn count_past(half: usize, is_past: bool) -> usize
     requires { half < 2 ^ 63 }
