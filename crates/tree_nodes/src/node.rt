@@ -1,4 +1,4 @@
-//! The inner nodes of the tree: as they stand in their arena, and as a tree lends them.
+//! The inner nodes of the tree: as they are in their arena, and as a tree lends them.
 //!
 //! <!-- crates/tree_tests/src/tree.rt leaf_at -->
 //! ```text
@@ -51,7 +51,7 @@ pub enum Node<'t, K: Ord, V> {
 }
 
 impl<'t, K: Ord, V> Node<'t, K, V> {
-    /// The node that stands at a number.
+    /// The node at a number.
     pub(crate) fn over(standing: Standing<'t, K, V>) -> Self
         requires stands { IsStanding K.cmp standing }
         requires node { standing.height ≢ 0 }
