@@ -178,7 +178,7 @@ fn reaches<K: Ord, V, N, O: BaseVersion<K, V, N>, const S: usize>(
     }
 }
 
-/// Whether a segment of so many pairs fits into one with what comes before it.
+/// Whether a segment of `size` pairs fits into one with what comes before it.
 fn joins<K: Ord, V, N, const S: usize>(out: &SegmentBuilder<K, V, N>, size: usize) -> bool
     ensures { IsTrue result ↔ Joins S size out.now }
 {
