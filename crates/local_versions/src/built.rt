@@ -103,7 +103,7 @@ impl<K: Ord + Drop, V: Drop, const S: usize> Drop for Built<K, V, S> {
     }
 }
 
-/// The version that writes make of an older one, under the next number, and what they are told; refused where memory is.
+/// The version that writes make of an older one, under the next number, and the replies. Fails only if an allocation fails.
 /// Nothing is placed yet. Segments that no write touches are taken over, so the older version has to be there when it is
 /// placed.
 pub fn build<K: Clone + Ord + Drop, V: Clone + Drop, const S: usize>(
