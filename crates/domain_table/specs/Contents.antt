@@ -20,7 +20,7 @@ garbage_slots = map (λ (w : Garbage). w.slot)
 abbrev pub first_in_home : ℕ → ℕ → Content
 first_in_home deeds i = cond (nat_lt i deeds) blank room
 
--- an item is read by its parts, and had back by its deed, which tells the owners that it holds: `holds` tells them of its value
+-- an item is read by its parts, and returned by its deed, which has the owners that it holds: `holds` says which these are, by its value
 module _ {T : Type 0} (holds : T → List (ℕ × ℕ)) where
   abbrev pub IsIn : Content → Home T → Type 0
   IsIn away y = Unit {0}

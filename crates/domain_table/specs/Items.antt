@@ -44,7 +44,7 @@ Owns items slot_of o = (it : Item) × At items o.item it × (it.value ≡ o.roun
 abbrev pub IsGiven : List Item → (ℕ → ℕ) → List Owner → Item → Type 0
 IsGiven items slot_of hs it = (items_of hs ≡ it.holds) × ((o : Owner) → Has hs o → Owns items slot_of o)
 
--- the item w.item has this state, and is in the slot and of the round that w tells
+-- the item w.item has this state, and is in the slot and of the round of w
 abbrev pub HasState : List Item → (ℕ → ℕ) → ItemState → Garbage → Type 0
 HasState items slot_of state w = (it : Item) × At items w.item it × (it.state ≡ state) × (it.value ≡ w.round) × (slot_of w.item ≡ w.slot)
 
@@ -91,7 +91,7 @@ pub record Links (sizes : Sizes) (words : List ℕ) (left : ℕ → List Garbage
   pub notes : (j : ℕ) (d : Acting) (w : Garbage) → At views j d → Has d.collected w → IsLinked sizes words w
   pub lefts : (p : ℕ) (w : Garbage) → Has (left p) w → IsLinked sizes words w
 
--- nobody acts for p: none of its homes is out, its spare slot, which its claim word tells, is empty
+-- nobody acts for p: none of its homes is out, its spare slot, which its claim word names, is empty
 abbrev pub Rests : Sizes → Book → List ℕ → ℕ → Type 0
 Rests sizes book words p = (book.out p ≡ []) × (slice_index words (claim_word p) ≡ suc (book.spare (sizes.cells + p))) × (book.extra (book.spare (sizes.cells + p)) ≡ blank)
 

@@ -1,4 +1,4 @@
--- what a participant has leased, as its rows tell
+-- what a participant has leased, by its rows
 use Rattle.std.specs.Prelude.{◌≡◌, ℕ, suc, ◌+◌, slice_index_or, ◌<◌, ◌≤◌, ◌^◌, ◌++◌, Bool, true, false, ◌==◌, ◌&&◌, List, [], ◌∷◌, map, nat_lt, Option, None, Some}
 use Rattle.parted.specs.declared.life.Life.{Life}
 use Rattle.sdd_homes.specs.declared.Lease.{Lease}
@@ -52,11 +52,11 @@ abbrev pub all_below : ℕ → List ℕ → Bool
 all_below n [] = true
 all_below n (k ∷ ks) = nat_lt k n && all_below n ks
 
--- the rows tell the leases, under this life, all in slots of the place, and there is room for a row of each slot
+-- the rows are those of the leases, under this life, all in slots of the place, and there is room for a row of each slot
 abbrev pub HasRows : {T : Type 0} → ℕ → ℕ → List Lease → List (Row T) → ℕ → Type 0
 HasRows life slots ls rows room = (map row_told rows ≡ map (lease_told life) ls) × (all_below slots (row_slots rows) ≡ true) × (slots ≤ room)
 
--- they still tell the leases, and the room is what it was
+-- they are still those of the leases, and the room is what it was
 abbrev pub KeepsRows : {T : Type 0} → ℕ → ℕ → List Lease → List (Row T) → ℕ → ℕ → Type 0
 KeepsRows life slots ls rows before after = (map row_told rows ≡ map (lease_told life) ls) × (all_below slots (row_slots rows) ≡ true) × (after ≡ before)
 

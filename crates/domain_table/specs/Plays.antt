@@ -1,4 +1,4 @@
--- what each step on a word tells the seat that makes it
+-- what the seat that makes a step on a word knows then
 use Rattle.std.specs.Prelude.{◌≡◌, ◌≢◌, ◌⊎◌, ℕ, suc, ◌+◌, ◌-◌, ◌^◌, ◌<◌, ◌≤◌, List, [], ◌∷◌, ◌++◌, length, take, drop, Option, None, Some, ◌==◌, cond, true}
 use mathlib.Core.Option.{some}
 use Rattle.atomic_table.specs.Table.{Me, Step, rest}
@@ -50,7 +50,7 @@ module _ {S : Type 0} where
   abbrev pub agree_then : Step S → Me S Acting → ℕ → Me S Acting → Type 0
   agree_then t m n m' = (e : ℕ) → m.0.known.phase ≡ Opened e → (n ≡ e → m' ≡ (record m.0 { scan = 2 }, m.1)) × (n ≢ e → m' ≡ m)
 
-  -- a word that tells of no open guard is noted
+  -- a word that shows no open guard is noted
   abbrev pub shut_then : Step S → Me S Acting → ℕ → Me S Acting → Type 0
   shut_then t m n m' = (q : ℕ) → t.word ≡ state_word q → (n ≡ 0 → m' ≡ (record m.0 { known = looking q m.0.known }, m.1)) × (n ≢ 0 → m' ≡ m)
 
@@ -80,7 +80,7 @@ module _ {S : Type 0} where
 abbrev pub learn_then : {S : Type 0} → (S → Sizes → Type 0) → Step S → Me S Acting → ℕ → Me S Acting → Type 0
 learn_then Announces t m n m' = (m' ≡ m) × ((x : _) (z : Sizes) → t.said ≡ some x → Announces x z → m.0.sizes ≡ z)
 
--- a scan leaves alone all but what it tells of the participant itself
+-- a scan leaves alone all but what it notes of the participant itself
 abbrev pub Steady : {S : Type 0} → Me S Acting → Me S Acting → Type 0
 Steady m m' = (m'.0.kind ≡ m.0.kind) × (m'.0.number ≡ m.0.number) × (m'.0.born ≡ m.0.born) × (m'.0.sizes ≡ m.0.sizes) × (m'.0.spare ≡ m.0.spare) × (m'.0.hand ≡ m.0.hand) × (m'.0.leases ≡ m.0.leases) × (m'.0.releasing ≡ m.0.releasing) × (m'.0.slot ≡ m.0.slot)
     × (m'.0.filling ≡ m.0.filling) × (m'.0.waits ≡ m.0.waits) × (m'.0.left ≡ m.0.left) × (m'.1 ≡ m.1)
@@ -111,11 +111,11 @@ abbrev pub HasRound : List Lease → Owner → Type 0
 HasRound ls o = (l : Lease) → Has ls l → l.slot ≡ o.slot → l.round ≡ o.round
 
 module _ {S : Type 0} (IsIn : Content → S → Type 0) where
-  -- the participant's home of the slot k comes out with its parts of the item; not all slots were leased
+  -- the participant's home of the slot k is taken out with its parts of the item; not all slots were leased
   abbrev pub takes_home : Me S Acting → ℕ → Loaded → Me S Acting → Type 0
   takes_home m k h m' = ¬ Lends m.0.leases k × (k < m.0.sizes.slots) × (length m.0.leases < m.0.sizes.slots) × ((c : ℕ) × (u : S) × IsIn (part h.value c) u × (c ≤ 2 ^ 63) × (m' ≡ (loading h (m.0.leases ++ lease k h.item c h.value ∷ []) m.0, (own_home m.0 k, u) ∷ m.1)))
 
-  -- the item in slot k was leased already, or the participant's home of it comes out
+  -- the item in slot k was leased already, or the participant's home of it is taken out
   abbrev pub HasLeasedAs : Me S Acting → ℕ → Loaded → Me S Acting → Type 0
   HasLeasedAs m k h m' = (IsLeased m.0.leases k h × (m' ≡ (loading h m.0.leases m.0, m.1))) ⊎ takes_home m k h m'
 
@@ -158,11 +158,11 @@ module _ {S : Type 0} (IsIn : Content → S → Type 0) where
   abbrev pub HasSpare : Me S Acting → List (ℕ × S) → Type 0
   HasSpare m tail = (u : S) × IsIn blank u × (m.1 ≡ (own_spare m.0 m.0.spare, u) ∷ tail)
 
-  -- the seat has come to act for the participant q, whose spare slot y came out
+  -- the seat acts for the participant q from now on, whose spare slot y was taken out
   abbrev pub HasRegistered : Me S Acting → ℕ → ℕ → Me S Acting → Type 0
   HasRegistered m q y m' = (sizes : Sizes) × (m'.0 ≡ registered sizes y q) × HasSpare m' m.1
 
-  -- a participant for which nobody acts is claimed: its word tells its spare slot
+  -- a participant for which nobody acts is claimed: its word names its spare slot
   abbrev pub claim_then : Step S → Me S Acting → ℕ → Me S Acting → Type 0
   claim_then t m n m' = (q : ℕ) → t.word ≡ claim_word q → (n ≡ 0 → m' ≡ m) × ((y : ℕ) → n ≡ suc y → (y < 2 ^ 31) × HasRegistered m q y m')
 
@@ -219,7 +219,7 @@ HasRoom d = (length d.waits < d.sizes.slots) × (length d.collected < d.sizes.sl
 abbrev pub release_then : {S : Type 0} → (Participant → Option ℕ) → Step S → Me S Acting → ℕ → Me S Acting → Type 0
 release_then to t m n m' = (l : Lease) (o : Owner) (os : List Owner) → Has m.0.leases l → o.slot ≡ l.slot → m.0.hand ≡ o ∷ os → (2 < n) × (l.count < 2 ^ 63) × HasRoom m.0 × Apart m.0.leases × (o.round ≡ l.round) × (m' ≡ (releasing_one (to m.0.known) n l os m.0, m.1))
 
--- a release of the owner o begins: the participant's home of its item comes out
+-- a release of the owner o begins: the participant's home of its item is taken out
 abbrev pub HasBegun : {S : Type 0} → (Content → S → Type 0) → Me S Acting → Owner → Me S Acting → Type 0
 HasBegun IsIn m o m' = (c : ℕ) × (u : _) × IsIn (part o.round c) u × (c < 2 ^ 63) × (o.slot < m.0.sizes.slots) × (m' ≡ (record m.0 { leases = m.0.leases ++ lease o.slot o.item c o.round ∷ []; releasing = suc o.item }, (own_home m.0 o.slot, u) ∷ m.1))
 
@@ -256,7 +256,7 @@ module _ {S : Type 0} (IsIn : Content → S → Type 0) where
 abbrev pub retag_then : {S : Type 0} → Step S → Me S Acting → ℕ → Me S Acting → Type 0
 retag_then t m n m' = (n ≡ t.first → m' ≡ with_step t.word n t.second m) × (n ≢ t.first → m' ≡ with_step t.word n n m)
 
--- the word of a cell is read, and tells some spare slot, tag and item
+-- the word of a cell is read, and has some spare slot, tag and item
 abbrev pub read_cell_then : {S : Type 0} → Step S → Me S Acting → ℕ → Me S Acting → Type 0
 read_cell_then t m w m' = (y : ℕ) × (k : ℕ) × (y < 2 ^ 31) × Tells w y k × (m' ≡ with_step t.word w w m)
 
@@ -291,7 +291,7 @@ module _ {S : Type 0} (IsIn : Content → S → Type 0) where
   abbrev pub claim_slot_then : Step S → Me S Acting → ℕ → Me S Acting → Type 0
   claim_slot_then t m n m' = (k : ℕ) → t.word ≡ slot_word m.0.sizes k → (n ≡ 0 → HasClaimed m k m') × (n ≢ 0 → m' ≡ m)
 
-  -- the next home comes out, empty
+  -- the next home is taken out, empty
   abbrev pub HasTaken : Me S Acting → Filling → Me S Acting → Type 0
   HasTaken m f m' = (u : S) × IsIn blank u × (m' ≡ (filling_at m.0.slot (next_out f) m.0, (home m.0.sizes.slots m.0.slot f.filled, u) ∷ m.1))
 
@@ -327,7 +327,7 @@ without_bag d = record d { collected = [] }
 abbrev pub bag_alone : Acting → Acting
 bag_alone d = gathering d.collected
 
--- the private bag of another seat comes in place of one
+-- the private bag of another seat replaces one
 abbrev pub with_bag : Acting → Acting → Acting
 with_bag d e = record d { collected = e.collected }
 
@@ -396,7 +396,7 @@ abbrev pub emptying : ℕ → ℕ → Filling → Filling
 emptying q a f = record f { filled = q; left = f.left + a }
 
 module _ {S : Type 0} (IsIn : Content → S → Type 0) where
-  -- what has waited longest is reclaimed: its deed comes out, and the owners that it held are in hand
+  -- what has waited longest is reclaimed: its deed is taken out, and the owners that it held are in hand
   abbrev pub opens_then : Step S → Me S Acting → ℕ → Me S Acting → Type 0
   opens_then t m n m' = (w : Garbage) (ws : List Garbage) → m.0.waits ≡ ws ++ w ∷ [] → (w.slot < m.0.sizes.slots) × ((hs : List Owner) × (u : S) × IsIn (deed w.round hs) u × (m' ≡ (reclaiming w hs ws m.0, (deed_home m.0 w.slot, u) ∷ m.1)))
 
@@ -404,7 +404,7 @@ module _ {S : Type 0} (IsIn : Content → S → Type 0) where
   abbrev pub opens_noted_then : Step S → Me S Acting → ℕ → Me S Acting → Type 0
   opens_noted_then t m n m' = (w : Garbage) (ws : List Garbage) → m.0.collected ≡ ws ++ w ∷ [] → (w.slot < m.0.sizes.slots) × ((hs : List Owner) × (u : S) × IsIn (deed w.round hs) u × (m' ≡ (reclaiming_noted w hs ws m.0, (deed_home m.0 w.slot, u) ∷ m.1)))
 
-  -- the last home that has parts comes out; with the first one all parts are in hand
+  -- the last home that has parts is taken out; with the first one all parts are in hand
   abbrev pub gathers_then : Step S → Me S Acting → ℕ → Me S Acting → Type 0
   gathers_then t m n m' = (f : Filling) → m.0.filling ≡ Some f → (a : ℕ) × (u : S) × IsIn (part f.round a) u × (f.left + a ≤ 2 ^ 63) × (f.filled ≡ 1 → f.left + a ≡ 2 ^ 63) × (m' ≡ (filling_at m.0.slot (gathered a f) m.0, (home m.0.sizes.slots m.0.slot (f.filled - 1), u) ∷ m.1))
 
@@ -422,7 +422,7 @@ module _ {S : Type 0} (IsIn : Content → S → Type 0) where
   abbrev pub vacates_then : Step S → Me S Acting → ℕ → Me S Acting → Type 0
   vacates_then t m n m' = (f : Filling) (tail : List (ℕ × S)) → CanVacate m f tail → m' ≡ (record m.0 { filling = None }, tail)
 
--- what is in slot k is followed by what n tells
+-- what is in slot k is followed by what n names
 abbrev pub linked_to : ℕ → ℕ → List Garbage → List Garbage
 linked_to k n [] = []
 linked_to k n (w ∷ ws) = record w { next = cond (w.slot == k) n w.next } ∷ linked_to k n ws

@@ -72,7 +72,7 @@ first_eights cells (suc n) = first_eights cells n ++ first_eight (cells + n)
 abbrev pub first_words : Plan → List ℕ
 first_words plan = plan.first ∷ (replicate 15 zero ++ (first_eights plan.sizes.cells plan.sizes.participants ++ (numbers plan.sizes.cells ++ replicate (plan.sizes.slots + plan.sizes.slots) zero)))
 
--- what participants left when they ended, as their words tell
+-- what participants left when they ended, by their words
 pub record Lefts (n : ℕ) (words : List ℕ) (left : ℕ → List Garbage) : Type 0 where
   pub told : (p : ℕ) → p < n → slice_index words (left_word p) ≡ left_code (left p)
   pub chained : (p : ℕ) → is_threaded (left p) ≡ true

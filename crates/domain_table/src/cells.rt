@@ -93,7 +93,7 @@ impl<T, H: Holding<T>, A: Aim> Play<Home<T>, Acting> for OnEndRelease<H, A> {
     ghost then = { end_release_then (IsIn H.holds) A.to };
 }
 
-/// The word of a cell, as it was at some moment: no step tells of it.
+/// The word of a cell, as it was at some moment: no step records it.
 pub fn word_of<T, H: Holding<T>>(words: &Words<T, H>, sizes: &Sizes, cell: usize) -> u64
     requires { (words.now.key.sizes ≡ sizes.now) × IsSized sizes.now × (cell < sizes.now.cells) × (all_words sizes.now ≤ words.now.table_id.words) }
 {
@@ -116,7 +116,7 @@ pub fn read_cell<T, H: Holding<T>>(
 }
 
 /// Loads the cell under the participant's open guard, for `participants` of them. If it names an item, the
-/// participant's parts of that come out of their home, unless they are leased already.
+/// participant's parts of that are taken out of their home, unless they are leased already.
 pub(crate) fn load<T, H: Holding<T>>(
     words: &Words<T, H>,
     seat: &mut Seat<T>,
@@ -132,7 +132,7 @@ pub(crate) fn load<T, H: Holding<T>>(
 }
 
 /// Loads the item of the owner that is first in hand, under the participant's open guard: the participant's parts of it
-/// come out of their home, unless they are leased already.
+/// are taken out of their home, unless they are leased already.
 pub(crate) fn load_own<T, H: Holding<T>>(words: &Words<T, H>, seat: &mut Seat<T>)
     requires table { (seat.old.table_id ≡ words.now.table_id) × (0 < words.now.table_id.words) }
     requires open { (seat.old.me.0.kind ≡ 1) × (is_inside seat.old.me.0.known ≡ true) }

@@ -28,7 +28,7 @@ pub fn spare_at(sizes: &Sizes, spare: u64) -> usize
     sizes.slots * (sizes.participants + 1) + spare as usize
 }
 
-/// Lets go of what lies in a slot: an item whose parts lie there, or its deed, isn't dropped.
+/// Forgets what lies in a slot: an item whose parts lie there, or its deed, isn't dropped.
 pub fn let_go<T>(home: Home<T>) {
     match home {
         Home::Blank => {}
@@ -80,7 +80,7 @@ pub fn parts_of<T, H: Holding<T>>(home: Home<T>) -> (Part<Stored<T>>, u64)
     }
 }
 
-/// Lets go of homes.
+/// Forgets homes.
 pub fn clear<T>(homes: Vec<Home<T>>) {
     let mut homes = homes;
     while let Some(home) = homes.pop() {
@@ -89,7 +89,7 @@ pub fn clear<T>(homes: Vec<Home<T>>) {
     homes.destroy_empty();
 }
 
-/// Lets go of what a place had in its slots.
+/// Forgets what a place had in its slots.
 pub fn empty<T>(closed: Closed<Home<T>, Global>)
     requires { IsFull closed.slots }
 {

@@ -6,7 +6,7 @@ use crate::row::Row;
 use std::alloc::{AllocError, Global};
 use std::collections::VecDeque;
 
-/// What a participant has leased. It can't be let go: `free` frees an empty one.
+/// What a participant has leased. It can't be dropped: `free` frees an empty one.
 pub struct Ledger<T> {
     pub rows: VecDeque<Row<T>>,
 }

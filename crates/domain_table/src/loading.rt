@@ -42,7 +42,7 @@ pub fn slot_named(word: u64) -> Option<usize>
     }
 }
 
-/// Adds the row of the item in `slot`, unless it has one: its parts came out of the home of participant `number` in the
+/// Adds the row of the item in `slot`, unless it has one: its parts were taken out of the home of participant `number` in the
 /// step that loaded it. Which row that is.
 fn note_slot<T, H: Holding<T>>(
     words: &Words<T, H>,

@@ -129,7 +129,7 @@ pub fn sit<T, H: Holding<T>>(words: &Words<T, H>) -> Seat<T>
     seat
 }
 
-/// Tries once to act for participant `number`. Where nobody did, its spare slot comes out, empty: which one it is.
+/// Tries once to act for participant `number`. If nobody did, its spare slot is taken out, empty, and its number is returned.
 pub fn claim<T, H: Holding<T>>(
     words: &Words<T, H>,
     seat: &mut Seat<T>,
@@ -145,7 +145,7 @@ pub fn claim<T, H: Holding<T>>(
     if found == 0 { None } else { Some(found - 1) }
 }
 
-/// Tells the seat that the place has the sizes `sizes`. No word changes.
+/// Notes at the seat that the place has the sizes `sizes`. No word changes.
 pub fn learn<T, H: Holding<T>>(words: &Words<T, H>, seat: &mut Seat<T>, sizes: Sizes)
     requires table { (seat.old.table_id ≡ words.now.table_id) × (1 < words.now.table_id.words) × (sizes ≡ words.now.key.sizes) }
     requires acts { seat.old.me.0.kind ≡ 1 }

@@ -77,7 +77,7 @@ status_of (Err errors.Read) = 1
 status_of (Err errors.Write) = 1
 status_of (Err errors.Memory) = 2
 
--- what it tells on standard error
+-- what it writes to standard error
 abbrev pub complaint_of : Result (Unit {0}) RunError → List ℕ
 complaint_of (Ok done) = []
 complaint_of (Err errors.Read) = codes "index_run: read\n"

@@ -116,7 +116,7 @@ module _ {K V : Type 0} where
     Audits s receipt audits.Unknown = latest_number s < receipt.number
     Audits s receipt (audits.TooOld number) = (receipt.number < s.base.number) × (number ≡ s.base.number)
 
-    -- the base is the list of this number, and what came before is gone; sessions stay, and so do slots
+    -- the base is the list of this number, and what came before is dropped; sessions stay, and so do slots
     pub record Rebases (old : State K V) (upto : ℕ) (new : State K V) : Type 0 where
       pub has : Has old upto
       pub changed : new ≡ record old { base = base_at cmp old.base old.history upto; history = history_behind old.base old.history upto }

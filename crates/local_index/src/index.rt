@@ -541,7 +541,7 @@ impl<K: Clone + Ord, V: Clone + Eq, const S: usize> LocalIndex<K, V, S> {
     fn present_number(&self) -> u64
         ensures { result ≡ latest_number self.now }
     {
-        // what is read here tells the proof that the number is at most the last one
+        // what is read here shows the proof that the number is at most the last one
         let _last = self.last;
         self.base.number() + self.history.len() as u64
     }
@@ -550,7 +550,7 @@ impl<K: Clone + Ord, V: Clone + Eq, const S: usize> LocalIndex<K, V, S> {
         requires { latest_number self.now ≢ self.now.last }
         ensures { result ≡ latest_number self.now + 1 }
     {
-        // what is read here tells the proof that the number is below the last one
+        // what is read here shows the proof that the number is below the last one
         let _last = self.last;
         self.base.number() + self.history.len() as u64 + 1
     }
@@ -573,7 +573,7 @@ impl<K: Clone + Ord, V: Clone + Eq, const S: usize> LocalIndex<K, V, S> {
         ensures refused { IfErr result (λ back. Refuses K.cmp S self.old prepared.reads writes.items back self.new) }
         ensures short { IfErr result (λ back. back.cause ≡ Cause.NoSlot → self.old.slots < self.old.used + (2 * length writes.items + 1)) }
     {
-        // what is read here tells the proof that the number is below the last one
+        // what is read here shows the proof that the number is below the last one
         let _last = self.last;
         let Ok(()) = self.history.reserve(1) else {
             let cause = Cause::Memory;

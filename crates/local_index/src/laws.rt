@@ -5,7 +5,7 @@ ghost use Rattle.local_index.specs.Conflicts.{ChangedRangeDiffers, FirstPairsHol
 ghost use Rattle.local_index.specs.Feeds.{FeedLeadsToPresent};
 
 /// A receipt of an index's own session audits `Yes`, memory aside, whatever is committed
-/// meanwhile, or `TooOld` where a checkpoint has gone past its number: a session is the index's own when it opens, and each
+/// meanwhile, or `TooOld` where a checkpoint has passed its number: a session is the index's own when it opens, and each
 /// read keeps it so, and so do a commit, a checkpoint, and every call that leaves base, history and its place.
 pub fn own_receipts_audit_yes<K: Ord, V>()
     ensures opens { OpeningsAreOwn V K.cmp }

@@ -278,7 +278,7 @@ fn play_audit<K: Clone + Ord, V: Clone + Eq, const S: usize>(
     Ok(DeskReply::Audit(index.audit(receipt)?))
 }
 
-// Tells the number of the session under a label.
+// The number of the session under a label.
 fn play_number<K: Clone + Ord, V: Clone + Eq, const S: usize>(
     alloc: Global,
     index: &LocalIndex<K, V, S>,
@@ -293,7 +293,7 @@ fn play_number<K: Clone + Ord, V: Clone + Eq, const S: usize>(
     DeskReply::Number(index.number(&ticket.session))
 }
 
-// Tells how many pairs the session under a label reads.
+// How many pairs the session under a label reads.
 fn play_len<K: Clone + Ord, V: Clone + Eq, const S: usize>(
     alloc: Global,
     index: &LocalIndex<K, V, S>,

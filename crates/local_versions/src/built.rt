@@ -139,7 +139,7 @@ pub fn build<K: Clone + Ord + Drop, V: Clone + Drop, const S: usize>(
     ))
 }
 
-/// The version of clones of these pairs, whose keys rise, with number 0; refused where memory is. Nothing is placed yet. It
+/// The version of clones of these pairs, whose keys rise, with number 0; fails only if an allocation fails. Nothing is placed yet. It
 /// takes nothing over, so it can be placed wherever there are the slots that it takes, and its segments are as few as can
 /// hold the pairs.
 pub fn build_list<K: Clone + Ord + Drop, V: Clone + Drop, const S: usize>(
@@ -198,7 +198,7 @@ impl<'a, K: Ord, V, const S: usize> Older<'a, K, V, S> {
         Older { w, dir }
     }
 
-    /// The separators tell the segments apart.
+    /// The separators lie between the segments.
     pub(crate) fn laws(&self)
         ensures { IsVersion K.cmp (value_at self.now.state) self.now.directory }
     {

@@ -14,7 +14,7 @@ use denote.Struct.Lending.{lent_at}
 abbrev pub tokens : ℕ → ℕ → Fml
 tokens a k = fex Share (λ q. fex (Counts 63 q k) (λ _. flft (a ∷ []) q))
 
--- who borrows tokens of life a for κ knows that a runs on until κ is over
+-- who borrows tokens of life a for κ knows that a lasts until κ is over
 abbrev pub life_shared : ℕ → Lft → Fml
 life_shared a κ = fshr_bor κ (λ q. flft (a ∷ []) q)
 

@@ -9,7 +9,7 @@ use std::alloc::Allocator;
 /// The right to read a value while this is held: what is seen, and tokens of the life that it is seen under.
 ///
 /// `seen.value` is the value, `life.id` names the round in which it is frozen, and `life.count` says how many
-/// of the `2^63` parts of that round these are. A part can't be let go: it is joined to another one, lent, or
+/// of the `2^63` parts of that round these are. A part can't be dropped: it is joined to another one, lent, or
 /// given to [`thaw`]. It takes the bytes of an address.
 pub struct Part<T> {
     /// The value, at its address.

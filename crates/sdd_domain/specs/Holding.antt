@@ -11,7 +11,7 @@ told_of h = (h.slot, h.part.part.life.id)
 abbrev pub IsHeldOf : {T : Type 0} → Held T → T → Type 0
 IsHeldOf h x = IsSomeAnd h.part.part.seen.value (λ m. manually_drop_value m ≡ x)
 
--- how an item that gives these up from the last one on tells them
+-- the owners of an item that hands these over from the last one on
 abbrev pub all_told : {T : Type 0} → List (Held T) → List (ℕ × ℕ)
 all_told hs = reverse (map told_of hs)
 

@@ -22,7 +22,7 @@ use sdd_plain::sizes::Sizes;
 use std::alloc::{AllocError, Global};
 use std::sync::atomic::AtomicBool;
 
-/// A place that threads share by `&`. It can't be let go: `close` ends it.
+/// A place that threads share by `&`. It can't be dropped: `close` ends it.
 pub struct Domain<T: Holds> {
     pub(crate) table: Board<T>,
     pub(crate) sizes: Sizes,

@@ -22,7 +22,7 @@ pub struct Ptr<'g, T> {
     item: Option<&'g T>,
 }
 
-/// What a cell names and its tag, without the item and without a borrow: it tells of the pointers that a participant loads
+/// What a cell names and its tag, without the item and without a borrow: it describes the pointers that a participant loads
 /// whether they are the one that it put there, until its outermost guard closes.
 #[derive(Clone, Copy, PartialEq, Eq, Debug)]
 pub struct Named {

@@ -1,10 +1,10 @@
--- the slots of the table have what the book tells
+-- the slots of the table have what the book says
 use Rattle.std.specs.Prelude.{◌≡◌, ◌≢◌, ℕ, ◌+◌, ◌<◌, List, length}
 use mathlib.Core.Option.{Option, some}
 use lib.ListN.{get_elem?}
 use Rattle.sdd_homes.specs.Book.{Content, away}
 
--- `IsIn x y`: the value y of a slot is what the content x tells
+-- `IsIn x y`: the value y of a slot is what the content x says
 module _ {S : Type 0} (IsIn : Content → S → Type 0) where
   -- a slot is at home with what the book says of it, if it says anything
   abbrev pub Fits : Content → Option (Option S) → Type 0

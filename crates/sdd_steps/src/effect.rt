@@ -236,7 +236,7 @@ impl Snapshot {
         }
     }
 
-    // An item, if any, comes out of the hand into cell c.
+    // An item, if any, is moved from the hand into cell c.
     fn fill_cell(&mut self, alloc: Global, c: usize, new: Option<usize>) -> Result<(), AllocError>
         ensures { OnOk result (snapshot_state self.new ≡ filled (snapshot_state self.old) c new) }
     {

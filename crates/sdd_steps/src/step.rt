@@ -19,7 +19,7 @@ pub enum Step {
     LoadInHand(usize, usize),
     /// It reads the second item, a segment of the first one, which it loaded.
     ReadSegment(usize, usize, usize),
-    /// The item, if any, comes out of the hand into the cell, and the item of the cell into the hand.
+    /// The item, if any, is moved from the hand into the cell, and the item of the cell into the hand.
     SwapCell(usize, usize, Option<usize>),
     /// An owner in hand is given back. The last one leaves the item due to the participant.
     Release(usize, usize),
@@ -41,9 +41,9 @@ pub enum Step {
     /// The holder of the cell, which the participant reclaimed, hands over the cell's owner, which is in hand then.
     /// Then the cell has no holder.
     GiveUpCell(usize, usize),
-    /// The guard, what the participant loaded and its looks are gone.
+    /// The guard ends, and with it what the participant loaded and its looks.
     Close(usize),
-    /// A new item with this value in hand. The owners and the cells that it holds come out of the hand.
+    /// A new item with this value in hand. The owners and the cells that it holds are taken from the hand.
     Place(usize, u64, Seq<usize>, Seq<usize>),
     /// One more owner in hand of an item that has one.
     RaiseOwners(usize, usize),

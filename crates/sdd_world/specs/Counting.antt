@@ -113,7 +113,7 @@ pub record OwnersAreCounted {T : Type 0} (holds : T → List Hold) : Type 0 wher
   pub given : (p : ℕ) (h : Hold) (hand : List Hold) (w : State T) → Counted holds (h ∷ hand) w → Counted holds hand (given p h w)
   -- an owner is given back at once, with all that only it held
   pub dropped : (h : Hold) (hand : List Hold) (w w' : State T) → IsPlace w → Counted holds (h ∷ hand) w → Dropped holds h w w' → Counted holds hand w'
-  -- an item is written: what it will hold comes out of the hand, and what it held into it
+  -- an item is written: what it will hold is taken from the hand, and what it held is put there
   pub written : (i : ℕ) (u v : T) (hand : List Hold) (w : State T) → i < length w.values → value_at w i ≡ Some u → Counted holds (holds v ++ hand) w → Counted holds (holds u ++ hand) (with_value i v w)
   -- guards open and close
   pub opened : (p : ℕ) (hand : List Hold) (w : State T) → IsPlace w → p < length w.participants → Counted holds hand w → Counted holds hand (guard_opened holds p w)

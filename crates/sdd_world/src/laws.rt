@@ -20,7 +20,7 @@ pub fn held_cells_stay<T: Holds>()
 {}
 
 /// What a guard protects: every item that has an owner while it is open; and what it protects stays as it was until
-/// it closes, whatever calls come in between.
+/// it closes, whatever calls are made in between.
 pub fn guards_protect<T>()
     ensures owned { OwnedIsProtected T }
     ensures stays { StaysUntilClosed T }

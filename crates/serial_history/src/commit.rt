@@ -66,10 +66,10 @@ pub enum CheckpointRefused {
     Memory,
 }
 
-/// Why a history doesn't tell the transactions behind a number.
+/// Why a history doesn't return the transactions after a number.
 #[derive(Clone, Copy, Debug, PartialEq, Eq, Error)]
 pub enum SinceRefused {
-    /// The number is below that of the base, which this is: some of them are gone.
+    /// The number is below that of the base, which this is: some of them were dropped.
     #[error("the history begins at number {0}; the index is as it was")]
     TooOld(u64),
     /// The number is above the present one, which this is.

@@ -76,7 +76,7 @@ pub enum Audit {
     No(usize),
     /// No list has that number yet.
     Unknown,
-    /// The receipt's number is below that of the base, which this is: its list is gone.
+    /// The receipt's number is below that of the base, which this is: its list was dropped.
     TooOld(u64),
 }
 

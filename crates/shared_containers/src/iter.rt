@@ -16,7 +16,7 @@ use sdd_domain::shared::Shared;
 use shared_lists::Links;
 
 /// A walk along the items of a stack or a queue, from the first one on, under one guard. It borrows that guard alone: the
-/// place, its links and the participant are lent to each step, so pushes and pops may come in between.
+/// place, its links and the participant are lent to each step, so pushes and pops may be made in between.
 ///
 /// `walks` in `crates/shared_container_tests/src/walks.rt` walks while items are popped.
 #[derive(Drop)]

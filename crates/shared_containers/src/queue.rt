@@ -29,7 +29,7 @@ use shared_lists::Links;
 use shared_lists::moves::{TRIES, follow};
 
 /// A queue of items of a place, which threads push and pop by `&`. It must be consumed by `end`.
-/// The tag of an item's link tells whether the item was popped. Whoever sets it pops the item, so each is popped at most
+/// The tag of an item's link says whether the item was popped. Whoever sets it pops the item, so each is popped at most
 /// once; and behind an item that was popped nobody appends, since that would exchange a link without a tag.
 pub struct Queue<T> {
     front: Stack<T>,

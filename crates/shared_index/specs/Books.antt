@@ -50,7 +50,7 @@ abbrev pub misses_without : NewRefused → ℕ → ℕ
 misses_without news.Memory misses = misses
 misses_without news.NoSlot misses = misses + 1
 
--- the number that was asked for lies before the base's, or behind the present one, as a refused checkpoint tells
+-- the number that was asked for lies below the base's, or above the present one, as a refused checkpoint says
 abbrev pub LiesOutside : ℕ → CheckpointRefused → Type 0
 LiesOutside upto (checkpoints.Behind number) = upto < number
 LiesOutside upto (checkpoints.Ahead number) = number < upto

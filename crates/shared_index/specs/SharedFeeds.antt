@@ -1,4 +1,4 @@
--- why an index that threads share doesn't tell what came behind a number
+-- why an index that threads share doesn't return what came after a number
 use Rattle.std.specs.Prelude.{◌≡◌, ℕ, ◌<◌, List}
 use Rattle.serial_history.specs.Serial.{Base, HasNumber, latest}
 use Rattle.serial_history.specs.declared.transaction.Transaction.{Transaction}

@@ -132,7 +132,7 @@ impl<L: Naming, K: Clone + Ord, V: Clone + Eq, const S: usize> Book<L, K, V, S> 
         ensures number { result ≡ number_of self.now }
         ensures last { result ≤ L.last }
     {
-        // what is read here tells the proof that the number is at most the last one
+        // what is read here shows the proof that the number is at most the last one
         let _last = self.last;
         self.base.number() + self.history.len() as u64
     }
@@ -453,7 +453,7 @@ impl<L: Naming, K: Clone + Ord, V: Clone + Eq, const S: usize> Book<L, K, V, S> 
         ensures rising { IfOk result (λ pairs. IsAscending K.cmp pairs.items) }
     {
         let list = self.rebuild_at(number)?;
-        // what is asked here tells the proof that the keys rise
+        // what is asked here shows the proof that the keys rise
         let _count = list.len();
         pairs_of(self.alloc, &list)
     }

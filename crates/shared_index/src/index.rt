@@ -33,7 +33,7 @@ use version_views::Write;
 /// is read without the lock.
 ///
 /// What a call does under the lock is what the same call of the [`Book`] does. A contract can't say here what that did to a
-/// book that other threads change too; it says what the caller's share tells. An index must be consumed, by
+/// book that other threads change too; it says what the caller's share counts. An index must be consumed, by
 /// [`close`](SharedIndex::close).
 pub struct SharedIndex<'d, L: Naming, K: Clone + Ord, V: Clone + Eq, const S: usize> {
     domain: &'d Domain<Node<K, V>>,
@@ -228,7 +228,7 @@ impl<'d, L: Naming, K: Clone + Ord, V: Clone + Eq, const S: usize> SharedIndex<'
         told
     }
 
-    /// Whether the reads of a receipt are answered as the list of its number answers them, as [`Book::audit`] tells.
+    /// Whether the reads of a receipt are answered as the list of its number answers them, as [`Book::audit`] says.
     pub fn audit<R: Wait>(&self, rt: &R, receipt: &Receipt<K, V>) -> Result<Audit, AllocError>
         requires keys { ClonesAreSame K.is_clone }
         requires values { ClonesAreSame V.is_clone }

@@ -1,6 +1,6 @@
 //! Entries of lists.
 //!
-//! An entry is an item with the link of its slot: the link owns what follows the item, and its tag tells whether the entry is
+//! An entry is an item with the link of its slot: the link owns what follows the item, and its tag says whether the entry is
 //! clear (`None`), marked (`First`) or deleted (`Second`, `Both`). A deleted entry stays where it is; walks pass over it.
 
 ghost use Rattle.std.specs.Prelude.{◌≡◌, ◌≢◌, ◌<◌, ◌≤◌, ◌⊎◌, ◌↔◌, ◌^◌, ℕ, [], Some, IsTrue, IsFalse, IfOk, IfErr, IfNone, IfSome, OnErr};

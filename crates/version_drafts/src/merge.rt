@@ -75,7 +75,7 @@ fn pass<K: Clone + Ord + Drop, V: Clone + Drop, N: Drop, O: BaseVersion<K, V, N>
     ensures list { IfOk result (λ next. KeepsListFrom (O.named old.now) K.cmp gone.now (O.blocks old.now) place changes.old out.old next changes.new out.new) }
     ensures thrifty { IfOk result (λ next. StaysThrifty S (is_gone K.cmp gone.now) (O.blocks old.now) place (length changes.old) out.old next (length changes.new) out.new) }
 {
-    // how many there are tells the proof that a place behind this one can be named
+    // how many there are shows the proof that a place behind this one can be named
     let _count = old.count();
     let next = place + 1;
     if covers::<K, V, N, O>(gone, old, place) {

@@ -7,7 +7,7 @@ ghost use Rattle.leaf_slots.specs.Places.{repacked, IsTailed};
 use crate::place::renumber;
 use crate::row::{Last, Link};
 
-/// A row whose pairs can be let go.
+/// A row whose pairs can be dropped.
 pub(crate) trait Renumber<K: Drop, V: Drop> {
     ghost places: { Self → List (Place K V) };
 

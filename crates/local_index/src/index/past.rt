@@ -1,4 +1,4 @@
-//! What came before the present list: it is cut off by checkpoints, lent as a feed, and gone back to.
+//! What came before the present list: it is cut off by checkpoints, lent as a feed, and rebuilt.
 
 ghost use Rattle.std.specs.Prelude.{◌≡◌, ◌≤◌, ◌+◌, ◌*◌, ◌<◌, IfErr, IfOk, OnErr, OnOk, length};
 ghost use Rattle.leaf_array.specs.Pairs.{IsAscending};
@@ -109,7 +109,7 @@ impl<K: Clone + Ord, V: Clone + Eq, const S: usize> LocalIndex<K, V, S> {
     /// The transactions behind a number, in order: those that lead from its list to the present one, with their writes and
     /// replies. What they read, contracts alone see. It takes no memory.
     ///
-    /// It is refused as `TooOld` where the number is below the base's, since some of them are gone, and as `Ahead` where it is
+    /// It is refused as `TooOld` where the number is below the base's, since some of them were dropped, and as `Ahead` where it is
     /// above the present one. Whoever keeps a copy of the list asks for what came since, by the number of its copy.
     pub fn since(&self, number: u64) -> Result<&[Transaction<K, V>], SinceRefused>
         ensures told { IfOk result (λ rest. rest.now ≡ history_behind self.now.base self.now.history number) }
@@ -156,7 +156,7 @@ impl<K: Clone + Ord, V: Clone + Eq, const S: usize> LocalIndex<K, V, S> {
         ensures rising { IfOk result (λ pairs. IsAscending K.cmp pairs.items) }
     {
         let list = self.rebuild_at(number)?;
-        // what is asked here tells the proof that the keys rise
+        // what is asked here shows the proof that the keys rise
         let _count = list.len();
         pairs_of(self.alloc, &list)
     }

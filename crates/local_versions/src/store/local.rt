@@ -155,7 +155,7 @@ impl<K: Clone + Ord, V: Clone, const S: usize> LocalStore<K, V, S> {
         are_free(&self.readers)
     }
 
-    /// A reader gets the present version, at a place that had none; refused where each has one. It takes no memory.
+    /// A reader gets the present version, at a place that had none; none is opened if each has one. It takes no memory.
     pub fn open(&mut self) -> Option<usize>
         ensures free { IfSome result (λ place. slice_get self.old.readers place ≡ Some None) }
         ensures opened { IfSome result (λ place. self.new ≡ record self.old { readers = slice_set self.old.readers place (Some self.old.present) }) }

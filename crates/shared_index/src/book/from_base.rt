@@ -138,7 +138,7 @@ impl<L: Naming, K: Clone + Ord, V: Clone + Eq, const S: usize> Book<L, K, V, S> 
         ensures rising { IfOk result (λ list. IsAscending K.cmp list.pairs.items) }
         ensures last { IfOk result (λ list. list.number ≤ L.last) }
     {
-        // what is asked here tells the proof that the number is at most the last one
+        // what is asked here shows the proof that the number is at most the last one
         let _number = self.number();
         let number = self.base.number();
         let pairs = copied(self.alloc, self.base.pairs())?;
