@@ -139,7 +139,7 @@ pub fn build<K: Clone + Ord + Drop, V: Clone + Drop, const S: usize>(
     ))
 }
 
-/// The version of clones of these pairs, whose keys rise, with number 0; fails only if an allocation fails. Nothing is placed yet. It
+/// The version of clones of these pairs, whose keys rise, with number 0. Fails only if an allocation fails. Nothing is placed yet. It
 /// takes nothing over, so it can be placed wherever there are the slots that it takes, and its segments are as few as can
 /// hold the pairs.
 pub fn build_list<K: Clone + Ord + Drop, V: Clone + Drop, const S: usize>(

@@ -122,7 +122,7 @@ pub fn build<K: Clone + Ord + Drop, V: Clone + Drop, const S: usize>(
     ))
 }
 
-/// The version of clones of these pairs, whose keys rise, under a number; fails only if an allocation fails. Nothing is placed yet, and
+/// The version of clones of these pairs, whose keys rise, under a number. Fails only if an allocation fails. Nothing is placed yet, and
 /// no word of a place is read. It takes nothing over, so no older version has to be there when it is placed, and its segments are
 /// as few as can hold the pairs.
 pub fn build_list<K: Clone + Ord + Drop, V: Clone + Drop, const S: usize>(
