@@ -257,7 +257,7 @@ fn steps<const S: usize>(
     Ok((ROUNDS, lists.met))
 }
 
-// An index that begins so, with so many slots.
+// An index that begins so, with this many slots.
 fn scene_of<R: Abort, const S: usize>(
     rt: &R,
     alloc: Global,
@@ -270,7 +270,7 @@ fn scene_of<R: Abort, const S: usize>(
     }
 }
 
-// Makes many calls on an index that begins so, with so many slots.
+// Makes many calls on an index that begins so, with this many slots.
 fn plays<R: Abort, const S: usize>(
     rt: &R,
     alloc: Global,

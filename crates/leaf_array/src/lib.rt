@@ -22,7 +22,7 @@
 //!     array
 //! }
 //!
-//! /// What a removal of a text tells, if this is its value.
+//! /// The answer to a removal of a text, if this is its value.
 //! fn remove(array: &mut Texts, text: &'static str, wanted: &'static str) -> RemoveResult {
 //!     array.remove_if(&text, |value| *value == wanted)
 //! }

@@ -268,7 +268,7 @@ struct Plain {
 }
 
 impl Plain {
-    /// Puts a value into the primary, and else, where that may be, into the overflow; or it comes back.
+    /// Puts a value into the primary, and else, where that may be, into the overflow; or it is returned.
     fn push(&mut self, value: u64, may_overflow: bool) -> Result<(), u64> {
         let full = self.primary.len() >= 3;
         if self.room == 0 || full && !may_overflow {

@@ -22,7 +22,7 @@ use version_views::Write;
 
 const TWICE: &str = "memory was refused twice";
 
-/// A place for so many items, made at once or, where memory was refused, by a second try.
+/// A place for this many items, made at once or, where memory was refused, by a second try.
 pub(crate) fn place_by_two<R: Abort>(
     rt: &R,
     alloc: Global,

@@ -43,7 +43,7 @@ struct Out {
     late: u64,
 }
 
-/// Pops values until two thousand came out in all, and counts each where it belongs. It gives up after ten million tries.
+/// Pops values until there were two thousand in all, and counts each where it belongs. It gives up after ten million tries.
 fn popping(scene: &Scene, counts: &Counts) -> Option<Out> {
     let Ok(mut local) = scene.domain.register() else {
         return None;
@@ -208,7 +208,7 @@ fn counting(scene: &Scene) -> Option<u64> {
     Some(pushed)
 }
 
-/// How many numbers of a stack stand in front of the one before them, from the thousandth on.
+/// How many numbers of a stack are in front of the one before them, from the thousandth on.
 fn in_order(scene: &Scene, local: &mut Local<u64>) -> u64
     requires home { (home_of local.old ≡ place_of scene.now.domain.now) × (hand_of local.old ≡ []) }
     requires closed { (own_of local.old).nesting ≡ 0 }

@@ -26,7 +26,7 @@ use version_views::Write;
 
 const TWICE: &str = "memory was refused twice";
 
-/// A place for two participants and so many items.
+/// A place for two participants and this many items.
 fn place_by_two<R: Abort>(rt: &R, alloc: Global) -> Domain<Item> {
     match place(alloc, place_for(2, 16)) {
         Ok(domain) => domain,
@@ -68,7 +68,7 @@ fn two_writes(alloc: Global) -> Result<Vec<Write<u64, u64>>, AllocError> {
     Ok(writes)
 }
 
-/// Commits two writes of one key. Where memory was refused, they are back, and index and share are as before.
+/// Commits two writes of one key. Where memory was refused, they are returned, and index and share are as before.
 fn commit_by_two<L: Naming, R: Wait + Abort>(
     rt: &R,
     alloc: Global,

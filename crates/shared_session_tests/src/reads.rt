@@ -19,7 +19,7 @@ use version_views::Nearby;
 
 const ROOM: &str = "room for pairs";
 
-/// What stands at a key or around it: the pairs that the ends of its cursor show.
+/// What is at a key or around it: the pairs that the ends of its cursor show.
 type Shown = (Option<(u64, u64)>, Option<(u64, u64)>);
 
 // The case and what its cursor shows.

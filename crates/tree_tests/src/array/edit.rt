@@ -219,7 +219,7 @@ fn is_listed(array: &Array<u64, u64>, list: &[(u64, u64)], key: u64) -> bool {
     same && found && array.len() == list.len()
 }
 
-/// Whether so many random calls are answered alike, and leave the same pairs each.
+/// Whether this many random calls are answered alike, and leave the same pairs each.
 fn go_alike(alloc: Global, calls: u32) -> Result<bool, AllocError> {
     let mut array: Array<u64, u64> = Array::new();
     let mut list: Vec<(u64, u64)> = Vec::new(alloc);

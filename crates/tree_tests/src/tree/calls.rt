@@ -90,7 +90,7 @@ pub(super) enum Call {
     Depth,
     /// Whether the tree has more levels than this.
     IsDeeper(usize),
-    /// Whether there are so many leaves at most, none with a number above the first of the two.
+    /// Whether there are this many leaves at most, none with a number above the first of the two.
     HasFewLeaves(usize, usize),
     /// Whether the leaf of a key has fifteen pairs in fifteen places, and has lost none.
     HasFullLeaf(u64),

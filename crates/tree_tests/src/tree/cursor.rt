@@ -17,7 +17,7 @@ use tree_index::{Iter, Proximity, Range};
 enum Step {
     Next,
     NextBack,
-    /// Told as (0, 0) where it turned.
+    /// Shown as (0, 0) where it turned.
     Flip,
     Get,
     GetBack,
@@ -413,7 +413,7 @@ fn random_steps_answer_as_the_plain_machine(rt: HostRuntime) {
     }
 }
 
-/// Where a key stands: 0 at its pair, 1 between two, 2 behind all, 3 before all, 4 in a tree without pairs; and
+/// Where a key is: 0 at its pair, 1 between two, 2 behind all, 3 before all, 4 in a tree without pairs; and
 /// the pairs at the forward and the backward end, of a pair that is there the first alone.
 fn stands(tree: &Tree, key: u64) -> (u8, Seen, Seen) {
     let (kind, iter) = match tree.locate(&key) {
@@ -440,7 +440,7 @@ const PLACES: &[(u64, (u8, Seen, Seen))] = &[
     (0, (3, Some((1, 1)), None)),
 ];
 
-/// The place of the first row whose key stands somewhere else.
+/// The place of the first row whose key is somewhere else.
 fn first_other_place(tree: &Tree) -> Option<usize> {
     for at in 0..PLACES.len() {
         let (key, place) = PLACES[at];
@@ -451,7 +451,7 @@ fn first_other_place(tree: &Tree) -> Option<usize> {
     None
 }
 
-/// What the steps of a cursor tell that stands between two pairs.
+/// What the steps of a cursor give that is between two pairs.
 fn between(tree: &Tree, key: u64) -> [Seen; 4] {
     match tree.locate(&key) {
         Proximity::Between(mut iter) => [

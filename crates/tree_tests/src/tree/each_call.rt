@@ -1,5 +1,5 @@
 //! Each call of a tree of numbers that tests make by itself, once: the proof of a call of generic code takes seconds
-//! wherever it stands, so tests call these functions.
+//! wherever it is, so tests call these functions.
 
 ghost use Rattle.std.specs.Prelude.{◌≡◌, ◌++◌, ◌∷◌, [], IfOk, OnErr, OnOk};
 ghost use Rattle.std.specs.Bool.{OnFalse};
@@ -60,7 +60,7 @@ pub(super) fn upsert(tree: &mut Tree, key: u64, val: u64) -> bool {
     tree.upsert_sync(key, val).is_ok()
 }
 
-/// A tree with room for so many pairs, if there is memory.
+/// A tree with room for this many pairs, if there is memory.
 pub(super) fn roomy(alloc: Global, pairs: usize) -> Result<Tree, AllocError>
     ensures { IfOk result (λ tree. tree.pairs ≡ []) }
 {

@@ -101,7 +101,7 @@ fn stir_both(
     Ok(())
 }
 
-/// Whether so many rounds of upserts, and of a random range that is removed from a tree and from a map, leave the same
+/// Whether this many rounds of upserts, and of a random range that is removed from a tree and from a map, leave the same
 /// pairs.
 fn go_alike(alloc: Global, rounds: u32) -> Result<bool, AllocError> {
     let mut tree = empty(alloc);
