@@ -69,7 +69,7 @@ impl<K: Ord, V> Arenas<K, V> {
         }
     }
 
-    /// The same, but that nothing is said of what is left where memory is refused.
+    /// The same, but that nothing is said of what is left if an allocation fails.
     fn extend<'t>(
         &mut self,
         source: &'t Arenas<K, V>,
