@@ -379,7 +379,7 @@ fn close<K: Clone + Ord + Drop, V: Drop, N: Drop>(
     Ok(())
 }
 
-/// A part with a tree that was made.
+/// Wraps a new segment as a part.
 fn made<K: Ord + Drop, V: Drop, N>(
     alloc: Global,
     tree: Segment<K, V>,
