@@ -109,7 +109,7 @@ fn give_rows<T, H: Holding<T>>(
     seat.turn();
 }
 
-/// The same, at once where nothing is leased, as mostly when guards close.
+/// The same, with a fast path if nothing is leased, as mostly when guards close.
 #[inline(always)]
 pub fn give_home<T, H: Holding<T>>(
     words: &Words<T, H>,

@@ -194,7 +194,7 @@ fn remove_all(tree: &mut TreeIndex<u64, u64>, keys: &[u64]) {
     }
 }
 
-/// How many pairs a clone of the tree has: 0 where memory is refused.
+/// How many pairs a clone of the tree has: 0 if an allocation fails.
 #[inline(never)]
 fn cloned(tree: &TreeIndex<u64, u64>, alloc: Global) -> usize {
     match tree.clone(alloc) {

@@ -97,9 +97,9 @@ pub enum DeskReply<K, V> {
 
 /// Makes the calls, one after the other, each at most once.
 ///
-/// The replies and what becomes of index and desk are a run of the model. Where memory is refused,
-/// also to a commit, the list ends: the replies so far are given, and the call that met it changed
-/// nothing. The desk has at least the index's places, and its sessions are the index's
+/// The replies and what becomes of index and desk are a run of the model. If an allocation
+/// fails, also that of a commit, the list ends: the replies so far are returned, and the call that failed
+/// changed nothing. The desk has at least the index's places, and its sessions are the index's
 /// (`Serves`); the index may have other sessions too.
 pub fn play_all<K: Clone + Ord, V: Clone + Eq, const S: usize>(
     alloc: Global,
@@ -132,7 +132,7 @@ pub fn play_all<K: Clone + Ord, V: Clone + Eq, const S: usize>(
 
 /// Makes one call: what [`play_all`] does of a list of one, without a list of calls or of replies.
 ///
-/// Where memory is refused, also to a commit, nothing has changed. What a session reads may be
+/// If an allocation fails, also that of a commit, nothing has changed. What a session reads may be
 /// refused it, an audit at a number that is there, and a commit that nothing else refuses; no other
 /// call takes any, and none by a label without a session.
 pub fn play_one<K: Clone + Ord, V: Clone + Eq, const S: usize>(

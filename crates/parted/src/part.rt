@@ -79,7 +79,7 @@ impl<T> Part<T> {
         self.life.join(life);
     }
 
-    /// The other parts, which are of this round, as parts that see what this one sees.
+    /// Relabels `other`, a part of the same round, with the value that this part sees.
     ///
     /// That two parts of one round see one value isn't known otherwise.
     pub fn like(&self, other: Part<T>) -> Part<T>

@@ -453,7 +453,7 @@ impl Snapshot {
         self.count += 1;
     }
 
-    /// Takes a step that is enabled. Where memory is refused nothing is known of what is left.
+    /// Takes a step that is enabled. If an allocation fails, nothing is known of what is left.
     pub(crate) fn take(&mut self, alloc: Global, step: Step) -> Result<(), AllocError>
         requires enabled { enabled (snapshot_state self.old) step ≡ true }
         requires room { HasRoom (snapshot_state self.old) }

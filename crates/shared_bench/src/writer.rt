@@ -18,7 +18,7 @@ pub struct Commits {
     pub refused: u64,
 }
 
-/// Upserts of this many pairs, from a number on. None where memory is refused.
+/// Upserts of this many pairs, from a number on. None if an allocation fails.
 pub fn ascending(alloc: Global, from: u32, count: u32) -> Option<Vec<Write<u64, u64>>> {
     let mut writes = Vec::with_capacity(alloc, count as usize).ok()?;
     for i in 0..count {

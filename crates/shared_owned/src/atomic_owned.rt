@@ -21,7 +21,7 @@ pub struct AtomicOwned<T> {
     pub(crate) cell: AtomicShared<T>,
 }
 
-/// An owner that is alone as one of any.
+/// The `Shared` inside an optional `Owned`.
 fn any<T>(owned: Option<Owned<T>>) -> Option<Shared<T>>
     ensures { result ≡ owner_in owned }
 {

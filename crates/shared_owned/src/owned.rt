@@ -128,7 +128,7 @@ impl<T: Holds> Owned<T> {
         (Owned { owner }, item)
     }
 
-    /// The owner as one of several that there may be from now on.
+    /// Converts into a `Shared`, which can be cloned.
     pub fn into_shared(self) -> Shared<T>
         ensures { result ≡ owner_of self }
     {

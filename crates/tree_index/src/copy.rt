@@ -11,7 +11,7 @@ use std::alloc::{AllocError, Global};
 
 impl<K: Ord, V> TreeIndex<K, V> {
     /// A tree with clones of all pairs, by one pass over them, leaf by leaf, into room that was made ahead. Its
-    /// leaves are full but for the last, so the depth is at most 1 up to 240 pairs. Where memory is refused there is
+    /// leaves are full but for the last, so the depth is at most 1 up to 240 pairs. If an allocation fails there is
     /// none, and what was cloned is dropped.
     pub fn clone(&self, alloc: Global) -> Result<TreeIndex<K, V>, AllocError>
     where

@@ -17,7 +17,8 @@ pub struct Segment<K: Ord, V> {
     tree: TreeIndex<K, V>,
 }
 
-/// Invariant: specs/Segments.antt, IsRisen: the tree has places left for as many pairs as 240 exceed those that it has.
+/// Invariant: specs/Segments.antt, IsRisen: the tree can take `240 - len` more ascending pairs before its depth
+/// exceeds 1.
 impl<K: Ord, V> Model for Segment<K, V> {
     ghost use Rattle.tree_index.specs.Tree.{Tree, tree_code};
     ghost use Rattle.version_views.specs.Segments.{IsRisen};
@@ -53,7 +54,7 @@ impl<K: Ord, V> Segment<K, V> {
         })
     }
 
-    /// A segment with clones of a tree's pairs, by one pass over them. Where memory is refused there is none.
+    /// A segment with clones of a tree's pairs, by one pass over them. Fails only if an allocation fails.
     pub fn copied(alloc: Global, tree: &TreeIndex<K, V>) -> Result<Self, AllocError>
     where
         K: Clone + Drop,

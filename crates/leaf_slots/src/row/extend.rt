@@ -90,7 +90,7 @@ impl<K: Clone + Drop, V: Clone + Drop, R: Extend<K, V>> Extend<K, V> for Link<K,
     }
 }
 
-/// A clone of a live place, with the slot of a bitmap place and no gap. Where memory is refused there is none.
+/// A clone of a live place, with the slot of a bitmap place and no gap. None if an allocation fails.
 #[inline(always)]
 fn cloned<K: Clone + Drop, V: Clone + Drop>(
     source: &Slots<K, V>,

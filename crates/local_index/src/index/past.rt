@@ -76,7 +76,7 @@ impl<K: Clone + Ord, V: Clone + Eq, const S: usize> LocalIndex<K, V, S> {
 
     /// A [`commit`](Self::commit), behind which the history is cut by [`keep_last`](Self::keep_last): a policy of
     /// checkpoints, by which an index takes memory for its list and some `2 * count + 1` transactions, however long it is
-    /// in use. Where memory is refused for the cut, the commit is still accepted, and the next one tries again.
+    /// in use. If an allocation fails for the cut, the commit is still accepted, and the next one tries again.
     pub fn commit_keeping(
         &mut self,
         receipt: &Receipt<K, V>,

@@ -145,8 +145,9 @@ pub fn from_raw<T, J: Deferred>(w: &mut World<T, J>, ptr: RawPtr<T>) -> Option<O
     }
 }
 
-/// Ends the item now, without waiting for anybody, and with it what it alone held; what others own of that stays, and
-/// what waits waits on. It is handed back while a guard of any participant is open, and then nothing has changed. Rust's
+/// Drops the item now, without waiting for anybody, and with it what it alone held. What others own of that stays, and
+/// garbage that already waits is left alone. The owner is returned while a guard of any participant is open, and then
+/// nothing has changed. Rust's
 /// `Owned::drop_in_place` is unsafe, and retires what the item held.
 pub fn drop_in_place<T: Holds, J: Deferred>(
     w: &mut World<T, J>,
