@@ -192,7 +192,7 @@ impl<const S: usize> Scene<S> {
         is_told(self.alloc, &reply, call, told)
     }
 
-    /// Makes a call, and tells whether it answers what is wanted. Where memory is refused, it doesn't.
+    /// Makes a call, and returns whether it answers what is wanted. Where memory is refused, it doesn't.
     pub(crate) fn answers(&mut self, call: Call, told: Told) -> bool {
         match (call, told) {
             (Call::Look(label, key), Told::Seen(number, len, value)) => {

@@ -290,7 +290,7 @@ pub(crate) fn is_told(
     }
 }
 
-// Makes the calls of a table, in order, and tells how many answer what is wanted before the first that doesn't, and how many
+// Makes the calls of a table, in order, and returns how many answer what is wanted before the first that doesn't, and how many
 // there are.
 fn play<const S: usize>(scene: &mut Scene<S>, parts: &[&[Row]]) -> (usize, usize) {
     let mut right = 0usize;

@@ -342,7 +342,7 @@ fn tried<L: Naming, R: Abort>(
     }
 }
 
-/// Whether an allocation was refused while a book of the five pairs was made in a place of this many slots, which tells this.
+/// Whether an allocation was refused while a book of the five pairs was made in a place of this many slots, which answers this.
 fn insisted<R: Abort>(
     rt: &R,
     alloc: Global,

@@ -107,7 +107,7 @@ fn receipt(alloc: Global, number: u64, claims: &[Claim]) -> Result<Receipt<u64, 
     Ok(receipt)
 }
 
-/// Commits the writes on the receipt, and tells whether the answer is the one that is wanted.
+/// Commits the writes on the receipt, and returns whether the answer is the one that is wanted.
 fn commits<L: Naming, R: Abort, const S: usize>(
     rt: &R,
     alloc: Global,
@@ -147,7 +147,7 @@ fn is_fed<L: Naming, const S: usize>(
     alike
 }
 
-/// Makes a call, and tells whether it answers what is wanted.
+/// Makes a call, and returns whether it answers what is wanted.
 fn answers<L: Naming, R: Abort, const S: usize>(
     rt: &R,
     alloc: Global,

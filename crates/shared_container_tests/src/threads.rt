@@ -13,7 +13,7 @@ use std::sync::atomic::{AtomicU64, Ordering};
 use std::test::Fail;
 use std::thread::{Threads, join};
 
-/// Pushes the values from one on up to below another, and tells how many there were.
+/// Pushes the values from one on up to below another, and returns how many there were.
 fn pushing(scene: &Scene, first: u64, last: u64) -> Option<u64> {
     let Ok(mut local) = scene.domain.register() else {
         return None;
@@ -190,7 +190,7 @@ fn push_next(scene: &Scene, local: &mut Local<u64>) -> bool
     }
 }
 
-/// Does so until five hundred numbers were pushed, and tells how many were. It gives up after a million tries.
+/// Does so until five hundred numbers were pushed, and returns how many were. It gives up after a million tries.
 fn counting(scene: &Scene) -> Option<u64> {
     let Ok(mut local) = scene.domain.register() else {
         return None;

@@ -18,7 +18,7 @@ use std::sync::Wait;
 use std::sync::ledger::Blank;
 use version_views::Write;
 
-/// What is found with two shares: what commits of one key tell that rest on its value, the counts of the shares, how many
+/// What is found with two shares: what commits of one key answer that rest on its value, the counts of the shares, how many
 /// shares there are at first and where one is missing, and the number.
 type Missing = ([Option<bool>; 4], [u64; 2], [usize; 2], u64);
 
@@ -68,7 +68,7 @@ fn an_index_is_closed_with_all_its_shares(rt: HostRuntime) {
 /// The numbers of a base and a present list; how many slots are in use, and how many there are.
 type Counts = ((u64, u64), (usize, usize));
 
-/// What is found under the lock: what a commit tells; what is counted before, after one round of a reclaim and after eight;
+/// What is found under the lock: what a commit answers; what is counted before, after one round of a reclaim and after eight;
 /// what three audits say, and the number.
 type Locked = (
     Result<Accepted, Refused<u64, u64>>,

@@ -173,7 +173,7 @@ fn stepped<L: Naming, R: Wait + Abort, const S: usize>(
     }
 }
 
-/// How many steps of a table tell what they are to before the first that doesn't.
+/// How many steps of a table answer what they are to before the first that doesn't.
 fn played<L: Naming, R: Wait + Abort, const S: usize>(
     rt: &R,
     alloc: Global,

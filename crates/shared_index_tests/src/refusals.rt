@@ -162,7 +162,7 @@ fn base_by_two<L: Naming, R: Wait + Abort>(rt: &R, index: &Numbers<'_, L>) -> Op
     list.pairs.as_slice().first().copied()
 }
 
-/// What is found: what two commits tell, the answer of a recorded read and how many its receipt has, what an audit of it says
+/// What is found: what two commits answer, the answer of a recorded read and how many its receipt has, what an audit of it says
 /// before the first list is the base and afterwards, how many transactions came behind that list, its pair, and the number.
 type Found = (
     [Accepted; 2],
@@ -199,7 +199,7 @@ fn used<L: Naming, R: Wait + Abort>(
     ([first, second], read, [replayed, kept], rest, pair, number)
 }
 
-/// Whether a commit tells this.
+/// Whether a commit answers this.
 fn is_told(accepted: &Accepted, number: u64, replies: [Reply; 2]) -> bool {
     accepted.number == number && accepted.replies.as_slice() == &replies[..]
 }

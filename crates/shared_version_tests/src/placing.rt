@@ -296,7 +296,7 @@ enum Told {
     Used(usize),
 }
 
-/// Makes a call, and tells whether it answers what is wanted.
+/// Makes a call, and returns whether it answers what is wanted.
 fn answers<R: Abort, const S: usize>(
     rt: &R,
     alloc: Global,

@@ -2,7 +2,7 @@
 //!
 //! <!-- crates/tree_tests/src/tree/leaf.rt add started -->
 //! ```text
-//! /// Adds a pair whose key isn't there, and tells whether the leaf took it.
+//! /// Adds a pair whose key isn't there, and returns whether the leaf took it.
 //! fn add(leaf: &mut Leaf<u64, u64>, key: u64, val: u64) -> bool {
 //!     match leaf.array.insert::<false>(key, val) {
 //!         InsertResult::Success => true,
@@ -10,7 +10,7 @@
 //!     }
 //! }
 //!
-//! /// The pair that a jump of a rising cursor tells, where nothing lies before it in its leaf.
+//! /// The pair that a jump of a rising cursor gives, where nothing lies before it in its leaf.
 //! fn started<'l>(rising: &mut Iter<'l, u64, u64>, tree: &'l Tree) -> Seen {
 //!     let seen = read(rising.jump(tree));
 //!     if rising.clone().rev().next().is_none() {

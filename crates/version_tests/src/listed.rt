@@ -151,7 +151,7 @@ fn started<'t>(tree: &'t TreeIndex<u64, u64>) -> Iter<'t, u64, u64>
     cursor
 }
 
-// Puts clones of all pairs of a tree, along a cursor at its first one, into an empty segment, and tells whether it did.
+// Puts clones of all pairs of a tree, along a cursor at its first one, into an empty segment, and returns whether it did.
 fn push_run(
     segment: &mut Segment<u64, u64>,
     cursor: &mut Iter<'_, u64, u64>,

@@ -124,7 +124,7 @@ fn made<const S: usize>(ends: &mut LocalWalk<'_, u64, u64, S>, call: Call) -> To
     }
 }
 
-// Makes the calls of a table, and tells how many answer what is wanted before the first that doesn't.
+// Makes the calls of a table, and returns how many answer what is wanted before the first that doesn't.
 fn played<const S: usize>(start: LocalWalk<'_, u64, u64, S>, rows: &[(Call, Told)]) -> usize {
     let mut ends = start;
     let mut right = 0usize;

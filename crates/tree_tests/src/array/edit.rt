@@ -168,7 +168,7 @@ pub(super) const BURIED: Table = (
     ],
 );
 
-/// Makes room in a full array, if it has any, and tells whether it takes a pair then.
+/// Makes room in a full array, if it has any, and returns whether it takes a pair then.
 fn takes_one(array: &mut Array<u64, u64>) -> bool {
     if array.is_full() {
         array.pack();
@@ -188,7 +188,7 @@ fn answers(array: &mut Array<u64, u64>, write: Write, there: bool) -> bool {
     }
 }
 
-/// Makes a write in an array and in a plain list. Tells whether the array answers as the list says; one that is full is
+/// Makes a write in an array and in a plain list. Returns whether the array answers as the list says; one that is full is
 /// packed, and takes no pair if it is full then.
 fn act(
     alloc: Global,

@@ -49,7 +49,7 @@ fn take_within(range: &mut Range<'_, u64, u64>, step: Step) -> Seen {
     }
 }
 
-/// Takes the steps of a table, in order, and tells the place of the first that tells something else.
+/// Takes the steps of a table, in order, and returns the place of the first that gives something else.
 fn first_other_step(iter: &mut Iter<'_, u64, u64>, rows: &[(Step, Seen)]) -> Option<usize> {
     for at in 0..rows.len() {
         let (one, wanted) = rows[at];
@@ -97,7 +97,7 @@ const THREE: &[(u64, u64)] = &[(1, 2), (2, 2), (3, 2)];
 
 const FOUR: &[(u64, u64)] = &[(1, 2), (2, 2), (3, 2), (4, 2)];
 
-/// The place of the first step along a cursor over these pairs that tells something else.
+/// The place of the first step along a cursor over these pairs that gives something else.
 fn first_other_along(alloc: Global, pairs: &[(u64, u64)], rows: &[(Step, Seen)]) -> Option<usize> {
     first_other_step(&mut tree_of(alloc, pairs).iter(), rows)
 }
@@ -130,7 +130,7 @@ const AT_ITS_END: &[(Step, Seen)] = &[
     (GetBack, Some((4, 6))),
 ];
 
-/// The first step of each of these that tells something else.
+/// The first step of each of these that gives something else.
 fn within_and_beyond(tree: &Tree) -> [Option<usize>; 3] {
     let mut range = tree.range(Bound::Included(&3), Bound::Included(&4));
     let within = first_other_within(&mut range, &WITHIN);
@@ -321,7 +321,7 @@ impl<'l> Plain<'l> {
     }
 }
 
-/// One call on a range and on the plain machine, and a look at both ends: whether they tell the same.
+/// One call on a range and on the plain machine, and a look at both ends: whether they give the same.
 fn is_alike(range: &mut Range<'_, u64, u64>, plain: &mut Plain<'_>, kind: u64) -> bool {
     let one = match kind {
         0 | 1 | 2 => Next,

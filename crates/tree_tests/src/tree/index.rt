@@ -55,7 +55,7 @@ pub(super) const REPLACED: [(Call, Told); 8] = [
     (Len, Number(1)),
 ];
 
-/// Upserts the keys below 15 in fifty rounds but the first, and tells whether each was taken.
+/// Upserts the keys below 15 in fifty rounds but the first, and returns whether each was taken.
 pub(super) fn upsert_in_rounds(tree: &mut Tree) -> bool {
     let mut taken = true;
     for round in 1..50u64 {
@@ -105,7 +105,7 @@ pub(super) const ASKED: [(Call, Told); 12] = [
     (IsEmpty, Is(true)),
 ];
 
-/// Inserts 6000 keys in no order, each with its complement, and tells whether each was taken.
+/// Inserts 6000 keys in no order, each with its complement, and returns whether each was taken.
 pub(super) fn take_stirred(tree: &mut Tree) -> bool {
     let mut key = 1u64;
     let mut taken = true;
@@ -245,7 +245,7 @@ fn calls_none(alloc: Global) -> bool {
     peeked && read && !tree.remove_if_sync(&1, lacks_three)
 }
 
-/// What functions tell of the value 3, which is spared by one condition and removed by another.
+/// What functions say of the value 3, which is spared by one condition and removed by another.
 fn of_three(alloc: Global) -> (Option<u64>, Option<u64>, bool, bool) {
     let mut tree = empty(alloc);
     match tree.insert_sync(1, 3) {

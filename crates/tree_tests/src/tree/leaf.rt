@@ -8,7 +8,7 @@ use leaf_array::{InsertResult, RemoveResult};
 use std::alloc::{AllocError, Global};
 use tree_index::leaf::{Iter, Leaf, RevIter};
 
-/// Adds a pair whose key isn't there, and tells whether the leaf took it.
+/// Adds a pair whose key isn't there, and returns whether the leaf took it.
 fn add(leaf: &mut Leaf<u64, u64>, key: u64, val: u64) -> bool {
     match leaf.array.insert::<false>(key, val) {
         InsertResult::Success => true,
@@ -16,7 +16,7 @@ fn add(leaf: &mut Leaf<u64, u64>, key: u64, val: u64) -> bool {
     }
 }
 
-/// Removes the pair with this key, and tells whether it was there.
+/// Removes the pair with this key, and returns whether it was there.
 fn drop_key(leaf: &mut Leaf<u64, u64>, key: u64) -> bool {
     match leaf.array.remove_if(&key, always) {
         RemoveResult::Success | RemoveResult::Retired => true,
@@ -52,7 +52,7 @@ fn alone(key: Option<&u64>) -> Seen {
     }
 }
 
-/// The pair that a jump of a rising cursor tells, where nothing lies before it in its leaf.
+/// The pair that a jump of a rising cursor gives, where nothing lies before it in its leaf.
 fn started<'l>(rising: &mut Iter<'l, u64, u64>, tree: &'l Tree) -> Seen {
     let seen = read(rising.jump(tree));
     if rising.clone().rev().next().is_none() {
@@ -122,7 +122,7 @@ fn take<'l>(cursor: Cursor<'l>, tree: &'l Tree, step: Step) -> (Cursor<'l>, Seen
     }
 }
 
-/// Takes the steps of a table, and tells whether each tells what it has to.
+/// Takes the steps of a table, and returns whether each answers what it has to.
 fn goes<'l>(cursor: Cursor<'l>, tree: &'l Tree, rows: &[(Step, Seen)]) -> (Cursor<'l>, bool) {
     let mut here = cursor;
     let mut as_said = true;
@@ -150,7 +150,7 @@ enum Call {
     Part,
 }
 
-/// Makes a call of a leaf, and tells whether all was as it has to be.
+/// Makes a call of a leaf, and returns whether all was as it has to be.
 fn make(leaf: &mut Leaf<u64, u64>, tree: &Tree, call: Call) -> bool {
     match call {
         Call::Add(key, val) => add(leaf, key, val),
@@ -294,7 +294,7 @@ const TENS: Pairs = Pairs {
     val_shift: 0,
 };
 
-/// Makes the calls of a table on a new leaf, in order, and tells the place of the first that doesn't go as it has to.
+/// Makes the calls of a table on a new leaf, in order, and returns the place of the first that doesn't go as it has to.
 fn first_other(tree: &Tree, calls: &[Call]) -> Option<usize> {
     let mut leaf: Leaf<u64, u64> = Leaf::new();
     for at in 0..calls.len() {

@@ -70,7 +70,7 @@ fn bound_of(seed: u64) -> Bound<u64> {
     }
 }
 
-/// Removes a range from a map, and tells whether a tree then has the pairs of the map, of keys below 400.
+/// Removes a range from a map, and returns whether a tree then has the pairs of the map, of keys below 400.
 fn is_alike(
     tree: &Tree,
     map: &mut BTreeMap<u64, u64>,

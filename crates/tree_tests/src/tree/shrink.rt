@@ -59,7 +59,7 @@ fn is_lean(tree: &Tree, most: usize) -> bool {
     leaves_of(tree, most) <= len_of(tree) && count_of(tree) == len_of(tree)
 }
 
-/// Removes the keys below 1000, by this many at a step, and tells whether each was there, and the tree was lean behind each
+/// Removes the keys below 1000, by this many at a step, and returns whether each was there, and the tree was lean behind each
 /// fiftieth.
 pub(super) fn shrink(tree: &mut Tree, step: u64) -> bool {
     let mut as_said = true;
