@@ -21,7 +21,7 @@ impl<'r, R: Abort, J: Deferred> Stage<'r, R, J> {
         }
     }
 
-    /// Opens and closes so many accelerated guards.
+    /// Opens and closes this many accelerated guards.
     fn pass(&mut self, p: usize, times: usize) -> Found {
         let rt = self.rt;
         for _ in 0..times {

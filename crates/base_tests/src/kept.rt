@@ -137,7 +137,7 @@ const NOTHING_TO_SHARE: Table = Table {
         (IsNullShared(A), Yes),
         (LoadShared(A, D), Done),
         (TryClaim(D, B), No),
-        // it came back
+        // the pointer was returned
         (Claim(D, B), No),
         (Own(C, 5), Done),
         (See(C, G, D), Done),

@@ -61,7 +61,7 @@ enum Step {
     Release(usize),
     Drop(usize),
     Collect(usize),
-    /// Opens and closes so many accelerated guards, one by one: how many slots are in use then.
+    /// Opens and closes this many accelerated guards, one by one: how many slots are in use then.
     Pass(usize),
     Slots,
 }
@@ -145,7 +145,7 @@ impl<'r, R: Abort> Nest<'r, R> {
         }
     }
 
-    /// Opens and closes so many accelerated guards, one by one.
+    /// Opens and closes this many accelerated guards, one by one.
     fn pass(&mut self, times: usize) -> Found {
         let rt = self.rt;
         for _ in 0..times {
@@ -282,7 +282,7 @@ const BEFORE_WHAT_IT_HELD: &[Row] = &[
     (Pass(1), Is(0)),
 ];
 
-/// What only a dropped item held goes with it.
+/// What only a dropped item held is dropped with it.
 const GOES_WITH_IT: &[Row] = &[
     (Segment(A, 7), Done),
     (Directory(A), Done),

@@ -20,7 +20,7 @@ const GONE: u32 = 3;
 #[derive(Drop)]
 struct Dice {
     seed: u64,
-    /// One of so many closings is accelerated.
+    /// One of this many closings is accelerated.
     haste: usize,
 }
 
@@ -162,7 +162,7 @@ impl Plain {
     }
 
     /// One owner is given back, and with the last one the item waits in the collector; what was collected three raises
-    /// ago goes.
+    /// ago is reclaimed.
     fn collect(&mut self, item: usize) -> bool {
         let last = self.give(item, NOBODY);
         if last {
@@ -399,7 +399,7 @@ impl Plain {
         [before, (Step::Close(guard.at), Done)]
     }
 
-    /// An owner goes into the cell, or none, and what was there comes into its place.
+    /// An owner is put into the cell, or none, and what was there is put in its place.
     fn swap_one(&mut self, dice: &mut Dice) -> Row {
         let tag = mem::replace(&mut self.tag, Tag::First);
         let given = if dice.roll(3) == 0 {
@@ -463,7 +463,7 @@ fn is_alike<R: Abort>(stage: &mut Stage<'_, R, Job>, plain: &Plain) -> bool {
     alike
 }
 
-/// How many of so many random calls are answered as the model says, before the first that isn't.
+/// How many of this many random calls are answered as the model says, before the first that isn't.
 fn played<R: Abort>(
     stage: &mut Stage<'_, R, Job>,
     plain: &mut Plain,

@@ -34,7 +34,7 @@ fn pointer(item: RawPtr<u64>, point: Point) -> RawPtr<u64> {
 }
 
 impl<'r, R: Abort, J: Deferred> Stage<'r, R, J> {
-    /// A step by which an item comes back, or there is a new cell.
+    /// A step by which an item is taken back, or there is a new cell.
     pub(crate) fn of_raw(&mut self, step: Step) -> Found {
         let (at, thing, found) = match step {
             Step::FromRaw(at) => match world::owned::from_raw(&mut self.w, self.raw) {

@@ -26,7 +26,7 @@ pub(crate) enum Point {
 /// participant is named behind the places. Calls of cells are made under the guard at `G`.
 #[derive(Clone, Copy)]
 pub(crate) enum Step {
-    /// A new item of this value with one owner, and one of what a closure gives: or the value is back, where no slot is
+    /// A new item of this value with one owner, and one of what a closure gives: or the value is returned, where no slot is
     /// free, and the closure isn't asked.
     Own(usize, u64),
     OwnWith(usize, u64),
@@ -43,7 +43,7 @@ pub(crate) enum Step {
     /// The owner of an item is given back by a participant: whether it was the last one, where owners are counted.
     Retire(usize, usize),
     Release(usize, usize),
-    /// The same in place: or the owner is back, while a guard is open.
+    /// The same in place: or the owner is returned, while a guard is open.
     DropOwned(usize),
     DropShared(usize),
     /// The value of an item is written where it is lent: the one before. It is named by an owner, or by a cell.
@@ -63,7 +63,7 @@ pub(crate) enum Step {
     HasGarbage(usize),
     /// Whether a guard is open.
     IsGuarded,
-    /// Opens and closes so many accelerated guards of a participant, one by one: how many slots are in use then.
+    /// Opens and closes this many accelerated guards of a participant, one by one: how many slots are in use then.
     Pass(usize, usize),
     /// How many slots are in use, and how many are free.
     Slots,
@@ -156,7 +156,7 @@ pub(crate) enum Found {
     Is(u64),
     /// Nothing is there.
     Nothing,
-    /// The value of a refused call comes back.
+    /// The value of a refused call is returned.
     Back(u64),
     /// The call is refused: no slot or cell is free, a guard is open, or there are other owners.
     NoSlot,
@@ -172,7 +172,7 @@ pub(crate) enum Found {
 /// A step, and what it finds.
 pub(crate) type Row = (Step, Found);
 
-/// Rows that are played once, or so many times.
+/// Rows that are played once, or this many times.
 #[derive(Clone, Copy)]
 pub(crate) enum Part {
     Once(&'static [Row]),

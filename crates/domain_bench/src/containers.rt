@@ -74,7 +74,7 @@ struct Scene<'a> {
     ghost made: { IsStackOf stack.now domain.now × IsQueueOf queue.now domain.now × AreLinksOf links.now domain.now },
 }
 
-/// So many numbers one by one, each pushed on the stack before one is popped: the sum of those that were popped. Where no slot
+/// This many numbers one by one, each pushed on the stack before one is popped: the sum of those that were popped. Where no slot
 /// is free a guard is passed that reclaims what is due.
 #[inline(never)]
 fn on_stack(scene: &Scene, local: &mut Local<u64>, rounds: u32) -> u64
@@ -154,7 +154,7 @@ fn member<R: Wait>(rt: &R, domain: &Domain<u64>) -> Local<u64>
     unreachable!()
 }
 
-/// The rounds of so many threads on a stack, or on a queue, that they share, which is empty before.
+/// The rounds of this many threads on a stack, or on a queue, that they share, which is empty before.
 pub(crate) fn rounds_of_all<R: Threads + Wait + Sync>(
     rt: &R,
     alloc: Global,

@@ -1,13 +1,13 @@
 //! Guards and items of a place that threads share, over and over: what `bench/guards` measures.
 //!
-//! `domain_bench THREADS KIND ROUNDS [PARTICIPANTS]` runs so many rounds in each of so many threads, and each thread has
-//! a participant of its own, of so many, or of as many as there are threads. A round opens a guard, reads the epoch
+//! `domain_bench THREADS KIND ROUNDS [PARTICIPANTS]` runs ROUNDS rounds in each of THREADS threads. Each thread has
+//! a participant of its own, of PARTICIPANTS, or of as many as there are threads. A round opens a guard, reads the epoch
 //! under it, and closes it. The guards are `plain`, `accelerated`, or `nested` in one that is open throughout. The sum
 //! of the epochs that were read is printed, which is 0 while nothing raises the count. A round of `items` places a
 //! number, reads it, gives its owner back, and opens and closes an accelerated guard, which reclaims what is due; the
 //! sum of the numbers that were read is printed. A round of `loads` opens a guard, loads a cell, reads the number in it,
 //! and closes; one of `load` does so under a guard that stays open; one of `swaps` places a number, swaps it into a cell,
-//! releases what comes out, and reclaims as one of `items` does; one of `swap` swaps two owners; each thread has a cell of
+//! releases the owner that was there, and reclaims as one of `items` does; one of `swap` swaps two owners; each thread has a cell of
 //! its own. A round of `clones` makes one more owner of an item, reads the item by it, and gives it back. A round of `stack`
 //! or `queue` pushes a number on one that all threads share, and pops one. With `memory` nothing is done in a place of
 //! `ROUNDS` slots. `alone`, `alone-items` and `alone-memory` are `accelerated`, `items` and `memory` in a place of one thread.
@@ -101,7 +101,7 @@ pub(crate) fn pass(domain: &Domain<u64>, local: &mut Local<u64>, accelerated: bo
     epoch
 }
 
-/// So many guards one by one, within the one that may be open: the sum of the epochs that they saw. It is compiled by
+/// This many guards one by one, within the one that may be open: the sum of the epochs that they saw. It is compiled by
 /// itself, so that what is open isn't known to it beforehand.
 #[inline(never)]
 fn passes(domain: &Domain<u64>, local: &mut Local<u64>, accelerated: bool, rounds: u32) -> u64
@@ -119,7 +119,7 @@ fn passes(domain: &Domain<u64>, local: &mut Local<u64>, accelerated: bool, round
     sum
 }
 
-/// So many items one by one, each with an accelerated guard behind it: the sum of what was placed and read.
+/// This many items one by one, each with an accelerated guard behind it: the sum of what was placed and read.
 #[inline(never)]
 fn items(domain: &Domain<u64>, local: &mut Local<u64>, rounds: u32) -> u64
     requires home { (home_of local.old ≡ place_of domain.now) × (hand_of local.old ≡ []) }
@@ -138,7 +138,7 @@ fn items(domain: &Domain<u64>, local: &mut Local<u64>, rounds: u32) -> u64
     sum
 }
 
-/// So many guards one by one, under each of which the cell is loaded and what it names is read: the sum of that.
+/// This many guards one by one, under each of which the cell is loaded and what it names is read: the sum of that.
 #[inline(never)]
 fn loads(domain: &Domain<u64>, local: &mut Local<u64>, cell: &AtomicShared<u64>, rounds: u32) -> u64
     requires home { (home_of local.old ≡ place_of domain.now) × (hand_of local.old ≡ []) }
@@ -159,7 +159,7 @@ fn loads(domain: &Domain<u64>, local: &mut Local<u64>, cell: &AtomicShared<u64>,
     sum
 }
 
-/// So many items one by one, each swapped into the cell, with an accelerated guard behind it: the sum of those that came
+/// This many items one by one, each swapped into the cell, with an accelerated guard behind it: the sum of those that came
 /// out.
 #[inline(never)]
 fn swaps(domain: &Domain<u64>, local: &mut Local<u64>, cell: &AtomicShared<u64>, rounds: u32) -> u64
@@ -182,7 +182,7 @@ fn swaps(domain: &Domain<u64>, local: &mut Local<u64>, cell: &AtomicShared<u64>,
     sum
 }
 
-/// So many loads of the cell under one guard, and reads of what it names: the sum of that.
+/// This many loads of the cell under one guard, and reads of what it names: the sum of that.
 #[inline(never)]
 fn loads_under(
     domain: &Domain<u64>,
@@ -208,7 +208,7 @@ fn loads_under(
     sum
 }
 
-/// So many owners one by one, swapped with the one that the cell has: the sum of what those read that came out.
+/// This many owners one by one, swapped with the one that the cell has: the sum of what those read that were taken out.
 #[inline(never)]
 fn swaps_owners(
     domain: &Domain<u64>,
@@ -237,7 +237,7 @@ fn swaps_owners(
     sum
 }
 
-/// So many owners one by one, beside one that stays, of the same item: the sum of what they read.
+/// This many owners one by one, beside one that stays, of the same item: the sum of what they read.
 #[inline(never)]
 fn clones(domain: &Domain<u64>, local: &mut Local<u64>, rounds: u32) -> u64
     requires home { (home_of local.old ≡ place_of domain.now) × (hand_of local.old ≡ []) }
@@ -345,7 +345,7 @@ fn total(sums: &[Option<u64>]) -> Option<u64> {
     Some(all)
 }
 
-/// The sizes of a place for so many participants, and for their items if these are measured. What is popped waits until
+/// The sizes of a place for this many participants, and for their items if these are measured. What is popped waits until
 /// others have closed their guards, so there are many slots for that.
 fn sizes_of(kind: Kind, participants: u8, rounds: u32) -> Sizes
     requires { 1 ≤ participants }

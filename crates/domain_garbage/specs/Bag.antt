@@ -9,7 +9,7 @@ use Rattle.domain_table.specs.Chains.{AllBelow}
 use Rattle.domain_table.specs.declared.board.Acting.{Acting}
 use Rattle.domain_garbage.specs.declared.private.NotedChain.{NotedChain}
 
--- an item in one is told by its slot and its note
+-- an item in one, as its slot and its note
 abbrev pub garbage_told : Garbage → ℕ × ℕ
 garbage_told w = (w.slot, w.age)
 

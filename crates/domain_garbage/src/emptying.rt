@@ -48,7 +48,7 @@ impl<T, H: Holding<T>> Play<Home<T>, Acting> for OnVacate<H> {
 }
 
 /// Begins to reclaim the item that waits the longest, which the participant retired three rotations ago. Nobody reads it:
-/// its deed comes out, all its parts are at home, and the owners that it held are in hand.
+/// its deed is taken out, all its parts are at home, and the owners that it held are in hand.
 pub fn open<T, H: Holding<T>>(words: &Words<T, H>, seat: &mut Seat<T>)
     requires table { (seat.old.table_id ≡ words.now.table_id) × (0 < words.now.table_id.words) }
     requires ready { (seat.old.me.0.kind ≡ 1) × (is_ready seat.old.me.0.known ≡ true) × (seat.old.me.0.filling ≡ None) }
@@ -94,8 +94,8 @@ pub fn empty<T, H: Holding<T>>(words: &Words<T, H>, seat: &mut Seat<T>)
     let _ = words.load::<OnEmpty<H>>(seat, 0);
 }
 
-/// Gives `slot` back, for `participants` and `cells` of them: all homes are empty, and the room is in the item's own, which goes
-/// back in the same step.
+/// Gives `slot` back, for `participants` and `cells` of them: all homes are empty, and the room is in the item's own, which is
+/// put back in the same step.
 pub fn vacate<T, H: Holding<T>>(
     words: &Words<T, H>,
     seat: &mut Seat<T>,

@@ -1,14 +1,14 @@
 //! The notes of what is in a private bag: for each item the count of raises that was read before it came in.
 //!
 //! A collect first reclaims what was noted three or more below the count that it reads, so at most two other notes are left,
-//! and notes rise in the order in which items come. Three notes, each with how many items have it, stand for all of them.
+//! and notes rise in the order in which items come. Three notes, each with how many items have it, represent all of them.
 
 ghost use Rattle.std.specs.Prelude.{◌≡◌, ◌+◌, ◌-◌, ◌^◌, ◌<◌, ◌≤◌, ◌++◌, ◌∷◌, [], List, ℕ, length, IfSome, IfNone};
 ghost use Rattle.sdd_steps.specs.State.{Has};
 
 use std::marker::Model;
 
-/// So many items, one behind the other, with this note.
+/// A number of items, one behind the other, with this note.
 #[derive(Clone, Copy, Drop)]
 struct Run {
     note: u64,

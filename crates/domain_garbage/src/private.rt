@@ -2,7 +2,7 @@
 //! participant for a call.
 //!
 //! A private bag takes no memory: its items are a chain of link words, of which it knows the ends, and beside that it knows
-//! the notes along it. An item comes in or goes out, and all that is in it is handed over, by two steps at most.
+//! the notes along it. It takes at most two steps to put an item in, to take one out, and to hand over all that is in it.
 
 ghost use Rattle.std.specs.Prelude.{◌≡◌, ℕ, ◌+◌, ◌<◌, ◌≤◌, ◌++◌, ◌∷◌, ◌||◌, [], true, List, Some, nat_lt, length, map, IsSome, IfSome, IfNone, IsTrue, IsFalse};
 ghost use Rattle.std.specs.VecDeque.{deque_capacity};
@@ -179,7 +179,7 @@ pub fn take_due<T, H: Holding<T>>(
     slot
 }
 
-/// What has just come into the private bag, in the slot that is told, comes behind all else of its chain, with its note.
+/// Appends what has just come into the private bag, in this slot, to its chain, with its note.
 fn keep<T, H: Holding<T>>(
     words: &Words<T, H>,
     seat: &mut Seat<T>,

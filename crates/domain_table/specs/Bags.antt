@@ -12,7 +12,7 @@ ends_of (w ∷ ws) = Some (record { first = oldest_slot (w ∷ ws); last = w.slo
 abbrev pub IsBag : List Garbage → Option Ends → Type 0
 IsBag ws bag = (bag ≡ ends_of ws) × (is_threaded ws ≡ true)
 
--- of these what was retired so many rotations ago
+-- of these what was retired this many rotations ago
 abbrev pub aged : ℕ → List Garbage → List Garbage
 aged a [] = []
 aged a (w ∷ ws) = cond (w.age == a) (w ∷ aged a ws) (aged a ws)

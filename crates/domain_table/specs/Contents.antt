@@ -20,7 +20,7 @@ garbage_slots = map (λ (w : Garbage). w.slot)
 abbrev pub first_in_home : ℕ → ℕ → Content
 first_in_home deeds i = cond (nat_lt i deeds) blank room
 
--- an item is read by its parts, and had back by its deed, which tells the owners that it holds: `holds` tells them of its value
+-- an item is read by its parts, and returned by its deed, which has the owners that it holds: `holds` says which these are, by its value
 module _ {T : Type 0} (holds : T → List (ℕ × ℕ)) where
   abbrev pub IsIn : Content → Home T → Type 0
   IsIn away y = Unit {0}
@@ -38,7 +38,7 @@ module _ {T : Type 0} (holds : T → List (ℕ × ℕ)) where
   AreNewHomes sizes homes = (own : List (Home T)) × (length own ≡ all_homes sizes) × AreResting (own_homes sizes) own × (homes ≡ own ++ replicate (all_spares sizes) Blank)
 
 module _ {T : Type 0} where
-  -- these parts lie there, so many of them
+  -- these parts lie there, this many of them
   abbrev pub AreIn : parted.Part (Option (ManuallyDrop T)) → ℕ → Home T → Type 0
   AreIn p c y = y ≡ Part p c
 

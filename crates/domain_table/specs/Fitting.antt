@@ -6,11 +6,11 @@ use Rattle.domain_table.specs.Layout.{all_words, epoch_words, IsSized}
 use Rattle.domain_table.specs.declared.board.Acting.{Acting}
 
 module _ (table : TableId) (sizes : Sizes) (seat : TableId) where
-  -- the seat is at the table, which has the words of so many participants, and of this cell
+  -- the seat is at the table, which has the words of this many participants, and of this cell
   abbrev pub FitsCell : ℕ → ℕ → Type 0
   FitsCell participants cell = (seat ≡ table) × (sizes.participants ≡ participants) × (participants ≤ 2 ^ 30) × (cell < sizes.cells) × (sizes.cells ≤ 2 ^ 30) × (all_words sizes ≤ table.words)
 
-  -- and of so many cells, and of this slot, and the seat knows so
+  -- and of this many cells, and of this slot, and the seat knows so
   abbrev pub FitsSlot : Sizes → ℕ → ℕ → ℕ → Type 0
   FitsSlot known participants cells slot = (seat ≡ table) × (sizes.participants ≡ participants) × (sizes.cells ≡ cells) × (participants ≤ 2 ^ 30) × (cells ≤ 2 ^ 30) × (slot < sizes.slots) × (sizes.slots ≤ 2 ^ 30) × (all_words sizes ≤ table.words) × (known ≡ sizes)
 
@@ -30,11 +30,11 @@ module _ (table : TableId) (sizes : Sizes) (seat : TableId) where
   abbrev pub FitsNumber : Sizes → Sizes → ℕ → Type 0
   FitsNumber known told number = (seat ≡ table) × (sizes ≡ told) × (known ≡ told) × IsSized told × (all_words told ≤ table.words) × (number < told.participants)
 
-  -- the table has the words of so many participants and cells, and of this slot
+  -- the table has the words of this many participants and cells, and of this slot
   abbrev pub HasSlotWord : ℕ → ℕ → ℕ → Type 0
   HasSlotWord participants cells slot = (seat ≡ table) × (sizes.participants ≡ participants) × (sizes.cells ≡ cells) × (participants ≤ 2 ^ 30) × (cells ≤ 2 ^ 30) × (slot < sizes.slots) × (sizes.slots ≤ 2 ^ 30) × (all_words sizes ≤ table.words)
 
-  -- the table has the words that tell epochs, of so many participants
+  -- the table has the words of epochs, of this many participants
   abbrev pub HasEpochs : ℕ → Type 0
   HasEpochs participants = (seat ≡ table) × (sizes.participants ≡ participants) × (epoch_words participants ≤ table.words) × (participants ≤ 2 ^ 30)
 
@@ -51,6 +51,6 @@ module _ (table seat : TableId) (d : Acting) where
   abbrev pub FitsTaken : Sizes → ℕ → Type 0
   FitsTaken sizes slot = (seat ≡ table) × (0 < table.words) × (d.kind ≡ 1) × (d.sizes ≡ sizes) × IsSized sizes × (d.slot ≡ slot) × (slot < 2 ^ 30)
 
-  -- the seat is at the table of a place of so many slots, and acts for the participant of this number
+  -- the seat is at the table of a place of this many slots, and acts for the participant of this number
   abbrev pub ActsAmong : ℕ → ℕ → Type 0
   ActsAmong slots number = (seat ≡ table) × (d.sizes.slots ≡ slots) × (slots ≤ 2 ^ 30) × (d.number ≡ number) × (number < 2 ^ 30)

@@ -44,11 +44,11 @@ Owns items slot_of o = (it : Item) × At items o.item it × (it.value ≡ o.roun
 abbrev pub IsGiven : List Item → (ℕ → ℕ) → List Owner → Item → Type 0
 IsGiven items slot_of hs it = (items_of hs ≡ it.holds) × ((o : Owner) → Has hs o → Owns items slot_of o)
 
--- the item w.item has this state, and is in the slot and of the round that w tells
+-- the item w.item has this state, and is in the slot and of the round of w
 abbrev pub HasState : List Item → (ℕ → ℕ) → ItemState → Garbage → Type 0
 HasState items slot_of state w = (it : Item) × At items w.item it × (it.state ≡ state) × (it.value ≡ w.round) × (slot_of w.item ≡ w.slot)
 
--- p retired it, so many rotations ago
+-- p retired it, this many rotations ago
 abbrev pub IsWaiting : List Item → (ℕ → ℕ) → ℕ → Garbage → Type 0
 IsWaiting items slot_of p w = HasState items slot_of (Retired p w.age) w
 
@@ -91,11 +91,11 @@ pub record Links (sizes : Sizes) (words : List ℕ) (left : ℕ → List Garbage
   pub notes : (j : ℕ) (d : Acting) (w : Garbage) → At views j d → Has d.collected w → IsLinked sizes words w
   pub lefts : (p : ℕ) (w : Garbage) → Has (left p) w → IsLinked sizes words w
 
--- nobody acts for p: none of its homes is out, its spare slot, which its claim word tells, is empty
+-- nobody acts for p: none of its homes is out, its spare slot, which its claim word names, is empty
 abbrev pub Rests : Sizes → Book → List ℕ → ℕ → Type 0
 Rests sizes book words p = (book.out p ≡ []) × (slice_index words (claim_word p) ≡ suc (book.spare (sizes.cells + p))) × (book.extra (book.spare (sizes.cells + p)) ≡ blank)
 
--- what stands of a view that acts for a participant
+-- what is true of a view that acts for a participant
 pub record Carries (sizes : Sizes) (book : Book) (d : Acting) : Type 0 where
   pub sizes_are : d.sizes ≡ sizes
   pub leases : book.out d.number ≡ d.leases

@@ -55,11 +55,11 @@ all_spares sizes = sizes.cells + sizes.participants
 abbrev pub packed : ℕ → ℕ → ℕ → ℕ
 packed y t k = y + 2 ^ 31 * (t + 4 * k)
 
--- the word of a cell tells this spare slot and this code, whatever the tag
+-- the word of a cell has this spare slot and this code, whatever the tag
 abbrev pub Tells : ℕ → ℕ → ℕ → Type 0
 Tells w y k = (t : ℕ) × (t < 4) × (w ≡ packed y t k)
 
--- the word of a cell has this tag, and names what this code tells
+-- the word of a cell has this tag, and names what this code says
 abbrev pub NamesWith : ℕ → ℕ → ℕ → Type 0
 NamesWith w t k = (y : ℕ) × (y < 2 ^ 31) × (t < 4) × (w ≡ packed y t k)
 

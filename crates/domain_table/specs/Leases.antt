@@ -1,4 +1,4 @@
--- what a participant has leased, as its rows tell
+-- what a participant has leased, by its rows
 use Rattle.std.specs.Prelude.{◌≡◌, ℕ, suc, ◌+◌, slice_index_or, ◌<◌, ◌≤◌, ◌^◌, ◌++◌, Bool, true, false, ◌==◌, ◌&&◌, List, [], ◌∷◌, map, nat_lt, Option, None, Some}
 use Rattle.parted.specs.declared.life.Life.{Life}
 use Rattle.sdd_homes.specs.declared.Lease.{Lease}
@@ -52,11 +52,11 @@ abbrev pub all_below : ℕ → List ℕ → Bool
 all_below n [] = true
 all_below n (k ∷ ks) = nat_lt k n && all_below n ks
 
--- the rows tell the leases, under this life, all in slots of the place, and there is room for a row of each slot
+-- the rows are those of the leases, under this life, all in slots of the place, and there is room for a row of each slot
 abbrev pub HasRows : {T : Type 0} → ℕ → ℕ → List Lease → List (Row T) → ℕ → Type 0
 HasRows life slots ls rows room = (map row_told rows ≡ map (lease_told life) ls) × (all_below slots (row_slots rows) ≡ true) × (slots ≤ room)
 
--- they still tell the leases, and the room is what it was
+-- they are still those of the leases, and the room is what it was
 abbrev pub KeepsRows : {T : Type 0} → ℕ → ℕ → List Lease → List (Row T) → ℕ → ℕ → Type 0
 KeepsRows life slots ls rows before after = (map row_told rows ≡ map (lease_told life) ls) × (all_below slots (row_slots rows) ≡ true) × (after ≡ before)
 
@@ -64,7 +64,7 @@ KeepsRows life slots ls rows before after = (map row_told rows ≡ map (lease_to
 abbrev pub HasFew : Acting → Type 0
 HasFew d = (l : Lease) (o : Owner) (os : List Owner) → Has d.leases l → o.slot ≡ l.slot → d.hand ≡ o ∷ os → (l.count < 2 ^ 63) × HasRoom d × Apart d.leases × (o.round ≡ l.round)
 
--- the first owner in hand is released, where so many were found
+-- the first owner in hand is released, where this many were found
 abbrev pub ReleasesOne : {S : Type 0} → (Participant → Option ℕ) → Me S Acting → ℕ → Me S Acting → Type 0
 ReleasesOne to m n m' = (l : Lease) (o : Owner) (os : List Owner) → Has m.0.leases l → o.slot ≡ l.slot → m.0.hand ≡ o ∷ os → m' ≡ (releasing_one (to m.0.known) n l os m.0, m.1)
 
@@ -81,7 +81,7 @@ abbrev pub gone_to : Option ℕ → Garbage → Acting → Acting
 gone_to None w d = record d { waits = w ∷ d.waits }
 gone_to (Some note) w d = record d { collected = w ∷ d.collected }
 
--- the first owner in hand was released, and so many others are left: with the last one its item, in slot k, goes where `to` tells; the leases are these now
+-- the first owner in hand was released, and this many others are left: with the last one its item, in slot k, is retired or put into a private bag, as `to` says; the leases are these now
 abbrev pub HasReleased : {S : Type 0} → (Participant → Option ℕ) → ℕ → ℕ → Me S Acting → List Lease → Me S Acting → Type 0
 HasReleased to k left m ls m' = (o : Owner) (os : List Owner) → m.0.hand ≡ o ∷ os
     → (0 < left → m' ≡ (record m.0 { hand = os; leases = ls }, m.1)) × (left ≡ 0 → (w : Garbage) × (w.slot ≡ k) × (w.age ≡ first_age (to m.0.known)) × (m' ≡ (gone_to (to m.0.known) w (record m.0 { hand = os; leases = ls }), m.1)))
@@ -94,11 +94,11 @@ HasLeased m m' = (hs : List Loaded) × (ls : List Lease) × (m'.0 ≡ record m.0
 abbrev pub HasNoted : {T : Type 0} → Me (Home T) Acting → Me (Home T) Acting → Type 0
 HasNoted m m' = (hs : List Loaded) × (ls : List Lease) × (m' ≡ (record m.0 { known = record m.0.known { loaded = hs }; leases = m.0.leases ++ ls }, m.1 ++ blanks (leased_homes m.0 ls)))
 
--- this participant has loaded the item in slot k; until then the rows told its leases
+-- this participant has loaded the item in slot k; until then the rows were those of its leases
 abbrev pub WasLeased : {T : Type 0} → (T → List (ℕ × ℕ)) → ℕ → ℕ → Sizes → ℕ → List (Row T) → Me (Home T) Acting → Type 0
 WasLeased holds k number sizes life rows m' = (m : Me (Home _) Acting) × HasLeasedAt (IsIn holds) m k m' × (m.0.number ≡ number) × (m.0.sizes ≡ sizes) × (map row_told rows ≡ map (lease_told life) m.0.leases)
 
--- this participant has loaded the cell's word; until then the rows told its leases
+-- this participant has loaded the cell's word; until then the rows were those of its leases
 abbrev pub WasLoaded : {T : Type 0} → (T → List (ℕ × ℕ)) → ℕ → ℕ → Sizes → ℕ → List (Row T) → Me (Home T) Acting → Type 0
 WasLoaded holds word number sizes life rows m' = (m : Me (Home _) Acting) × HasLoaded (IsIn holds) m word m' × (m.0.number ≡ number) × (m.0.sizes ≡ sizes) × (map row_told rows ≡ map (lease_told life) m.0.leases)
 
@@ -136,7 +136,7 @@ HasCode {T} rows (Some at) k = (d : Row T) → (slice_index_or rows at d).slot +
 abbrev pub IsFoundAs : {T : Type 0} → ℕ → ℕ → List (Row T) → Option ℕ → Type 0
 IsFoundAs w t rows at = (y : ℕ) × (c : ℕ) × (y < 2 ^ 31) × (t < 4) × (w ≡ packed y t c) × HasCode rows at c
 
--- the code of a slot that may be told
+-- the code of a slot, if there is one
 abbrev pub code_told : {X : Type 0} → Option (ℕ × X) → ℕ
 code_told None = 0
 code_told (Some t) = t.0 + 1

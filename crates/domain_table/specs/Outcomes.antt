@@ -33,7 +33,7 @@ CanClaim d = (d.kind ≡ 1) × (is_ready d.known ≡ true) × (d.releasing ≡ 0
 abbrev pub CanPlaceItem : {T : Type 0} → (T → List (ℕ × ℕ)) → T → Acting → Type 0
 CanPlaceItem holds item d = (d.kind ≡ 1) × (is_ready d.known ≡ true) × (d.releasing ≡ 0) × (holds item ≡ map told d.hand) × (d.filling ≡ None)
 
--- the item is in one of so many slots, by a part of it, and its one owner is in hand
+-- the item is in one of this many slots, by a part of it, and its one owner is in hand
 abbrev pub HasPlacedItem : {T S : Type 0} → T → ℕ → ℕ → ℕ → Option (ManuallyDrop T) → Me S Acting → Me S Acting → Type 0
 HasPlacedItem item slots slot round seen m m' = (o : Owner) × (o.slot ≡ slot) × (o.round ≡ round) × (slot < slots) × (m' ≡ (owning o m.0, m.1)) × IsSomeAnd seen (λ x. manually_drop_value x ≡ item)
 
@@ -46,7 +46,7 @@ module _ {T : Type 0} (IsIn : Content → Home T → Type 0) where
   abbrev pub RefillsAll : Me (Home T) Acting → Me (Home T) Acting → Type 0
   RefillsAll m after = (xs : List (ℕ × Home T)) × Refilled IsIn m.0 m.0.leases xs [] × (after ≡ (m.0, drop (length m.0.leases) m.1 ++ xs))
 
-  -- what the seat brought for this word is exchanged for what the found word names, and the step is told
+  -- what the seat brought for this word is exchanged for what the found word names, and the step is recorded
   abbrev pub Exchanges : ℕ → Me (Home T) Acting → ℕ → ℕ → Me (Home T) Acting → Type 0
   Exchanges at m word found after = (new : Option Owner) (os : List Owner) (tail : List (ℕ × Home T)) → Brings IsIn m new os word tail → GetsBack IsIn (with_step at found word m) os found tail after
 
@@ -54,7 +54,7 @@ module _ {T : Type 0} (IsIn : Content → Home T → Type 0) where
   abbrev pub KeepsLease : Me (Home T) Acting → Me (Home T) Acting → Type 0
   KeepsLease m after = (l : Lease) (ls : List Lease) (tail : List (ℕ × Home T)) → CanKeep IsIn m l ls tail → after ≡ (record m.0 { leases = ls; releasing = 0 }, tail)
 
-  -- the release under way ends, where so many owners were found
+  -- the release under way ends, where this many owners were found
   abbrev pub EndsRelease : (Participant → Option ℕ) → Me (Home T) Acting → ℕ → Me (Home T) Acting → Type 0
   EndsRelease to m count after = (l : Lease) (ls : List Lease) (o : Owner) (os : List Owner) (tail : List (ℕ × Home T)) → CanEnd IsIn m l ls o os tail → after ≡ (ended_release (to m.0.known) count l ls os m.0, tail)
 
@@ -86,7 +86,7 @@ module _ {T : Type 0} (IsIn : Content → Home T → Type 0) where
   abbrev pub TakesNext : Me (Home T) Acting → Me (Home T) Acting → Type 0
   TakesNext m after = (f : Filling) → m.0.filling ≡ Some f → (a : ℕ) × (u : Home T) × IsIn (part f.round a) u × (f.left + a ≤ 2 ^ 63) × (f.filled ≡ 1 → f.left + a ≡ 2 ^ 63) × (after ≡ (filling_at m.0.slot (gathered a f) m.0, (home m.0.sizes.slots m.0.slot (f.filled - 1), u) ∷ m.1))
 
-  -- the home that was emptied is back
+  -- the home that was emptied is returned
   abbrev pub GivesHome : Me (Home T) Acting → Me (Home T) Acting → Type 0
   GivesHome m after = (f : Filling) (tail : List (ℕ × Home T)) → CanEmpty IsIn m f tail → after ≡ (filling_at m.0.slot (record f { out = m.0.sizes.participants }) m.0, tail)
 
@@ -95,7 +95,7 @@ module _ {T : Type 0} where
   abbrev pub HasSwapped : Me (Home T) Acting → ℕ → ℕ → Me (Home T) Acting → Type 0
   HasSwapped m spare y after = (tail : List (ℕ × Home T)) → m.1 ≡ (own_spare m.0 spare, Blank) ∷ tail → after ≡ (record m.0 { spare = y }, (own_spare m.0 y, Blank) ∷ tail)
 
-  -- so many parts of the item are gathered, from its last home that had some
+  -- this many parts of the item are gathered, from its last home that had some
   abbrev pub Gathers : Me (Home T) Acting → ℕ → ℕ → ℕ → ℕ → Me (Home T) Acting → Type 0
   Gathers m slot at round count after = (f : Filling) → m.0.filling ≡ Some f → (round ≡ f.round) × (f.left + count ≤ 2 ^ 63) × (at ≡ 0 → f.left + count ≡ 2 ^ 63) × (after ≡ (filling_at slot (emptying at count f) m.0, m.1))
 
@@ -111,7 +111,7 @@ module _ {T : Type 0} where
   abbrev pub FillsAll : Me (Home T) Acting → ℕ → ℕ → ℕ → Me (Home T) Acting → Type 0
   FillsAll m slot participants round after = (f : Filling) × (f.filled ≡ participants) × (f.out ≡ participants) × (f.left ≡ 1) × (f.round ≡ round) × (after ≡ (filling_at slot f m.0, m.1))
 
-  -- the home of the item at this place is the next one to fill, and so many parts are left
+  -- the home of the item at this place is the next one to fill, and this many parts are left
   abbrev pub FillsAt : Me (Home T) Acting → ℕ → ℕ → ℕ → ℕ → Type 0
   FillsAt m at participants count round = (f : Filling) × (m.0.filling ≡ Some f) × (f.filled ≡ at) × (at < participants) × (f.out ≡ participants) × (f.left ≡ count) × ((at ≡ 0) ⊎ (round ≡ f.round))
 

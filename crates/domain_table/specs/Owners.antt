@@ -4,7 +4,7 @@ use Rattle.sdd_homes.specs.declared.Owner.{Owner}
 use Rattle.domain_table.specs.declared.board.Acting.{Acting}
 use Rattle.sdd_homes.specs.Book.{Content, blank, part}
 
--- it is told by the slot and the round of its item
+-- an owner as the slot and the round of its item
 abbrev pub told : Owner → ℕ × ℕ
 told o = (o.slot, o.round)
 

@@ -1,4 +1,4 @@
--- what each step on a word tells the seat that makes it
+-- what the seat that makes a step on a word knows then
 use Rattle.std.specs.Prelude.{◌≡◌, ◌≢◌, ◌⊎◌, ℕ, suc, ◌+◌, ◌-◌, ◌^◌, ◌<◌, ◌≤◌, List, [], ◌∷◌, ◌++◌, length, take, drop, Option, None, Some, ◌==◌, cond, true}
 use mathlib.Core.Option.{some}
 use Rattle.atomic_table.specs.Table.{Me, Step, rest}
@@ -20,7 +20,7 @@ use Rattle.domain_table.specs.Chains.{is_threaded, left_code, AllBelow}
 use Rattle.domain_table.specs.Owners.{slot_code, part_of, besides}
 use Rattle.domain_table.specs.declared.board.Acting.{Acting}
 
--- the seat's step is told: on which word it was, what it found there, and what it left
+-- the seat's step is recorded: on which word it was, what it found there, and what it left
 abbrev pub with_step : {S : Type 0} → ℕ → ℕ → ℕ → Me S Acting → Me S Acting
 with_step i found left m = (record m.0 { cell_steps = m.0.cell_steps ++ record { word = i; found = found; left = left } ∷ [] }, m.1)
 
@@ -50,7 +50,7 @@ module _ {S : Type 0} where
   abbrev pub agree_then : Step S → Me S Acting → ℕ → Me S Acting → Type 0
   agree_then t m n m' = (e : ℕ) → m.0.known.phase ≡ Opened e → (n ≡ e → m' ≡ (record m.0 { scan = 2 }, m.1)) × (n ≢ e → m' ≡ m)
 
-  -- a word that tells of no open guard is noted
+  -- a word that shows no open guard is noted
   abbrev pub shut_then : Step S → Me S Acting → ℕ → Me S Acting → Type 0
   shut_then t m n m' = (q : ℕ) → t.word ≡ state_word q → (n ≡ 0 → m' ≡ (record m.0 { known = looking q m.0.known }, m.1)) × (n ≢ 0 → m' ≡ m)
 
@@ -72,7 +72,7 @@ module _ {S : Type 0} where
   abbrev pub sit_then : Step S → Me S Acting → ℕ → Me S Acting → Type 0
   sit_then t m n m' = m'.0 ≡ spent
 
-  -- the slot that was in front of what was out with the seat is back
+  -- the slot that was in front of what was out with the seat is put back
   abbrev pub end_then : Step S → Me S Acting → ℕ → Me S Acting → Type 0
   end_then t m n m' = m' ≡ (spent, rest m.1)
 
@@ -80,7 +80,7 @@ module _ {S : Type 0} where
 abbrev pub learn_then : {S : Type 0} → (S → Sizes → Type 0) → Step S → Me S Acting → ℕ → Me S Acting → Type 0
 learn_then Announces t m n m' = (m' ≡ m) × ((x : _) (z : Sizes) → t.said ≡ some x → Announces x z → m.0.sizes ≡ z)
 
--- a scan leaves alone all but what it tells of the participant itself
+-- a scan leaves alone all but what it notes of the participant itself
 abbrev pub Steady : {S : Type 0} → Me S Acting → Me S Acting → Type 0
 Steady m m' = (m'.0.kind ≡ m.0.kind) × (m'.0.number ≡ m.0.number) × (m'.0.born ≡ m.0.born) × (m'.0.sizes ≡ m.0.sizes) × (m'.0.spare ≡ m.0.spare) × (m'.0.hand ≡ m.0.hand) × (m'.0.leases ≡ m.0.leases) × (m'.0.releasing ≡ m.0.releasing) × (m'.0.slot ≡ m.0.slot)
     × (m'.0.filling ≡ m.0.filling) × (m'.0.waits ≡ m.0.waits) × (m'.0.left ≡ m.0.left) × (m'.1 ≡ m.1)
@@ -111,11 +111,11 @@ abbrev pub HasRound : List Lease → Owner → Type 0
 HasRound ls o = (l : Lease) → Has ls l → l.slot ≡ o.slot → l.round ≡ o.round
 
 module _ {S : Type 0} (IsIn : Content → S → Type 0) where
-  -- the participant's home of the slot k comes out with its parts of the item; not all slots were leased
+  -- the participant's home of the slot k is taken out with its parts of the item; not all slots were leased
   abbrev pub takes_home : Me S Acting → ℕ → Loaded → Me S Acting → Type 0
   takes_home m k h m' = ¬ Lends m.0.leases k × (k < m.0.sizes.slots) × (length m.0.leases < m.0.sizes.slots) × ((c : ℕ) × (u : S) × IsIn (part h.value c) u × (c ≤ 2 ^ 63) × (m' ≡ (loading h (m.0.leases ++ lease k h.item c h.value ∷ []) m.0, (own_home m.0 k, u) ∷ m.1)))
 
-  -- the item in slot k was leased already, or the participant's home of it comes out
+  -- the item in slot k was leased already, or the participant's home of it is taken out
   abbrev pub HasLeasedAs : Me S Acting → ℕ → Loaded → Me S Acting → Type 0
   HasLeasedAs m k h m' = (IsLeased m.0.leases k h × (m' ≡ (loading h m.0.leases m.0, m.1))) ⊎ takes_home m k h m'
 
@@ -158,11 +158,11 @@ module _ {S : Type 0} (IsIn : Content → S → Type 0) where
   abbrev pub HasSpare : Me S Acting → List (ℕ × S) → Type 0
   HasSpare m tail = (u : S) × IsIn blank u × (m.1 ≡ (own_spare m.0 m.0.spare, u) ∷ tail)
 
-  -- the seat has come to act for the participant q, whose spare slot y came out
+  -- the seat acts for the participant q from now on, whose spare slot y was taken out
   abbrev pub HasRegistered : Me S Acting → ℕ → ℕ → Me S Acting → Type 0
   HasRegistered m q y m' = (sizes : Sizes) × (m'.0 ≡ registered sizes y q) × HasSpare m' m.1
 
-  -- a participant for which nobody acts is claimed: its word tells its spare slot
+  -- a participant for which nobody acts is claimed: its word names its spare slot
   abbrev pub claim_then : Step S → Me S Acting → ℕ → Me S Acting → Type 0
   claim_then t m n m' = (q : ℕ) → t.word ≡ claim_word q → (n ≡ 0 → m' ≡ m) × ((y : ℕ) → n ≡ suc y → (y < 2 ^ 31) × HasRegistered m q y m')
 
@@ -215,11 +215,11 @@ releasing_one to n l os d = record d { leases = recounted l.slot (l.count + 1) d
 abbrev pub HasRoom : Acting → Type 0
 HasRoom d = (length d.waits < d.sizes.slots) × (length d.collected < d.sizes.slots)
 
--- the first owner in hand is released, and its item goes where `to` tells
+-- the first owner in hand is released, and its item is retired or put into a private bag, as `to` says
 abbrev pub release_then : {S : Type 0} → (Participant → Option ℕ) → Step S → Me S Acting → ℕ → Me S Acting → Type 0
 release_then to t m n m' = (l : Lease) (o : Owner) (os : List Owner) → Has m.0.leases l → o.slot ≡ l.slot → m.0.hand ≡ o ∷ os → (2 < n) × (l.count < 2 ^ 63) × HasRoom m.0 × Apart m.0.leases × (o.round ≡ l.round) × (m' ≡ (releasing_one (to m.0.known) n l os m.0, m.1))
 
--- a release of the owner o begins: the participant's home of its item comes out
+-- a release of the owner o begins: the participant's home of its item is taken out
 abbrev pub HasBegun : {S : Type 0} → (Content → S → Type 0) → Me S Acting → Owner → Me S Acting → Type 0
 HasBegun IsIn m o m' = (c : ℕ) × (u : _) × IsIn (part o.round c) u × (c < 2 ^ 63) × (o.slot < m.0.sizes.slots) × (m' ≡ (record m.0 { leases = m.0.leases ++ lease o.slot o.item c o.round ∷ []; releasing = suc o.item }, (own_home m.0 o.slot, u) ∷ m.1))
 
@@ -227,7 +227,7 @@ HasBegun IsIn m o m' = (c : ℕ) × (u : _) × IsIn (part o.round c) u × (c < 2
 abbrev pub begin_then : {S : Type 0} → (Content → S → Type 0) → Step S → Me S Acting → ℕ → Me S Acting → Type 0
 begin_then IsIn t m n m' = (o : Owner) (os : List Owner) → m.0.hand ≡ o ∷ os → HasBegun IsIn m o m'
 
--- the participant's home is back, and the owner is gone
+-- the participant's home is put back, and the owner is released
 abbrev pub ended_release : Option ℕ → ℕ → Lease → List Lease → List Owner → Acting → Acting
 ended_release to n l ls os d = record d { leases = ls; hand = os; releasing = 0; waits = retiring to n l d.waits; collected = collecting to n l d.collected }
 
@@ -244,7 +244,7 @@ module _ {S : Type 0} (IsIn : Content → S → Type 0) where
   abbrev pub CanKeep : Me S Acting → Lease → List Lease → List (ℕ × S) → Type 0
   CanKeep m l ls tail = (m.0.leases ≡ ls ++ l ∷ []) × (m.0.releasing ≡ suc l.item) × ((u : S) × IsIn (part l.round l.count) u × (m.1 ≡ (own_home m.0 l.slot, u) ∷ tail))
 
-  -- the home is back, and the owners in hand stay
+  -- the home is put back, and the owners in hand stay
   abbrev pub keep_then : Step S → Me S Acting → ℕ → Me S Acting → Type 0
   keep_then t m n m' = (l : Lease) (ls : List Lease) (tail : List (ℕ × S)) → CanKeep m l ls tail → m' ≡ (record m.0 { leases = ls; releasing = 0 }, tail)
 
@@ -256,7 +256,7 @@ module _ {S : Type 0} (IsIn : Content → S → Type 0) where
 abbrev pub retag_then : {S : Type 0} → Step S → Me S Acting → ℕ → Me S Acting → Type 0
 retag_then t m n m' = (n ≡ t.first → m' ≡ with_step t.word n t.second m) × (n ≢ t.first → m' ≡ with_step t.word n n m)
 
--- the word of a cell is read, and tells some spare slot, tag and item
+-- the word of a cell is read, and has some spare slot, tag and item
 abbrev pub read_cell_then : {S : Type 0} → Step S → Me S Acting → ℕ → Me S Acting → Type 0
 read_cell_then t m w m' = (y : ℕ) × (k : ℕ) × (y < 2 ^ 31) × Tells w y k × (m' ≡ with_step t.word w w m)
 
@@ -272,7 +272,7 @@ filling_at k f d = record d { slot = k; filling = Some f }
 abbrev pub claimed_by : Acting → Filling
 claimed_by d = record { by = d.number; filled = 0; round = 0; left = 2 ^ 63; out = d.sizes.participants }
 
--- the next home is out; it is back, with a parts of the round c
+-- the next home is out; it is put back, with a parts of the round c
 abbrev pub next_out : Filling → Filling
 next_out f = record f { out = f.filled }
 
@@ -291,7 +291,7 @@ module _ {S : Type 0} (IsIn : Content → S → Type 0) where
   abbrev pub claim_slot_then : Step S → Me S Acting → ℕ → Me S Acting → Type 0
   claim_slot_then t m n m' = (k : ℕ) → t.word ≡ slot_word m.0.sizes k → (n ≡ 0 → HasClaimed m k m') × (n ≢ 0 → m' ≡ m)
 
-  -- the next home comes out, empty
+  -- the next home is taken out, empty
   abbrev pub HasTaken : Me S Acting → Filling → Me S Acting → Type 0
   HasTaken m f m' = (u : S) × IsIn blank u × (m' ≡ (filling_at m.0.slot (next_out f) m.0, (home m.0.sizes.slots m.0.slot f.filled, u) ∷ m.1))
 
@@ -305,7 +305,7 @@ module _ {S : Type 0} (IsIn : Content → S → Type 0) where
   abbrev pub fill_gives_then : Step S → Me S Acting → ℕ → Me S Acting → Type 0
   fill_gives_then t m n m' = (f : Filling) (c a : ℕ) (tail : List (ℕ × S)) → CanFill m f c a tail → m' ≡ (filling_at m.0.slot (next_filled m.0 c a f) m.0, tail)
 
-  -- a value is so many parts of one round only
+  -- a value is a number of parts of one round only
   abbrev pub AreTold : Type 0
   AreTold = (c a c' a' : ℕ) (u : S) → IsIn (part c a) u → IsIn (part c' a') u → (c ≡ c') × (a ≡ a')
 
@@ -327,7 +327,7 @@ without_bag d = record d { collected = [] }
 abbrev pub bag_alone : Acting → Acting
 bag_alone d = gathering d.collected
 
--- the private bag of another seat comes in place of one
+-- the private bag of another seat replaces one
 abbrev pub with_bag : Acting → Acting → Acting
 with_bag d e = record d { collected = e.collected }
 
@@ -335,7 +335,7 @@ with_bag d e = record d { collected = e.collected }
 abbrev pub owning : Owner → Acting → Acting
 owning o d = record d { slot = o.slot; hand = o ∷ [] }
 
--- the new item i stands in the slot that was filled, with its one owner in hand
+-- the new item i is in the slot that was filled, with its one owner in hand
 abbrev pub placing : ℕ → Filling → Acting → Acting
 placing i f d = record d { filling = None; hand = record { item = i; slot = d.slot; round = f.round } ∷ [] }
 
@@ -353,7 +353,7 @@ abbrev pub taken_all : List Garbage → List Garbage → List Garbage
 taken_all [] vs = vs
 taken_all (w ∷ ws) vs = record w { age = 0 } ∷ taken_all ws vs
 
--- what the word of an ended participant told is taken over, with age 0, in its order
+-- what the word of an ended participant names is taken over, with age 0, in its order
 abbrev pub HasTakenLeft : {S : Type 0} → Me S Acting → ℕ → ℕ → Me S Acting → Type 0
 HasTakenLeft m n own m' = (ws : List Garbage) × (n ≡ left_code ws) × (is_threaded ws ≡ true) × AllBelow m.0.sizes.slots ws × (m' ≡ (record m.0 { waits = taken_all ws m.0.waits; left = own }, m.1))
 
@@ -379,7 +379,7 @@ handing_over w ws d = record d { collected = ws; waits = record w { age = 0 } �
 abbrev pub hand_all_then : {S : Type 0} → Step S → Me S Acting → ℕ → Me S Acting → Type 0
 hand_all_then t m n m' = m' ≡ (record m.0 { collected = []; waits = taken_all m.0.collected m.0.waits }, m.1)
 
--- the item w is being reclaimed, and has given up the owners hs; the others still wait
+-- the item w is being reclaimed, and has handed over the owners hs; the others still wait
 abbrev pub reclaiming : Garbage → List Owner → List Garbage → Acting → Acting
 reclaiming w hs ws d = record d { hand = hs ++ d.hand; slot = w.slot; filling = Some (record { by = d.number; filled = d.sizes.participants; round = w.round; left = 0; out = d.sizes.participants }); waits = ws }
 
@@ -396,7 +396,7 @@ abbrev pub emptying : ℕ → ℕ → Filling → Filling
 emptying q a f = record f { filled = q; left = f.left + a }
 
 module _ {S : Type 0} (IsIn : Content → S → Type 0) where
-  -- what has waited longest is reclaimed: its deed comes out, and the owners that it held are in hand
+  -- what has waited longest is reclaimed: its deed is taken out, and the owners that it held are in hand
   abbrev pub opens_then : Step S → Me S Acting → ℕ → Me S Acting → Type 0
   opens_then t m n m' = (w : Garbage) (ws : List Garbage) → m.0.waits ≡ ws ++ w ∷ [] → (w.slot < m.0.sizes.slots) × ((hs : List Owner) × (u : S) × IsIn (deed w.round hs) u × (m' ≡ (reclaiming w hs ws m.0, (deed_home m.0 w.slot, u) ∷ m.1)))
 
@@ -404,7 +404,7 @@ module _ {S : Type 0} (IsIn : Content → S → Type 0) where
   abbrev pub opens_noted_then : Step S → Me S Acting → ℕ → Me S Acting → Type 0
   opens_noted_then t m n m' = (w : Garbage) (ws : List Garbage) → m.0.collected ≡ ws ++ w ∷ [] → (w.slot < m.0.sizes.slots) × ((hs : List Owner) × (u : S) × IsIn (deed w.round hs) u × (m' ≡ (reclaiming_noted w hs ws m.0, (deed_home m.0 w.slot, u) ∷ m.1)))
 
-  -- the last home that has parts comes out; with the first one all parts are in hand
+  -- the last home that has parts is taken out; with the first one all parts are in hand
   abbrev pub gathers_then : Step S → Me S Acting → ℕ → Me S Acting → Type 0
   gathers_then t m n m' = (f : Filling) → m.0.filling ≡ Some f → (a : ℕ) × (u : S) × IsIn (part f.round a) u × (f.left + a ≤ 2 ^ 63) × (f.filled ≡ 1 → f.left + a ≡ 2 ^ 63) × (m' ≡ (filling_at m.0.slot (gathered a f) m.0, (home m.0.sizes.slots m.0.slot (f.filled - 1), u) ∷ m.1))
 
@@ -422,7 +422,7 @@ module _ {S : Type 0} (IsIn : Content → S → Type 0) where
   abbrev pub vacates_then : Step S → Me S Acting → ℕ → Me S Acting → Type 0
   vacates_then t m n m' = (f : Filling) (tail : List (ℕ × S)) → CanVacate m f tail → m' ≡ (record m.0 { filling = None }, tail)
 
--- what is in slot k is followed by what n tells
+-- what is in slot k is followed by what n names
 abbrev pub linked_to : ℕ → ℕ → List Garbage → List Garbage
 linked_to k n [] = []
 linked_to k n (w ∷ ws) = record w { next = cond (w.slot == k) n w.next } ∷ linked_to k n ws

@@ -19,7 +19,7 @@ use Rattle.domain_table.specs.Chains.{is_threaded, left_code}
 use Rattle.domain_table.specs.declared.board.Acting.{Acting}
 use Rattle.domain_table.specs.declared.board.Plan.{Plan}
 
--- What stands of the seat j, which acts for a participant. `born` is the count at each publication, and `scanner` the seat that has the scan lock.
+-- What is true of the seat j, which acts for a participant. `born` is the count at each publication, and `scanner` the seat that has the scan lock.
 module _ (participants : List Participant) (count : ℕ) (born : ℕ → ℕ) (words : List ℕ) (seat_of : ℕ → ℕ) (scanner : ℕ) (j : ℕ) where
   pub record Acts (d : Acting) : Type 0 where
     pub is : At participants d.number d.known
@@ -63,7 +63,7 @@ numbers (suc n) = numbers n ++ n ∷ []
 abbrev pub first_eight : ℕ → List ℕ
 first_eight y = zero ∷ suc y ∷ replicate 6 zero
 
--- those of the participants below n, whose spare slots are behind those of so many cells
+-- those of the participants below n, whose spare slots are behind those of this many cells
 abbrev pub first_eights : ℕ → ℕ → List ℕ
 first_eights cells zero = []
 first_eights cells (suc n) = first_eights cells n ++ first_eight (cells + n)
@@ -72,7 +72,7 @@ first_eights cells (suc n) = first_eights cells n ++ first_eight (cells + n)
 abbrev pub first_words : Plan → List ℕ
 first_words plan = plan.first ∷ (replicate 15 zero ++ (first_eights plan.sizes.cells plan.sizes.participants ++ (numbers plan.sizes.cells ++ replicate (plan.sizes.slots + plan.sizes.slots) zero)))
 
--- what participants left when they ended, as their words tell
+-- what participants left when they ended, by their words
 pub record Lefts (n : ℕ) (words : List ℕ) (left : ℕ → List Garbage) : Type 0 where
   pub told : (p : ℕ) → p < n → slice_index words (left_word p) ≡ left_code (left p)
   pub chained : (p : ℕ) → is_threaded (left p) ≡ true

@@ -1,6 +1,6 @@
 //! What a participant has retired, by how often it has rotated since.
 //!
-//! A bag takes no memory of its own: it is where it begins and where it ends. What is between is told by the link words of
+//! A bag takes no memory of its own: it is where it begins and where it ends. What is between is in the link words of
 //! the slots (`links`), each of which names what came into the bag next. So to put an item in, to turn the bags, to join two
 //! of them and to take the oldest item out takes one step on one link word at most, whatever the bags hold, and no bag can
 //! be full.

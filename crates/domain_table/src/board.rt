@@ -65,7 +65,7 @@ pub enum Home<T> {
     Announced(Sizes),
 }
 
-/// What a place is told once, when it is made: how large it is, and the count of raises that it begins with.
+/// What a place is made with: how large it is, and the count of raises that it begins with.
 #[derive(Clone, Copy, Drop)]
 pub struct Plan {
     pub sizes: Sizes,

@@ -93,14 +93,14 @@ impl<T, H: Holding<T>, A: Aim> Play<Home<T>, Acting> for OnEndRelease<H, A> {
     ghost then = { end_release_then (IsIn H.holds) A.to };
 }
 
-/// The word of a cell, as it was at some moment: no step tells of it.
+/// The word of a cell, as it was at some moment: no step records it.
 pub fn word_of<T, H: Holding<T>>(words: &Words<T, H>, sizes: &Sizes, cell: usize) -> u64
     requires { (words.now.key.sizes ≡ sizes.now) × IsSized sizes.now × (cell < sizes.now.cells) × (all_words sizes.now ≤ words.now.table_id.words) }
 {
     words.peek(8 * sizes.participants + 16 + cell)
 }
 
-/// Reads the word of the cell, for `participants` of them, in one step that is told: nothing is loaded.
+/// Reads the word of the cell, for `participants` of them, in one recorded step: nothing is loaded.
 pub fn read_cell<T, H: Holding<T>>(
     words: &Words<T, H>,
     seat: &mut Seat<T>,
@@ -116,7 +116,7 @@ pub fn read_cell<T, H: Holding<T>>(
 }
 
 /// Loads the cell under the participant's open guard, for `participants` of them. If it names an item, the
-/// participant's parts of that come out of their home, unless they are leased already.
+/// participant's parts of that are taken out of their home, unless they are leased already.
 pub(crate) fn load<T, H: Holding<T>>(
     words: &Words<T, H>,
     seat: &mut Seat<T>,
@@ -132,7 +132,7 @@ pub(crate) fn load<T, H: Holding<T>>(
 }
 
 /// Loads the item of the owner that is first in hand, under the participant's open guard: the participant's parts of it
-/// come out of their home, unless they are leased already.
+/// are taken out of their home, unless they are leased already.
 pub(crate) fn load_own<T, H: Holding<T>>(words: &Words<T, H>, seat: &mut Seat<T>)
     requires table { (seat.old.table_id ≡ words.now.table_id) × (0 < words.now.table_id.words) }
     requires open { (seat.old.me.0.kind ≡ 1) × (is_inside seat.old.me.0.known ≡ true) }
@@ -143,9 +143,9 @@ pub(crate) fn load_own<T, H: Holding<T>>(words: &Words<T, H>, seat: &mut Seat<T>
     let _ = words.load::<OnLoadOwn<H>>(seat, 0);
 }
 
-/// Swaps the cell for the owner that the participant brings, or for none, as `word` tells, for `participants` of them.
-/// The owner's part goes into the cell in the same step, in the participant's spare slot, and the cell's spare slot
-/// comes out with the part of the owner that the cell had: that is in hand now, if there was one.
+/// Swaps the cell for the owner that the participant brings, or for none, as `word` says, for `participants` of them.
+/// In the same step the owner's part is put into the cell, in the participant's spare slot, and the cell's spare slot
+/// is taken out with the part of the owner that the cell had: that is in hand now, if there was one.
 pub fn swap<T, H: Holding<T>>(
     words: &Words<T, H>,
     seat: &mut Seat<T>,
@@ -251,8 +251,8 @@ pub(crate) fn keep_home<T, H: Holding<T>>(words: &Words<T, H>, seat: &mut Seat<T
 }
 
 /// Releases the owner that is first in hand, of the item that is leased in `slot`, for `participants` and `cells` of
-/// them: its part is joined to the lease. Answers how many owners are left; with the last one the item goes where `A`
-/// tells, in the same step.
+/// them: its part is joined to the lease. Answers how many owners are left. The last release retires the item or puts it into
+/// a private bag, as `A` says, in the same step.
 pub(crate) fn release_owner<T, H: Holding<T>, A: Aim>(
     words: &Words<T, H>,
     seat: &mut Seat<T>,
@@ -273,8 +273,8 @@ pub(crate) fn release_owner<T, H: Holding<T>, A: Aim>(
 
 /// Ends the release that `begin_release` began, of the owner that is first in hand and whose item is in `slot`, for
 /// `participants` and `cells` of them: the participant's home of the item is in front of what is out with the seat, the
-/// owner's part joined to its parts, and goes back in the same step. Answers how many owners are left; with the last one
-/// the item goes where `A` tells, in that step too.
+/// owner's part joined to its parts, and is put back in the same step. Answers how many owners are left. The last release
+/// retires the item or puts it into a private bag, as `A` says, in that step too.
 pub(crate) fn end_release<T, H: Holding<T>, A: Aim>(
     words: &Words<T, H>,
     seat: &mut Seat<T>,
@@ -293,7 +293,7 @@ pub(crate) fn end_release<T, H: Holding<T>, A: Aim>(
     words.fetch_sub::<OnEndRelease<H, A>>(seat, 8 * participants + 16 + cells + slot, 1) - 3
 }
 
-/// Closes the guard of participant `number`. All that was leased goes home in the same step: its slots are in front
+/// Closes the guard of participant `number`. All that was leased is returned to its home in the same step: its slots are in front
 /// of what is out with the seat, in the order of the leases, each with its parts again.
 pub fn close<T, H: Holding<T>>(words: &Words<T, H>, seat: &mut Seat<T>, number: usize, epoch: u64)
     requires table { (seat.old.table_id ≡ words.now.table_id) × (number < 2 ^ 30) × (claim_word number < words.now.table_id.words) }

@@ -8,7 +8,7 @@ use crate::board::Plan;
 use std::alloc::{AllocError, Global};
 use std::sync::atomic::AtomicBool;
 
-/// So many words 0 behind these.
+/// Appends `count` words 0.
 fn push_zeros(words: &mut Vec<u64>, count: usize) -> Result<(), AllocError>
     ensures { OnOk result (words.new.items ≡ words.old.items ++ replicate count 0) }
 {
@@ -28,7 +28,7 @@ fn push_numbers(words: &mut Vec<u64>, count: usize) -> Result<(), AllocError>
     Ok(())
 }
 
-/// The words of `count` participants behind these, for so many cells: each is closed, and nobody acts for it. Its spare
+/// Appends the words of `count` participants, for `cells` cells: each is closed, and nobody acts for it. Its spare
 /// slot is behind those of the cells and of the participants before it.
 fn push_participants(words: &mut Vec<u64>, cells: usize, count: usize) -> Result<(), AllocError>
     requires { (cells ≤ 2 ^ 30) × (count ≤ 2 ^ 30) }
@@ -57,7 +57,7 @@ pub fn words_from(alloc: Global, plan: &Plan) -> Result<Vec<u64>, AllocError>
     Ok(words)
 }
 
-/// So many cells that nobody has.
+/// `count` cells that nobody has.
 pub fn free_cells(alloc: Global, count: usize) -> Result<Vec<AtomicBool>, AllocError>
     ensures { IfOk result (λ taken. vec_len taken ≡ count) }
 {

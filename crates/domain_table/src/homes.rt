@@ -28,7 +28,7 @@ pub fn spare_at(sizes: &Sizes, spare: u64) -> usize
     sizes.slots * (sizes.participants + 1) + spare as usize
 }
 
-/// Lets go of what lies in a slot: an item whose parts lie there, or its deed, isn't dropped.
+/// Forgets what lies in a slot: an item whose parts lie there, or its deed, isn't dropped.
 pub fn let_go<T>(home: Home<T>) {
     match home {
         Home::Blank => {}
@@ -80,7 +80,7 @@ pub fn parts_of<T, H: Holding<T>>(home: Home<T>) -> (Part<Stored<T>>, u64)
     }
 }
 
-/// Lets go of homes.
+/// Forgets homes.
 pub fn clear<T>(homes: Vec<Home<T>>) {
     let mut homes = homes;
     while let Some(home) = homes.pop() {
@@ -89,7 +89,7 @@ pub fn clear<T>(homes: Vec<Home<T>>) {
     homes.destroy_empty();
 }
 
-/// Lets go of what a place had in its slots.
+/// Forgets what a place had in its slots.
 pub fn empty<T>(closed: Closed<Home<T>, Global>)
     requires { IsFull closed.slots }
 {
@@ -131,7 +131,7 @@ fn first_home<T, H: Holding<T>>(
     }
 }
 
-/// The homes of free slots, so many of them, those of deeds from `deeds` on, where there is room for all.
+/// The homes of a number of free slots, those of deeds from `deeds` on, where there is room for all.
 fn push_rooms<T, H: Holding<T>>(
     homes: &mut Vec<Home<T>>,
     alloc: Global,
@@ -149,7 +149,7 @@ fn push_rooms<T, H: Holding<T>>(
     Ok(())
 }
 
-/// So many empty slots behind these, where there is room for them.
+/// Appends `count` empty slots, where there is room for them.
 fn push_blanks<T>(homes: &mut Vec<Home<T>>, count: usize)
     requires { vec_len homes.old + count ≤ vec_capacity homes.old }
     ensures homes { homes.new.items ≡ homes.old.items ++ replicate count Blank }

@@ -1,4 +1,4 @@
-//! What a participant has leased under its open guards goes home.
+//! What a participant has leased under its open guards is returned to its home.
 
 ghost use Rattle.std.specs.Prelude.{◌≡◌, ℕ, ◌+◌, ◌*◌, ◌<◌, ◌++◌, ◌∷◌, [], List, map, length, drop, slice_index_or, IfSome, IfNone, IsSome};
 ghost use Rattle.std.specs.VecDeque.{deque_capacity, deque_len};
@@ -109,7 +109,7 @@ fn give_rows<T, H: Holding<T>>(
     seat.turn();
 }
 
-/// The same, at once where nothing is leased, as mostly when guards close.
+/// The same, with a fast path if nothing is leased, as mostly when guards close.
 #[inline(always)]
 pub fn give_home<T, H: Holding<T>>(
     words: &Words<T, H>,

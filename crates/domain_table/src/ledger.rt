@@ -6,7 +6,7 @@ use crate::row::Row;
 use std::alloc::{AllocError, Global};
 use std::collections::VecDeque;
 
-/// What a participant has leased. It can't be let go: `free` frees an empty one.
+/// What a participant has leased. It can't be dropped: `free` frees an empty one.
 pub struct Ledger<T> {
     pub rows: VecDeque<Row<T>>,
 }
@@ -14,7 +14,7 @@ pub struct Ledger<T> {
 impl<T> Ledger<T> {
     ghost use Rattle.domain_table.specs.Ledgers.{IsEmpty};
 
-    /// An empty one, with room for so many leases.
+    /// An empty one, with room for `room` leases.
     pub fn new(alloc: Global, room: usize) -> Result<Ledger<T>, AllocError>
         ensures { IfOk result (IsEmpty room) }
     {

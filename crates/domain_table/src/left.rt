@@ -1,6 +1,6 @@
 //! What ended participants leave, and who takes it over.
 //!
-//! A participant that ends joins its bags to one, and tells by its left word where that begins and ends. The first scan after
+//! A participant that ends joins its bags to one, and says by its left word where that begins and ends. The first scan after
 //! it that has the scan lock, whoever makes it, exchanges the word with 0, and has retired all of the bag then, with age 0: it
 //! comes into the scanner's current bag. So what was left doesn't wait for somebody to act for that participant again, and to
 //! take it over takes two steps, whatever is left. A participant that ends once more before any scan takes back what it left
@@ -51,7 +51,7 @@ impl<T> Play<Home<T>, Acting> for OnLeave {
     ghost then = { leave_then };
 }
 
-/// The word that tells where a bag begins and ends.
+/// The word that says where a bag begins and ends.
 fn word_of(bag: Option<Ends>) -> u64
     requires { IfSome bag (λ e. (e.first < 2 ^ 30) × (e.last < 2 ^ 30)) }
     ensures { (ws : List Garbage) → bag ≡ ends_of ws → result ≡ left_code ws }
@@ -62,7 +62,7 @@ fn word_of(bag: Option<Ends>) -> u64
     }
 }
 
-/// Where the bag begins and ends that the word tells.
+/// Where the bag of the word begins and ends.
 fn bag_in(word: u64) -> Option<Ends>
     requires { (ws : List Garbage) × (word ≡ left_code ws) × AllBelow (2 ^ 30) ws }
     ensures { (ws : List Garbage) → word ≡ left_code ws → AllBelow (2 ^ 30) ws → result ≡ ends_of ws }
@@ -76,7 +76,7 @@ fn bag_in(word: u64) -> Option<Ends>
     })
 }
 
-/// Takes over what participant `number` left, under the scan lock: it comes in front of what waits.
+/// Takes over what participant `number` left, under the scan lock: it is put in front of what waits.
 fn take_left<T, H: Holding<T>>(
     words: &Words<T, H>,
     seat: &mut Seat<T>,
@@ -107,7 +107,7 @@ fn take_own<T, H: Holding<T>>(
     bag_in(words.swap::<OnTakeOwn>(seat, STRIDE * number + LEFT, 0))
 }
 
-/// Tells by the left word of participant `number` what it leaves: all that it retired, which is in this bag.
+/// Says by the left word of participant `number` what it leaves: all that it retired, which is in this bag.
 fn tell<T, H: Holding<T>>(
     words: &Words<T, H>,
     seat: &mut Seat<T>,

@@ -2,9 +2,9 @@
 //! participant on them.
 //!
 //! A [`Board`](board::Board) has the words and slots. Each step of [`steps`], [`slots`] and [`cells`] is one operation on one
-//! word, proved to keep the rule, and tells what the seat that took it knows then. Over them [`owners`], [`leases`],
+//! word, proved to keep the rule, and says what the seat that took it knows then. Over them [`owners`], [`leases`],
 //! [`loading`], [`placing`] and [`scan`] move the parts of items between their homes, their owners and what a
-//! participant has leased. What items hold is a parameter, which their [`Holding`](holding::Holding) tells the rule.
+//! participant has leased. What items hold is a parameter, which their [`Holding`](holding::Holding) shows to the rule.
 #![tactic(auto)]
 
 pub mod aim;

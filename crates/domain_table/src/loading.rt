@@ -28,7 +28,7 @@ use sdd_plain::sizes::Sizes;
 use sdd_plain::tag::Tag;
 use std::collections::VecDeque;
 
-/// The slot that a cell's word names, if it names one: one more than it stands above the number of the spare slot and
+/// The slot that a cell's word names, if it names one: one more than what the word has above the number of the spare slot and
 /// the tag.
 pub fn slot_named(word: u64) -> Option<usize>
     ensures some { IfSome result (λ k. (k < 2 ^ 31) × ((y t c : ℕ) → y < 2 ^ 31 → t < 4 → word ≡ packed y t c → c ≡ k + 1)) }
@@ -42,7 +42,7 @@ pub fn slot_named(word: u64) -> Option<usize>
     }
 }
 
-/// Adds the row of the item in `slot`, unless it has one: its parts came out of the home of participant `number` in the
+/// Adds the row of the item in `slot`, unless it has one: its parts were taken out of the home of participant `number` in the
 /// step that loaded it. Which row that is.
 fn note_slot<T, H: Holding<T>>(
     words: &Words<T, H>,

@@ -70,7 +70,8 @@ pub fn take_in<T, H: Holding<T>>(words: &Words<T, H>, seat: &mut Seat<T>, owner:
 }
 
 /// Releases the owner that is in hand, whose item is in `slot` and isn't leased: its part is joined to those of
-/// participant `number`. Answers how many owners are left; with the last one the item goes where `A` tells.
+/// participant `number`. Answers how many owners are left. The last release retires the item or puts it into a private
+/// bag, as `A` says.
 pub fn release_home<T, H: Holding<T>, A: Aim>(
     words: &Words<T, H>,
     seat: &mut Seat<T>,
@@ -97,7 +98,7 @@ pub fn release_home<T, H: Holding<T>, A: Aim>(
     cells::end_release::<T, H, A>(words, seat, sizes.participants, sizes.cells, slot)
 }
 
-/// The same where the item is leased: the owner's part goes to those of its row, which is `at`.
+/// The same where the item is leased: the owner's part is joined to those of its row, which is `at`.
 fn release_leased<T, H: Holding<T>, A: Aim>(
     words: &Words<T, H>,
     seat: &mut Seat<T>,
@@ -129,7 +130,7 @@ fn release_leased<T, H: Holding<T>, A: Aim>(
 }
 
 /// Releases the owner that is in hand, whose item is in `slot`: its part is joined to those of participant `number`.
-/// Answers how many owners are left; with the last one the item goes where `A` tells.
+/// Answers how many owners are left. The last release retires the item or puts it into a private bag, as `A` says.
 pub fn release<T, H: Holding<T>, A: Aim>(
     words: &Words<T, H>,
     seat: &mut Seat<T>,

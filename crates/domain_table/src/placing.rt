@@ -131,7 +131,7 @@ fn claim_any<T, H: Holding<T>>(
 }
 
 /// Places an item in a free slot: each is tried once, from `from` on. Its one owner is in hand; the slot and the owner's
-/// part are the answer. Where each slot was taken when it was tried, the item is back: that is a miss.
+/// part are the answer. If each slot was taken when it was tried, the item is returned: that is a miss.
 pub fn place_item<T, H: Holding<T>>(
     words: &Words<T, H>,
     seat: &mut Seat<T>,

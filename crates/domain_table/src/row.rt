@@ -36,7 +36,7 @@ fn none_there<T>(rest: Option<Part<T>>)
 impl<T> Row<T> {
     ghost use Rattle.domain_table.specs.Leases.{row_told};
 
-    /// The row of the item in `slot`, of which these are the participant's parts, so many.
+    /// The row of the item in `slot`, of which these are the participant's parts, `count` of them.
     pub(crate) fn new(slot: usize, parts: Part<Stored<T>>, count: u64, life: &Life) -> Row<T>
         requires low { slot < 2 ^ 32 }
         requires parts { (parts.life.count ≡ count) × (0 < count) × (count ≤ 2 ^ 63) × IsSome parts.seen.value }

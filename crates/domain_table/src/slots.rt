@@ -91,7 +91,7 @@ pub(crate) fn take_next<T, H: Holding<T>>(words: &Words<T, H>, seat: &mut Seat<T
     let _ = words.load::<OnTake<H>>(seat, 0);
 }
 
-/// Gives the home back that `take_next` took, with its parts. The first one tells which round the slot's parts are of.
+/// Gives the home back that `take_next` took, with its parts. The first one shows which round the slot's parts are of.
 pub(crate) fn give_next<T, H: Holding<T>>(words: &Words<T, H>, seat: &mut Seat<T>)
     requires table { (seat.old.table_id ≡ words.now.table_id) × (0 < words.now.table_id.words) }
     requires filling { (seat.old.me.0.kind ≡ 1) × ((f : Filling) × (c : ℕ) × (a : ℕ) × (tail : List (ℕ × Home T)) × CanFill (IsIn H.holds) seat.old.me f c a tail) }
@@ -102,7 +102,7 @@ pub(crate) fn give_next<T, H: Holding<T>>(words: &Words<T, H>, seat: &mut Seat<T
 }
 
 /// Gives the slot to a new item, which holds the items whose owners are in hand, and has one owner, which is in hand from
-/// now on. The item's own home goes back in the same step, with its deed.
+/// now on. The item's own home is put back in the same step, with its deed.
 pub(crate) fn place<T, H: Holding<T>>(
     words: &Words<T, H>,
     seat: &mut Seat<T>,

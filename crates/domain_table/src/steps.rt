@@ -37,8 +37,8 @@ pub(crate) const STRIDE: usize = 8;
 /// Where the first participant publishes.
 pub(crate) const STATE: usize = 16;
 
-/// Where it stands whether somebody acts for the first participant: then it is 0, and else one more than the number of
-/// the participant's spare slot.
+/// The place of the word that says whether somebody acts for the first participant: then it is 0, and else one more than
+/// the number of the participant's spare slot.
 const CLAIM: usize = 17;
 
 struct OnRead;
@@ -129,7 +129,7 @@ pub fn sit<T, H: Holding<T>>(words: &Words<T, H>) -> Seat<T>
     seat
 }
 
-/// Tries once to act for participant `number`. Where nobody did, its spare slot comes out, empty: which one it is.
+/// Tries once to act for participant `number`. If nobody did, its spare slot is taken out, empty, and its number is returned.
 pub fn claim<T, H: Holding<T>>(
     words: &Words<T, H>,
     seat: &mut Seat<T>,
@@ -145,7 +145,7 @@ pub fn claim<T, H: Holding<T>>(
     if found == 0 { None } else { Some(found - 1) }
 }
 
-/// Tells the seat that the place has the sizes `sizes`. No word changes.
+/// Notes at the seat that the place has the sizes `sizes`. No word changes.
 pub fn learn<T, H: Holding<T>>(words: &Words<T, H>, seat: &mut Seat<T>, sizes: Sizes)
     requires table { (seat.old.table_id ≡ words.now.table_id) × (1 < words.now.table_id.words) × (sizes ≡ words.now.key.sizes) }
     requires acts { seat.old.me.0.kind ≡ 1 }
@@ -177,7 +177,7 @@ pub fn any_claimed<T, H: Holding<T>>(words: &Words<T, H>, sizes: &Sizes) -> bool
 }
 
 /// Ends what the seat does for participant `number`, which has left what it retired, and which somebody else may act for
-/// from now on. Its spare slot, which is in front of what is out with the seat, goes back empty.
+/// from now on. Its spare slot, which is in front of what is out with the seat, is put back empty.
 pub fn end<T, H: Holding<T>>(words: &Words<T, H>, seat: &mut Seat<T>, number: usize, spare: u64)
     requires table { (seat.old.table_id ≡ words.now.table_id) × (number < 2 ^ 30) × (claim_word number < words.now.table_id.words) }
     requires rests { (seat.old.me.0.kind ≡ 1) × (seat.old.me.0.number ≡ number) × (seat.old.me.0.known.phase ≡ Idle) × (seat.old.me.0.known.found ≡ 0) × IsBare seat.old.me.0 }

@@ -1,4 +1,4 @@
-//! An item in its box, frozen and had back.
+//! An item in its box, frozen and thawed.
 
 ghost use Rattle.std.specs.Prelude.{◌≡◌, ◌^◌, IsSome, IsSomeAnd};
 ghost use Rattle.std.specs.Mem.{manually_drop_value};

@@ -19,7 +19,7 @@ pub fn number_of(tag: Tag) -> u64
     }
 }
 
-/// The word of a cell with this spare slot and this tag, which names what the code tells.
+/// The word of a cell with this spare slot and this tag, which names what the code says.
 pub fn word_with(spare: u64, tag: Tag, code: u64) -> u64
     requires { (spare < 2 ^ 31) × (code < 2 ^ 31) }
     ensures word { result ≡ packed spare (tag_number tag) code }

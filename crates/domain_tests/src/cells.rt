@@ -169,7 +169,7 @@ pub(crate) const LOADED_WITHIN: Table = Table {
     ],
 };
 
-/// A cell that was retired is free again. Where none is, an owner is back.
+/// A cell that was retired is free again. Where none is, an owner is returned.
 pub(crate) const RETIRED: Table = Table {
     participants: 1,
     slots: 2,
@@ -191,7 +191,7 @@ pub(crate) const RETIRED: Table = Table {
     ])],
 };
 
-/// A cell is exchanged where it is what was loaded; where it isn't, the owner is back.
+/// A cell is exchanged where it is what was loaded; where it isn't, the owner is returned.
 pub(crate) const EXCHANGED: Table = Table {
     participants: 1,
     slots: 16,
@@ -275,7 +275,7 @@ fn replace(domain: &Domain<u64>, local: &mut Local<u64>, cell: &AtomicShared<u64
     }
 }
 
-/// Reclaims what so many participants left, who aren't registered.
+/// Reclaims what this many participants left, who aren't registered.
 pub(crate) fn reclaim_all(domain: &Domain<u64>, participants: u32) {
     if participants == 0 {
         return;

@@ -61,7 +61,7 @@ pub(crate) fn handed_over(
     }
 }
 
-/// So many items, where a slot is free, are collected by a participant of its own, and what is left is handed over: how many
+/// This many items, where a slot is free, are collected by a participant of its own, and what is left is handed over: how many
 /// were. None if no participant was free, or memory was refused.
 pub(crate) fn collecting(domain: &Domain<u64>, items: u64) -> Option<u32> {
     let Ok(mut local) = domain.register() else {
@@ -219,7 +219,7 @@ pub(crate) const BY_THREADS: Table = Table {
     ],
 };
 
-/// Two threads collect and hand over again and again, while two others scan. Every slot comes back.
+/// Two threads collect and hand over again and again, while two others scan. Every slot is returned.
 pub(crate) const HANDED_OVER_BESIDE_SCANS: Table = Table {
     participants: 5,
     slots: 16,

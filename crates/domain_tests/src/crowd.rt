@@ -23,7 +23,7 @@ fn done(work: &Work, task: Task) -> Option<u32> {
     }
 }
 
-/// The sum of what both are told, if both are.
+/// The sum of what both answer, if both do.
 fn both(told: (Option<u32>, Option<u32>)) -> Option<u32> {
     Some(told.0?.saturating_add(told.1?))
 }

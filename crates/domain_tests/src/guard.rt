@@ -32,7 +32,7 @@ pub(crate) fn pass<T: Holds>(domain: &Domain<T>, local: &mut Local<T>, accelerat
     u8::from(epoch)
 }
 
-/// So many guards, opened and closed one by one, accelerated or not.
+/// This many guards, opened and closed one by one, accelerated or not.
 pub(crate) fn passes<T: Holds>(
     domain: &Domain<T>,
     local: &mut Local<T>,
@@ -193,7 +193,7 @@ pub(crate) const LATE_FLAG: Table = Table {
     ],
 };
 
-/// The last counts are told apart, up to the end. What waits then isn't reclaimed by guards, whoever has retired it; the
+/// The last counts are distinguished, up to the end. What waits then isn't reclaimed by guards, whoever has retired it; the
 /// place is closed with it.
 pub(crate) const LAST_COUNTS: Table = Table {
     participants: 2,

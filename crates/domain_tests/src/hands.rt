@@ -177,7 +177,7 @@ fn own(
     }
 }
 
-/// A new cell of an item, which is back where there is none.
+/// A new cell of an item, which is returned where there is none.
 fn make(
     domain: &Domain<u64>,
     local: &mut Local<u64>,
@@ -330,7 +330,7 @@ pub(crate) fn share(
     (owner, found)
 }
 
-/// The same, where the pointer is back if there is none.
+/// The same, where the pointer is returned if there is none.
 pub(crate) fn try_share(
     domain: &Domain<u64>,
     local: &mut Local<u64>,

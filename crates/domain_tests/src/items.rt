@@ -17,7 +17,7 @@ use sdd_domain::local::Local;
 use sdd_domain::shared::Shared;
 use sdd_plain::sizes::Sizes;
 
-/// The sizes of a place for so many participants and items.
+/// The sizes of a place for this many participants and items.
 pub(crate) fn sized(participants: u8, slots: u8) -> Sizes
     requires { 1 ≤ participants }
     ensures { IsSized result }
@@ -103,7 +103,7 @@ pub(crate) const FULL: Table = Table {
     ])],
 };
 
-/// What a participant left when it ended goes to another one, which was registered before.
+/// What a participant left when it ended is taken over by another one, which was registered before.
 pub(crate) const LEFT_TO_ANOTHER: Table = Table {
     participants: 2,
     slots: 1,
@@ -123,7 +123,7 @@ pub(crate) const LEFT_TO_ANOTHER: Table = Table {
     ])],
 };
 
-/// A participant ends twice before any closing scans: what it left both times goes to the other one together.
+/// A participant ends twice before any closing scans: what it left both times is taken over by the other one together.
 pub(crate) const LEFT_TWICE: Table = Table {
     participants: 2,
     slots: 2,
@@ -150,7 +150,7 @@ pub(crate) const LEFT_TWICE: Table = Table {
     ])],
 };
 
-/// What an ended participant left goes to the next one at the first closing that scans, with age 0, so the fourth opening
+/// What an ended participant left is taken over by the next one at the first closing that scans, with age 0, so the fourth opening
 /// reclaims it.
 pub(crate) const LEFT_BEHIND: Table = Table {
     participants: 1,

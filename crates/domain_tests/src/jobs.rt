@@ -51,7 +51,7 @@ fn counting(runs: &Arc<AtomicU64>) -> Result<Count, AllocError> {
     })
 }
 
-/// Defers a job under an accelerated guard of its own. It is back where no slot is free.
+/// Defers a job under an accelerated guard of its own. It is returned where no slot is free.
 fn deferred(domain: &Domain<Count>, local: &mut Local<Count>, job: Count) -> Result<(), Count>
     requires home { (home_of local.old ≡ place_of domain.now) × (hand_of local.old ≡ []) }
     requires closed { (own_of local.old).nesting ≡ 0 }
@@ -97,7 +97,7 @@ fn passed(domain: &Domain<Count>, local: &mut Local<Count>, runs: &AtomicU64) ->
     run
 }
 
-/// The same so many times: how many jobs have run once the last one is open.
+/// The same this many times: how many jobs have run once the last one is open.
 fn passes(domain: &Domain<Count>, local: &mut Local<Count>, runs: &AtomicU64, guards: u32) -> u64
     requires home { (home_of local.old ≡ place_of domain.now) × (hand_of local.old ≡ []) }
     requires closed { (own_of local.old).nesting ≡ 0 }
@@ -200,11 +200,11 @@ enum Play {
     Threads,
 }
 
-/// What is done in a place for so many participants, with so many slots; what is found, and how many jobs have run when the
+/// What is done in a place for this many participants, with this many slots; what is found, and how many jobs have run when the
 /// place is ended.
 type Row = (u8, u8, Play, Found, u64);
 
-/// Whether it goes as the row says.
+/// Whether it takes the course that the row says.
 fn is_right<R: Threads + Abort + Sync>(rt: &R, alloc: Global, row: &Row) -> bool {
     assert!(rt; row.0 > 0);
     let runs = Arc::new(alloc, AtomicU64::new(0)).expect(rt, ROOM);

@@ -10,7 +10,7 @@ use sdd_domain::local::Local;
 use sdd_domain::shared::Shared;
 use sdd_plain::sizes::Sizes;
 
-/// Places and releases so many items, as far as slots are free.
+/// Places and releases this many items, as far as slots are free.
 fn retire(domain: &Domain<u64>, local: &mut Local<u64>, items: u32)
     requires home { (home_of local.old ≡ place_of domain.now) × (hand_of local.old ≡ []) }
     requires closed { (own_of local.old).nesting ≡ 0 }
@@ -38,7 +38,7 @@ fn in_use(domain: &Domain<u64>, local: &mut Local<u64>) -> [usize; 3]
     [before, third, domain.slots_in_use()]
 }
 
-/// Registers so many participants beside each other, each of which retires ten items; then they end.
+/// Registers this many participants beside each other, each of which retires ten items; then they end.
 fn leave(domain: &Domain<u64>, participants: u32) {
     if participants == 0 {
         return;

@@ -199,7 +199,7 @@ impl<'d> Stage<'d> {
         self.sum > 0
     }
 
-    /// What is told of the cell.
+    /// What is answered of the cell.
     fn ask(&mut self, act: Act) -> Found
         ensures stays { Stays self.old.here self.new.here }
     {

@@ -5,7 +5,7 @@ use sdd_plain::tag::Tag;
 /// What a step finds.
 #[derive(Clone, Copy, PartialEq, Eq)]
 pub(crate) enum Found {
-    /// Nothing is told, or nothing is there.
+    /// Nothing is answered, or nothing is there.
     Nothing,
     Yes,
     No,
@@ -18,7 +18,7 @@ pub(crate) enum Found {
 /// hand, and two for cells, of which the first one is meant where a cell is.
 #[derive(Clone, Copy)]
 pub(crate) enum Act {
-    /// Places an item, whose owner is in hand: or the item is back, where no slot is free.
+    /// Places an item, whose owner is in hand: or the item is returned, where no slot is free.
     Place(u64),
     /// The same by the call that asks a closure for the item: or whether the closure is called, where no slot is free.
     PlaceWith(u64),
@@ -33,9 +33,9 @@ pub(crate) enum Act {
     Third,
     /// Whether there is a new cell that owns nothing.
     Null,
-    /// Whether there is a new cell that owns what the owner in hand did, which is back where there is none.
+    /// Whether there is a new cell that owns what the owner in hand did, which is returned where there is none.
     Own,
-    /// Makes a cell of an item: the one that is back, where no slot or cell is free.
+    /// Makes a cell of an item: the one that is returned, where no slot or cell is free.
     Make(u64),
     /// Takes the cell's owner into the hand, and gives the cell back.
     Take,
@@ -60,7 +60,7 @@ pub(crate) enum Act {
     HandOver,
     /// Opens a guard and closes it, accelerated or not: the epoch that it saw.
     Pass(bool),
-    /// The same so many times: nothing is told.
+    /// The same this many times: nothing is told.
     Passes(bool, u8),
     /// What the cell's item is, under a guard of its own.
     Peek,
@@ -72,7 +72,7 @@ pub(crate) enum Act {
     Alternate,
     /// Passes two accelerated guards: whether the second one saw the epoch behind that of the first.
     Raise,
-    /// Reclaims what so many participants left that aren't registered.
+    /// Reclaims what this many participants left that aren't registered.
     Sweep(u8),
     /// How often threads did what they were to do when that was done last; and whether the cell's item is this.
     Sum,
@@ -86,7 +86,7 @@ pub(crate) enum Task {
     Nothing,
     /// Reads once the item of the owner in hand, which is this.
     Reads(u64),
-    /// Opens an accelerated guard, under which the epoch goes on by one at most.
+    /// Opens an accelerated guard, under which the epoch is raised by one at most.
     Stays,
     /// The same, as another participant each time.
     ComesAndGoes,
@@ -156,7 +156,7 @@ pub(crate) enum View {
     /// Whether there is one more owner of the pointer's item, which is in hand; and of the cell's.
     Share,
     ShareCell,
-    /// The same of the pointer's item by the call that hands the pointer back: nothing is told where another one is back.
+    /// The same of the pointer's item by the call that hands the pointer back: nothing is told where another one is returned.
     TryShare,
     /// Whether there is one more cell that owns what the cell does, which is the second one.
     CloneCell,

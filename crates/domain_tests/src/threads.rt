@@ -103,7 +103,7 @@ fn found(
     }
 }
 
-/// So many turns of one participant: how often the task was done. None if something was wrong, or no participant was free.
+/// This many turns of one participant: how often the task was done. None if something was wrong, or no participant was free.
 fn turns(scene: &Scene, task: Task, turns: u32) -> Option<u32> {
     let Scene {
         domain,
@@ -151,7 +151,7 @@ pub(crate) fn done(scene: &Scene, task: Task) -> Option<u32> {
     Some(done)
 }
 
-/// Four threads open a thousand accelerated guards each, and the count goes on behind them.
+/// Four threads open a thousand accelerated guards each, and the count continues behind them.
 pub(crate) const STEADY: Table = Table {
     participants: 4,
     slots: 0,

@@ -11,7 +11,7 @@ use thiserror::Error;
 /// Prices by the numbers of articles.
 pub(crate) type Prices = LocalIndex<u64, u64, 64>;
 
-/// The same, closed where they are let go.
+/// The same, closed where they are dropped.
 pub(crate) type Scope = ScopedIndex<u64, u64, 64>;
 
 #[derive(Debug, Drop, Error)]
@@ -66,7 +66,7 @@ fn repeat(
     Ok(follower.commit(&Receipt::blank(alloc), writes)?.number)
 }
 
-/// Makes what the leader made since, and tells how many transactions that were.
+/// Makes what the leader made since, and returns how many transactions that were.
 pub(crate) fn follow<R: Print>(
     rt: &R,
     alloc: Global,

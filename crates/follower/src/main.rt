@@ -1,4 +1,4 @@
-//! A follower: an index that begins with the base of another one, and goes on by its feed of transactions.
+//! A follower: an index that begins with the base of another one, and follows its feed of transactions.
 #![tactic(auto)]
 
 mod follower;

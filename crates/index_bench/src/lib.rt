@@ -34,7 +34,7 @@ pub extern "C" fn index_bench_get(alloc: Global, keys: &[u64], probes: &[u64], r
     sum
 }
 
-/// Goes through a tree of these keys, `rounds` times, and gives the sum of the values.
+/// Walks through a tree of these keys, `rounds` times, and gives the sum of the values.
 #[unsafe(no_mangle)]
 pub extern "C" fn index_bench_walk(alloc: Global, keys: &[u64], rounds: u32) -> u64 {
     let tree = built(alloc, keys);
@@ -86,7 +86,7 @@ pub extern "C" fn index_bench_upsert(alloc: Global, keys: &[u64], rounds: u32) -
     walk(&tree, 0)
 }
 
-/// A queue of so many keys, a thousand apart: in each round the least goes, and one above the greatest comes. Gives
+/// A queue of this many keys, a thousand apart: in each round the least is removed, and one above the greatest is added. Gives
 /// the least key of all in the end.
 #[unsafe(no_mangle)]
 pub extern "C" fn index_bench_queue(alloc: Global, count: u32, rounds: u32) -> u64 {
@@ -194,7 +194,7 @@ fn remove_all(tree: &mut TreeIndex<u64, u64>, keys: &[u64]) {
     }
 }
 
-/// How many pairs a clone of the tree has: 0 where memory is refused.
+/// How many pairs a clone of the tree has: 0 if an allocation fails.
 #[inline(never)]
 fn cloned(tree: &TreeIndex<u64, u64>, alloc: Global) -> usize {
     match tree.clone(alloc) {

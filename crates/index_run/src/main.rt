@@ -5,7 +5,7 @@ use index_script::run::{outcome, run};
 use std::io::{self, IsTerminal};
 use std::process::ExitCode;
 
-// What a terminal shows before anything is typed. It goes to standard error: standard output has replies alone.
+// What a terminal shows before anything is typed. It is written to standard error: standard output has replies only.
 const HELP: &str =
     "index_run: type lines such as 'insert 1 ten' and 'commit -'; docs/SCRIPT.md lists all. Ctrl-D ends.\n";
 

@@ -20,7 +20,7 @@ writes_given_back (replies.Refused refused) staged = refused.writes.items
 writes_given_back (replies.NoSession back) staged = back.items
 writes_given_back reply staged = staged
 
--- on an index whose segments have so many pairs at most
+-- on an index whose segments have at most this many pairs
 module _ (width : ℕ) where
   -- a line is acted on, and its reply written
   pub record Answers (old : Script) (line : List ℕ) (writer writer' : Option (List ℕ)) (new : Script) : Type 0 where

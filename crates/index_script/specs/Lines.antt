@@ -11,7 +11,7 @@ abbrev pub joined_lines : List (List ℕ) → List ℕ → List ℕ
 joined_lines [] rest = rest
 joined_lines (line ∷ lines) rest = line ++ 10 ∷ joined_lines lines rest
 
--- the input begins with these lines, each ended by its LF, and goes on with the rest
+-- the input begins with these lines, each ended by its LF, and continues with the rest
 pub record Begins (input : List ℕ) (lines : List (List ℕ)) (rest : List ℕ) : Type 0 where
   pub whole : input ≡ joined_lines lines rest
   pub unbroken : AllByRecursion (Lacks 10) lines

@@ -39,7 +39,7 @@ staged_text count = codes "staged " ++ decimal count ++ codes "\n"
 abbrev pub discarded_text : ℕ → List ℕ
 discarded_text count = codes "discarded " ++ decimal count ++ codes "\n"
 
--- what a write was told, behind a space
+-- the reply to a write, after a space
 abbrev pub told_text : Reply → List ℕ
 told_text told.Inserted = codes " inserted"
 told_text told.Duplicate = codes " duplicate"
@@ -68,7 +68,7 @@ abbrev pub pair_texts : List (ℕ × List ℕ) → List ℕ
 pair_texts [] = []
 pair_texts (pair ∷ pairs) = pair_text pair ++ pair_texts pairs
 
--- what stands at a key or around it, and the pairs, the smaller key first
+-- the pair at a key, or those around it, and the pairs, the smaller key first
 abbrev pub near_text : Near ℕ (List ℕ) → List ℕ
 near_text (nears.Exact key value) = codes "exact\n" ++ pair_text (key, value)
 near_text (nears.Between key value larger other) = codes "between\n" ++ pair_text (key, value) ++ pair_text (larger, other)

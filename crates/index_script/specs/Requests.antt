@@ -128,7 +128,7 @@ form_of Reclaim = Alone
 form_of Slots = Alone
 form_of Checkpoint = WithNumber
 
--- what stands behind the first word and a space has as many words as belong there
+-- what follows the first word and a space has as many words as belong there
 abbrev pub FitsForm : Form → List ℕ → Type 0
 FitsForm Alone rest = ⊥
 FitsForm WithNumber rest = Lacks 32 rest
@@ -174,7 +174,7 @@ MissesNumber line = (command : Command) × (rest : List ℕ) × (line ≡ name_o
 abbrev pub MissesBound : List ℕ → Type 0
 MissesBound line = (command : Command) × (rest : List ℕ) × (line ≡ name_of command ++ 32 ∷ rest) × HasNoBound (form_of command) rest
 
--- why what stands behind the first word isn't what belongs there
+-- why what follows the first word isn't what belongs there
 abbrev pub IsUnfit : Form → List ℕ → Fault → Type 0
 IsUnfit form rest faults.Words = FitsForm form rest → ⊥
 IsUnfit form rest faults.Number = HasNoNumber form rest

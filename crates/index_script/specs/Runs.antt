@@ -10,7 +10,7 @@ use Rattle.index_script.specs.Script.{Script, ActsOnLine, Outputs}
 abbrev pub IsNextLine : List ℕ → List ℕ → Type 0
 IsNextLine line rest = Lacks 10 line × ((rest ≡ line) ⊎ ((more : List ℕ) × (rest ≡ line ++ 10 ∷ more)))
 
--- on an index whose segments have so many pairs at most
+-- on an index whose segments have at most this many pairs
 module _ (width : ℕ) where
   -- the output of these lines was written
   pub record Answered (old : Script) (lines : List (List ℕ)) (writer writer' : Option (List ℕ)) (new : Script) : Type 0 where
@@ -77,7 +77,7 @@ status_of (Err errors.Read) = 1
 status_of (Err errors.Write) = 1
 status_of (Err errors.Memory) = 2
 
--- what it tells on standard error
+-- what it writes to standard error
 abbrev pub complaint_of : Result (Unit {0}) RunError → List ℕ
 complaint_of (Ok done) = []
 complaint_of (Err errors.Read) = codes "index_run: read\n"

@@ -57,7 +57,7 @@ pub record Discards (old : Script) (text : List ℕ) (new : Script) : Type 0 whe
 abbrev pub at_next : Script → Script
 at_next old = record old { line = old.line + 1 }
 
--- on an index whose segments have so many pairs at most
+-- on an index whose segments have at most this many pairs
 module _ (width : ℕ) where
   -- a request is met with this reply; where no label is named, none is printed
   abbrev pub Meets : Script → Request → List ℕ → Script → Type 0
@@ -83,7 +83,7 @@ module _ (width : ℕ) where
   Meets old (requests.Checkpoint upto) text new = Plays old 0 (CheckpointStep nat_cmp width old.machine upto) text new
   Meets old (requests.Faulty fault) text new = (new ≡ old) × (text ≡ fault_text old.line fault)
 
-  -- a line has this reply, and the script goes on so
+  -- a line has this reply, and the script continues so
   abbrev pub ActsOnLine : Script → List ℕ → List ℕ → Script → Type 0
   ActsOnLine old line text new = (request : Request) × LineAsksFor line request × Meets (at_next old) request text new
 

@@ -1,4 +1,4 @@
-//! Lines, as the bytes of them come in.
+//! Lines, as their bytes are read.
 
 ghost use Rattle.std.specs.Prelude.{◌≡◌, ◌++◌, ◌∷◌, [], None, Some, List, ℕ, IfSome, IfNone, OnOk, IsTrue, ◌↔◌};
 ghost use Rattle.std.specs.Option.{option_map};
@@ -10,7 +10,7 @@ use std::marker::Model;
 /// How many bytes a line may have, without its LF.
 pub const LONGEST: usize = 65_536;
 
-/// What has come in of a line. Contracts see it as the bytes, or as none where they are more than a
+/// What was read of a line so far. Contracts see it as the bytes, or as none where they are more than a
 /// line may have: then they aren't kept.
 #[derive(Drop)]
 pub struct Begun {
@@ -30,7 +30,7 @@ impl Model for Begun {
 }
 
 impl Begun {
-    /// A line of which nothing has come in.
+    /// A line of which nothing was read yet.
     pub fn new(alloc: Global) -> Self
         ensures { result ≡ kept [] }
     {
@@ -75,7 +75,7 @@ impl Begun {
         }
     }
 
-    /// Whether nothing has come in.
+    /// Whether nothing was read yet.
     pub fn is_empty(&self) -> bool
         ensures { IsTrue result ↔ (self.now ≡ kept []) }
     {

@@ -35,7 +35,7 @@ pub enum Fault {
 }
 
 impl Fault {
-    /// The word that tells it.
+    /// The word for it in a reply.
     pub fn word(self) -> &'static str
         ensures { result.now ≡ word_of self }
     {
@@ -73,7 +73,7 @@ pub enum Request {
     Open(u64),
     /// To read this key by the session with this label, which comes first.
     Get(u64, u64),
-    /// To tell whether a key is there, by the session with the label, which comes first.
+    /// To say whether a key is there, by the session with the label, which comes first.
     Has(u64, u64),
     /// To read the pairs within these bounds by the session with this label.
     Range(u64, Bound<u64>, Bound<u64>),
@@ -84,13 +84,13 @@ pub enum Request {
     Audit(u64),
     /// To close the session with this label.
     Close(u64),
-    /// To tell how many pairs the session with this label reads.
+    /// To say how many pairs the session with this label reads.
     Len(u64),
-    /// To tell the number of the session with this label.
+    /// To say the number of the session with this label.
     Number(u64),
     /// To reclaim slots.
     Reclaim,
-    /// To tell how many slots are in use.
+    /// To say how many slots are in use.
     Slots,
     /// To make the list of this number the base.
     Checkpoint(u64),

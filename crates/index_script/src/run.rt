@@ -32,8 +32,8 @@ pub enum RunError {
 // How many bytes are read at a time.
 const PIECE: usize = 4096;
 
-/// Runs the script that the reader gives on an empty index for so many sessions at a time and with
-/// so many slots, and writes its output.
+/// Runs the script that the reader gives on an empty index for at most `places` sessions at a time and with
+/// `slots` slots, and writes its output.
 ///
 /// The reply of each line is written before the next is acted on, and nothing is held back. A line
 /// at fault takes no memory but what its bytes are read into. A run makes at most 4,294,967,295
@@ -42,7 +42,7 @@ const PIECE: usize = 4096;
 /// - Without an error, the reader is at its end and each line is answered, also a last one without
 ///   LF.
 /// - `Read`: the complete lines of what was read are answered, and the begun one is dropped.
-/// - `Write`: what went out is a beginning of the output, which breaks off in the reply of one
+/// - `Write`: what was written is a beginning of the output, which breaks off in the reply of one
 ///   line.
 /// - `Memory`: the lines before the one that wanted it are answered.
 pub fn run<const S: usize, R: Read, W: Write>(
@@ -206,7 +206,7 @@ fn send<W: Write>(writer: &mut W, bytes: &[u8]) -> Result<(), RunError>
     Ok(())
 }
 
-/// The status that a program ends with after a run, and what it tells on standard error.
+/// The status that a program ends with after a run, and what it writes to standard error.
 pub fn outcome(ended: &Result<(), RunError>) -> (u8, &'static str)
     ensures status { result.0 ≡ status_of ended.now }
     ensures text { result.1.now ≡ complaint_of ended.now }

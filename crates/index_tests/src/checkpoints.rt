@@ -238,7 +238,7 @@ const UPSERT_11: &[Write<u64, u64>] = &[Write::Upsert(1, 11)];
 
 const UPSERT_12: &[Write<u64, u64>] = &[Write::Upsert(1, 12)];
 
-// What came behind a number is told from the base on.
+// What came after a number is returned from the base on.
 const FEED: Table = Table {
     about: "the transactions behind a number are told",
     places: 0,

@@ -106,7 +106,7 @@ fn upserts<'c>(
     Ok(writes)
 }
 
-// Whether each look-up of a number finds this value, or nothing, by so many comparisons at most.
+// Whether each look-up of a number finds this value, or nothing, by this many comparisons at most.
 fn is_looked_up<'c, const S: usize>(
     index: &LocalIndex<CountedKey<'c>, u64, S>,
     session: &Session<CountedKey<'c>, u64>,
@@ -134,7 +134,7 @@ fn is_looked_up<'c, const S: usize>(
 }
 
 // Whether the look-ups of the keys from 0 to one above the last answer as the list does, where those from 1 on are there, each
-// by so many comparisons at most.
+// by this many comparisons at most.
 fn are_looked_up<'c, const S: usize>(
     index: &LocalIndex<CountedKey<'c>, u64, S>,
     session: &Session<CountedKey<'c>, u64>,
@@ -154,7 +154,7 @@ fn are_looked_up<'c, const S: usize>(
     right
 }
 
-// An index of so many keys, which one commit puts in, if there are any.
+// An index of this many keys, which one commit puts in, if there are any.
 fn index_of<'c, R: Abort, const S: usize>(
     rt: &R,
     alloc: Global,
@@ -175,7 +175,7 @@ fn index_of<'c, R: Abort, const S: usize>(
     index
 }
 
-// Whether keys are looked up by so many comparisons at most in an index of so many.
+// Whether keys are looked up by this many comparisons at most in an index of this many.
 fn look_up_among<R: Abort, const S: usize>(
     rt: &R,
     alloc: Global,

@@ -16,7 +16,7 @@ pub(crate) struct Dice {
     pub(crate) keys: u64,
     // how many writes a commit has at most
     writes: u64,
-    // one write in so many is of a range, or of all keys
+    // one write in this many is of a range, or of all keys
     wide: u64,
     // whether checkpoints are made
     pub(crate) bases: bool,

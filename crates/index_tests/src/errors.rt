@@ -2,8 +2,10 @@
 
 use crate::scene::Scene;
 use local_index::{
-    Cause, DeskCall, LocalIndex, NoPlace, ReadSet, Receipt, Refused, ScopedIndex, Write,
+    Cause, CheckpointRefused, DeskCall, DeskRefused, LocalIndex, NoPlace, PastRefused, ReadSet,
+    Receipt, Refused, ScopedIndex, SinceRefused, Write,
 };
+use local_versions::StoreRefused;
 use std::alloc::{AllocError, Global};
 use std::fmt;
 use std::process::Abort;
@@ -61,6 +63,47 @@ fn said(alloc: Global) -> Result<usize, AllocError> {
 #[test]
 fn refusals_say_what_stands_after_them(rt: HostRuntime) -> Result<(), Fail> {
     assert_eq!(rt; said(rt.alloc())?, 5);
+    Ok(())
+}
+
+// What a refused checkpoint says, and refused reads of older numbers.
+fn said_of_older(alloc: Global) -> Result<String, AllocError> {
+    let (behind, ahead) = (CheckpointRefused::Behind(2), CheckpointRefused::Ahead(5));
+    let (cut, old) = (CheckpointRefused::Memory, SinceRefused::TooOld(2));
+    let (outside, past) = (
+        PastRefused::from(SinceRefused::Ahead(5)),
+        PastRefused::Memory,
+    );
+    format!(in alloc; "{behind}|{ahead}|{cut}|{old}|{outside}|{past}")
+}
+
+const OLDER: &str = "the history begins at number 2; the index is as it was\
+    |the present number is 5; the index is as it was\
+    |memory was refused; the index is as it was\
+    |the history begins at number 2; the index is as it was\
+    |the present number is 5; the index is as it was\
+    |memory was refused; the index is as it was";
+
+// What is said where no store is made, and where a desk commits in vain.
+fn said_of_stores(alloc: Global) -> Result<String, AllocError> {
+    let (memory, slot) = (StoreRefused::Memory, StoreRefused::NoSlot);
+    let desk = DeskRefused::from(Refused::<u64, u64> {
+        cause: Cause::Exhausted,
+        writes: Vec::new(alloc),
+    });
+    format!(in alloc; "{memory}|{slot}|{desk}")
+}
+
+const STORES: &str = "memory was refused; there is no store\
+    |the version takes more slots; there is no store\
+    |the commit was refused: the last number is reached; the index is as it was";
+
+#[test]
+fn refusals_of_older_numbers_and_of_stores_say_what_stands_after_them(
+    rt: HostRuntime,
+) -> Result<(), Fail> {
+    assert_eq!(rt; said_of_older(rt.alloc())?.as_str(), OLDER);
+    assert_eq!(rt; said_of_stores(rt.alloc())?.as_str(), STORES);
     Ok(())
 }
 

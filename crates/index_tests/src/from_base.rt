@@ -22,16 +22,16 @@ const ROOM: &str = "memory";
 
 const FIVE: &[(u64, u64)] = &[(1, 10), (2, 20), (3, 30), (4, 40), (5, 50)];
 
-/// What is told where an index is to begin with a list.
+/// What is answered where an index is to begin with a list.
 #[derive(Clone, Copy)]
 enum Begun {
-    /// The index has so many slots in use, and answers these calls.
+    /// The index has this many slots in use, and answers these calls.
     With(usize, &'static [Row]),
-    /// There is no index, and the pairs come back.
+    /// There is no index, and the pairs are returned.
     Not(BaseCause),
 }
 
-/// A number and its list, how many slots an index of it is to have, and what is told.
+/// A number and its list, how many slots an index of it is to have, and what is answered.
 struct Case {
     number: u64,
     pairs: &'static [(u64, u64)],
@@ -230,7 +230,7 @@ fn followed<R: Abort>(rt: &R, alloc: Global) -> Numbers
     }
 }
 
-// It goes on where the other one was.
+// It continues where the other one was.
 const FOLLOWS: &[Row] = &[
     (Open(1), Opened(2)),
     (Look(1, 1), Seen(2, 1, Some(11))),
@@ -260,7 +260,7 @@ fn five<R: Abort>(rt: &R, alloc: Global, met: &mut bool) -> Vec<(u64, u64)> {
     }
 }
 
-// An index of the five pairs, with so many slots, made again of what comes back where memory was refused; else the cause.
+// An index of the five pairs, with this many slots, made again of what is returned where memory was refused; else the cause.
 fn begun_again<R: Abort>(
     rt: &R,
     alloc: Global,

@@ -26,7 +26,7 @@ fn based(alloc: Global) -> Result<TreeIndex<u64, u64>, AllocError> {
     let history = [transaction(alloc)?];
     let list = replay(alloc, &Base::empty(alloc), &history)?;
     let pairs = pairs_of(alloc, &list)?;
-    // what is read here tells the proof that the keys rise
+    // what is read here shows the proof that the keys rise
     let _rising = list.len();
     Base::new(1, pairs).tree(alloc)
 }

@@ -1,4 +1,4 @@
-//! Calls with many writes, many reads and many pairs: a body that gives up on them has another answer.
+//! Calls with many writes, many reads and many pairs: a body that can't do them has another answer.
 
 use crate::scene::Scene;
 use crate::table::Call::{Close, Open};
@@ -39,7 +39,7 @@ fn look_ups(
     }))
 }
 
-// Whether a call that isn't named by a row is told this.
+// Whether a call that isn't named by a row is answered this.
 fn is_answered(
     scene: &mut Scene<225>,
     call: DeskCall<u64, u64>,

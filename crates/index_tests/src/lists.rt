@@ -282,7 +282,7 @@ impl Lists {
         })
     }
 
-    /// A call, and what is to come of it, with so many slots in use.
+    /// A call, and what is to come of it, with this many slots in use.
     pub(crate) fn turn(
         &self,
         alloc: Global,
@@ -376,7 +376,7 @@ impl Lists {
         Ok(())
     }
 
-    // Notes an accepted commit that leaves so many pairs.
+    // Notes an accepted commit that leaves this many pairs.
     fn count_accepted(&mut self, pairs: usize, room: &Room) {
         if pairs > room.segment {
             self.meets(SEVERAL);

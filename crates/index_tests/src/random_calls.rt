@@ -70,7 +70,7 @@ fn replied<const S: usize>(
     }
 }
 
-// Makes one call on both, and tells whether they answer the same.
+// Makes one call on both, and returns whether they answer the same.
 fn play<const S: usize>(
     scene: &mut Scene<S>,
     lists: &mut Lists,
@@ -97,7 +97,7 @@ fn is_based<const S: usize>(scene: &Scene<S>, lists: &Lists) -> bool {
         && lists.base.saturating_add(behind as u64) == lists.number()
 }
 
-// Reclaims, and tells whether that leaves as few slots in use as it has to.
+// Reclaims, and returns whether that leaves as few slots in use as it has to.
 fn reclaim<const S: usize>(scene: &mut Scene<S>, lists: &Lists) -> bool {
     let before = scene.index.slots_in_use();
     scene.reclaim();
@@ -225,7 +225,7 @@ fn thrown_by(
     Ok(Thrown::Play(call))
 }
 
-// Makes a call at random, and tells whether the index answers as the lists do.
+// Makes a call at random, and returns whether the index answers as the lists do.
 fn step<const S: usize>(
     scene: &mut Scene<S>,
     lists: &mut Lists,
@@ -240,7 +240,7 @@ fn step<const S: usize>(
     }
 }
 
-// Makes many calls, and tells how many are answered as the lists do before the first that isn't, and what was met.
+// Makes many calls, and returns how many are answered as the lists do before the first that isn't, and what was met.
 fn steps<const S: usize>(
     scene: &mut Scene<S>,
     start: Start,
@@ -257,7 +257,7 @@ fn steps<const S: usize>(
     Ok((ROUNDS, lists.met))
 }
 
-// An index that begins so, with so many slots.
+// An index that begins so, with this many slots.
 fn scene_of<R: Abort, const S: usize>(
     rt: &R,
     alloc: Global,
@@ -270,7 +270,7 @@ fn scene_of<R: Abort, const S: usize>(
     }
 }
 
-// Makes many calls on an index that begins so, with so many slots.
+// Makes many calls on an index that begins so, with this many slots.
 fn plays<R: Abort, const S: usize>(
     rt: &R,
     alloc: Global,

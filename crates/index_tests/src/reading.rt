@@ -55,7 +55,7 @@ fn gone_along(reading: &Reader<'_>) -> (u64, u64) {
     (all, some)
 }
 
-// Whether a key stands between two pairs, whose keys are these.
+// Whether a key is between two pairs, whose keys are these.
 fn stands_between(reading: &Reader<'_>, key: u64) -> Option<(u64, u64)> {
     match reading.locate(&key) {
         Nearby::Between(at) => match (at.get(), at.get_back()) {

@@ -34,7 +34,7 @@ impl Scene<2> {
         (self.index.slots_in_use(), seen, number, pairs.len())
     }
 
-    // What a call tells, made again where its memory was refused.
+    // What a call answers, made again where its memory was refused.
     fn wanted_again(&mut self, call: Call, told: Told) -> Replied {
         match wanted(self.alloc, call, told) {
             Ok(reply) => Ok(reply),
@@ -100,7 +100,7 @@ impl Scene<2> {
         }
     }
 
-    // Whether a call tells what is wanted, though any one allocation may be refused.
+    // Whether a call answers what is wanted, though any one allocation may be refused.
     fn insists(&mut self, call: Call, told: Told) -> bool {
         let found = match call {
             Look(_, _) | Base => return self.answers(call, told),
@@ -129,7 +129,7 @@ impl Scene<2> {
     }
 }
 
-// Whether an allocation was refused while the calls of a table were made, each of which tells what is wanted, and then those
+// Whether an allocation was refused while the calls of a table were made, each of which answers what is wanted, and then those
 // that take no memory, each of which is made once.
 pub(crate) fn insisted<R: Abort>(rt: &R, alloc: Global, rows: &[Row], once: &[Row]) -> bool {
     let mut scene = Scene::<2>::new(rt, alloc, 2, 16, u64::MAX);

@@ -17,7 +17,7 @@ impl Room {
         self.after == self.before
     }
 
-    /// How many slots a version of so many pairs takes at most.
+    /// How many slots a version of this many pairs takes at most.
     pub(crate) fn of(&self, pairs: usize) -> usize {
         pairs
             .checked_div(self.segment.saturating_add(1))
@@ -26,20 +26,20 @@ impl Room {
             .saturating_add(2)
     }
 
-    /// Whether a commit of these writes, which leave so many pairs, finds fewer free slots than it may take.
+    /// Whether a commit of these writes, which leave this many pairs, finds fewer free slots than it may take.
     pub(crate) fn is_short_for(&self, pairs: usize, writes: &[Write<u64, u64>]) -> bool {
         self.slots < self.before.saturating_add(self.of(pairs))
             && self.slots < self.before.saturating_add(room_of_writes(writes))
     }
 
-    /// Whether an accepted commit of these writes, which leave so many pairs, took no more slots than it may.
+    /// Whether an accepted commit of these writes, which leave this many pairs, took no more slots than it may.
     pub(crate) fn suffices(&self, pairs: usize, writes: &[Write<u64, u64>]) -> bool {
         self.after <= self.before.saturating_add(self.of(pairs))
             && self.after <= self.before.saturating_add(room_of_writes(writes))
             && self.after <= self.slots
     }
 
-    /// How many slots a version of so many pairs has at least: those of full segments, and its directory's.
+    /// How many slots a version of this many pairs has at least: those of full segments, and its directory's.
     pub(crate) fn least_of(&self, pairs: usize) -> usize {
         pairs
             .checked_div(self.segment)

@@ -45,7 +45,7 @@ fn index_of<R: Abort, const S: usize>(
     }
 }
 
-// A desk for so many sessions, tried again likewise.
+// A desk for this many sessions, tried again likewise.
 fn desk_of<R: Abort>(rt: &R, alloc: Global, places: usize, met: &mut bool) -> Desk<u64, u64>
     ensures { result ≡ replicate places None }
 {
@@ -62,7 +62,7 @@ fn desk_of<R: Abort>(rt: &R, alloc: Global, places: usize, met: &mut bool) -> De
 }
 
 impl<const S: usize> Scene<S> {
-    /// A new index with so many places and slots, up to a last number.
+    /// A new index with this many places and slots, up to a last number.
     pub(crate) fn new<R: Abort>(
         rt: &R,
         alloc: Global,
@@ -78,7 +78,7 @@ impl<const S: usize> Scene<S> {
         Scene::of(rt, alloc, index, (places, met))
     }
 
-    /// An index that begins with the list of a number, with so many places and slots.
+    /// An index that begins with the list of a number, with this many places and slots.
     pub(crate) fn holding<R: Abort>(
         rt: &R,
         alloc: Global,
@@ -97,7 +97,7 @@ impl<const S: usize> Scene<S> {
         }
     }
 
-    /// An index with so many places, of which none has a session, and a desk for it. Memory may have been refused before.
+    /// An index with this many places, of which none has a session, and a desk for it. Memory may have been refused before.
     pub(crate) fn of<R: Abort>(
         rt: &R,
         alloc: Global,
@@ -192,7 +192,7 @@ impl<const S: usize> Scene<S> {
         is_told(self.alloc, &reply, call, told)
     }
 
-    /// Makes a call, and tells whether it answers what is wanted. Where memory is refused, it doesn't.
+    /// Makes a call, and returns whether it answers what is wanted. Where memory is refused, it doesn't.
     pub(crate) fn answers(&mut self, call: Call, told: Told) -> bool {
         match (call, told) {
             (Call::Look(label, key), Told::Seen(number, len, value)) => {

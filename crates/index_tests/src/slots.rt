@@ -337,7 +337,7 @@ const TAKEN_OVER: Table = Table {
     ]],
 };
 
-// A commit of this many writes, each of which splits a segment of one pair, where so many of a hundred slots are in use.
+// A commit of this many writes, each of which splits a segment of one pair, where this many of a hundred slots are in use.
 const NO_WRITE: Table = Table {
     about: "a commit of nothing takes one slot",
     places: 1,

@@ -46,8 +46,8 @@ pub(crate) enum Call {
     Commit(&'static [Write<u64, u64>]),
     CommitOn(u64, &'static [Claim], &'static [Write<u64, u64>]),
     CommitOf(u64, &'static [Write<u64, u64>]),
-    /// A commit of inserts of the keys from 1 to this one, each its own value; of so many even keys, from 2 on; and of
-    /// upserts of so many odd keys, from 1 on, with the value 7.
+    /// A commit of inserts of the keys from 1 to this one, each its own value; of this many even keys, from 2 on; and of
+    /// upserts of this many odd keys, from 1 on, with the value 7.
     InsertTo(u64),
     InsertEven(u64),
     UpsertOdd(u64),
@@ -71,7 +71,7 @@ pub(crate) enum Told {
     Opened(u64),
     NoPlace,
     Busy,
-    /// No session has the label, and the writes of a commit come back.
+    /// No session has the label, and the writes of a commit are returned.
     NoSession,
     /// The number of the receipt, and its reads.
     Closed(u64, &'static [Claim]),
@@ -81,9 +81,9 @@ pub(crate) enum Told {
     Number(u64),
     Len(usize),
     Accepted(u64, &'static [Reply]),
-    /// So many writes that were accepted, each with this reply.
+    /// This many writes that were accepted, each with this reply.
     All(u64, usize, Reply),
-    /// The writes come back.
+    /// The writes are returned.
     Refused(Cause),
     Audited(Audit),
     Slots(usize),
@@ -93,7 +93,7 @@ pub(crate) enum Told {
     Ahead(u64),
     /// The number of the base, and its pairs.
     Based(u64, &'static [(u64, u64)]),
-    /// The writes of each transaction, or why they aren't told.
+    /// The writes of each transaction, or why they aren't returned.
     Fed(&'static [&'static [Write<u64, u64>]]),
     Unfed(SinceRefused),
 }
@@ -221,7 +221,7 @@ pub(crate) fn read_of(label: u64, query: Query<u64>) -> DeskCall<u64, u64> {
     }
 }
 
-// So many times this reply.
+// This many times this reply.
 fn repeated(alloc: Global, reply: Reply, count: usize) -> Result<Vec<Reply>, AllocError> {
     let mut replies = Vec::new(alloc);
     for _ in 0..count {
@@ -290,7 +290,7 @@ pub(crate) fn is_told(
     }
 }
 
-// Makes the calls of a table, in order, and tells how many answer what is wanted before the first that doesn't, and how many
+// Makes the calls of a table, in order, and returns how many answer what is wanted before the first that doesn't, and how many
 // there are.
 fn play<const S: usize>(scene: &mut Scene<S>, parts: &[&[Row]]) -> (usize, usize) {
     let mut right = 0usize;
@@ -306,7 +306,7 @@ fn play<const S: usize>(scene: &mut Scene<S>, parts: &[&[Row]]) -> (usize, usize
     (right, played)
 }
 
-/// Plays tables, each on a new index with so many pairs in a segment: what the first is about that has a row that isn't
+/// Plays tables, each on a new index with this many pairs in a segment: what the first is about that has a row that isn't
 /// right, and the number of that row.
 pub(crate) fn first_wrong<R: Abort, const S: usize>(
     rt: &R,

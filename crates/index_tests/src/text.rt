@@ -62,7 +62,7 @@ fn read_from<R: Abort>(
     (format!(in alloc; "{answer:?}").expect(rt, ROOM), receipt)
 }
 
-// What a book has from a name on, in print; whether an audit finds that again; and what commits are told on that read, of a pair
+// What a book has from a name on, in print; whether an audit finds that again; and the answers to commits on that read, of a pair
 // outside it, of one inside, and then of nothing.
 type Found = (String, Audit, [Result<(u64, bool), Cause>; 3]);
 

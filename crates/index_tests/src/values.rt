@@ -1,4 +1,4 @@
-//! What an index is asked and what it tells, as values: cloned, compared and printed.
+//! What an index is asked and what it answers, as values: cloned, compared and printed.
 
 use local_index::{
     Accepted, Answer, Audit, Cause, DeskCall, DeskReply, Near, Query, ReadSet, Reads, Receipt,

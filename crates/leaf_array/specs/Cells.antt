@@ -1,4 +1,4 @@
--- What a contract sees of an array: its reachable pairs by rising keys, and where they stand.
+-- What a contract sees of an array: its reachable pairs in ascending order of keys, and their places.
 use Rattle.std.specs.Prelude.{◌≡◌, refl, ℕ, zero, suc, ◌+◌, ◌==◌, ◌<◌, ◌||◌, ◌&&◌, not, Bool, true, false, cond, nat_lt, List, [], ◌∷◌, ◌++◌, Option, Some, None, MatchOption, length}
 use Rattle.std.specs.declared.cmp.Ordering.{Ordering}
 use Rattle.std.specs.Option.{is_some, option_or}
@@ -26,7 +26,7 @@ cells_code {K} {V} k v =
     (λ p. record { pairs = p.0; used = p.1.0; frozen = p.1.1.0; retired = p.1.1.1.0; labels = p.1.1.1.1.0; tombstones = p.1.1.1.1.1 })
     (λ _. refl)
 
--- what a contract sees of an iterator: the labels that it goes through, the word taken at its start, and the rank at which it stands
+-- what a contract sees of an iterator: the labels that it visits, the word taken at its start, and the rank that it is at
 pub record Tour : Type 0 where
   pub labels : List (ℕ × ℕ)
   pub word : ℕ
@@ -44,7 +44,7 @@ higher rank labels = length (filter (λ l. nat_lt rank l.1) labels)
 abbrev pub lower : ℕ → List (ℕ × ℕ) → ℕ
 lower rank labels = cond (rank == 0) (length labels) (length (filter (λ l. nat_lt l.1 rank) labels))
 
--- an iterator goes to the label that it seeks and gives its slot, or stays where there is none
+-- an iterator moves to the label that it seeks and gives its slot, or stays if there is none
 abbrev pub StepsTo : (Tour → Option (ℕ × ℕ)) → Tour → Option ℕ → Tour → Type 0
 StepsTo seek s slot t = MatchOption (seek s) ((slot ≡ None) × (t ≡ s)) (λ l. (slot ≡ Some l.0) × (t ≡ record s { rank = l.1 }))
 
@@ -64,7 +64,7 @@ abbrev pub fresh_labels : ℕ → ℕ → List (ℕ × ℕ)
 fresh_labels place zero = []
 fresh_labels place (suc n) = (slot_of place, place + 1) ∷ fresh_labels (place + 1) n
 
--- how many labels stand before the one of a slot
+-- how many labels come before the one of a slot
 abbrev pub standing : ℕ → List (ℕ × ℕ) → ℕ
 standing slot [] = 0
 standing slot (l ∷ ls) = cond (l.0 == slot) 0 (suc (standing slot ls))

@@ -446,10 +446,7 @@ impl<K: Ord, V> Array<K, V> {
 
     /// Moves the pairs behind the first `at` to an array of their own, as `Vec::split_off` does. Both are packed.
     ///
-    /// ```
-    /// // of the keys 1 to 5
-    /// let upper = array.split_off(2); // 3, 4, 5; the array keeps 1, 2
-    /// ```
+    /// Of the keys 1 to 5, `split_off(2)` returns 3, 4 and 5, and the array keeps 1 and 2.
     pub fn split_off(&mut self, at: usize) -> Self
     where
         K: Drop,

@@ -7,7 +7,7 @@ ghost use Rattle.leaf_array.specs.Words.{word};
 use crate::array::Array;
 use std::marker::Model;
 
-/// Goes through the reachable slots of an array by rising rank.
+/// An iterator over the reachable slots of an array, by ascending rank.
 #[derive(Drop)]
 pub struct ArrayIter<'a, K: Ord, V> {
     array: &'a Array<K, V>,
@@ -44,7 +44,7 @@ impl<'a, K: Ord, V> ArrayIter<'a, K, V> {
         self.word
     }
 
-    /// Goes back to the start.
+    /// Moves to the start.
     pub fn rewind(&mut self)
         ensures { self.new ≡ record self.old { rank = 0 } }
     {
@@ -92,7 +92,7 @@ impl<'a, K: Ord, V> Iterator for ArrayIter<'a, K, V> {
     }
 }
 
-/// Goes through the reachable slots of an array by falling rank.
+/// An iterator over the reachable slots of an array, by descending rank.
 #[derive(Drop)]
 pub struct ArrayRevIter<'a, K: Ord, V> {
     array: &'a Array<K, V>,
@@ -129,7 +129,7 @@ impl<'a, K: Ord, V> ArrayRevIter<'a, K, V> {
         self.word
     }
 
-    /// Goes back to the start.
+    /// Moves to the start.
     pub fn rewind(&mut self)
         ensures { self.new ≡ record self.old { rank = 0 } }
     {

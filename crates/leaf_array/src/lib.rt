@@ -4,21 +4,38 @@
 //! and what a read of a list answers; every structure of the crates above states itself by them.
 //! [`plain`] computes them slowly, and is what faster bodies are tested against.
 //!
-//! An [`Array`] has fifteen places. Its reachable pairs stand there by rising keys, so a search is a
-//! handful of comparisons and an insertion moves what is greater up by one. A pair that is removed
+//! An [`Array`] has fifteen places. Its reachable pairs are there in ascending order of keys, so a search is
+//! a handful of comparisons, and an insertion moves what is greater up by one. A pair that is removed
 //! or replaced keeps its place, its slot and its bit until the array is packed, cut or dropped:
 //! so an array with few pairs can be full. Each place has a slot, which is given out in the order of
 //! insertion, and each reachable one a rank, which rises with the keys. The word of ranks by slots
 //! is worked out where a call asks for it.
 //!
+//! <!-- crates/tree_tests/src/array/text.rt texts remove is_itself -->
+//! ```text
+//! /// An array of these texts.
+//! fn texts(all: &[&'static str]) -> Texts {
+//!     let mut array = Array::new();
+//!     for text in all {
+//!         let _inserted = array.insert::<false>(*text, *text);
+//!     }
+//!     array
+//! }
+//!
+//! /// The answer to a removal of a text, if this is its value.
+//! fn remove(array: &mut Texts, text: &'static str, wanted: &'static str) -> RemoveResult {
+//!     array.remove_if(&text, |value| *value == wanted)
+//! }
+//!
+//! /// Whether the pair of a text is the text twice, if there is one.
+//! fn is_itself(array: &Texts, text: &'static str) -> Option<bool> {
+//!     match array.search_entry(&text) {
+//!         Some((key, val)) => Some(*key == text && *val == text),
+//!         None => None,
+//!     }
+//! }
 //! ```
-//! let mut array: Array<u64, &str> = Array::new();
-//! array.insert::<false>(2, "two");
-//! array.insert::<false>(1, "one");
-//! array.search_val(&1); // Some(&"one")
-//! array.remove_if(&2, |_| true); // RemoveResult::Success
-//! array.remove_if(&1, |_| true); // RemoveResult::Retired
-//! ```
+//! <!-- end -->
 #![tactic(auto)]
 
 mod array;

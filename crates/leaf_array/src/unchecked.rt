@@ -57,8 +57,8 @@ impl<K: Ord, V> Array<K, V> {
         self.place(at, key, val);
     }
 
-    /// Puts clones of so many pairs of another array, from one on, behind all others, without a search. It says how many:
-    /// fewer where memory is refused. All used places have reachable pairs.
+    /// Appends clones of `count` pairs of another array, from the one at `from` on, without a search. Answers how many:
+    /// fewer if an allocation fails. All used places have reachable pairs.
     pub fn extend_last(&mut self, source: &Self, from: usize, count: usize) -> usize
     where
         K: Clone + Drop,

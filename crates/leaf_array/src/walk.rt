@@ -11,7 +11,7 @@ use leaf_slots::slot_of;
 impl<K: Ord, V> Array<K, V> {
     /// Freezes the array, and lends its pairs to `dist` if `prepare` answers true.
     ///
-    /// `prepare` is called with what [`Array::optimal_boundary`] gives, and its answer comes back.
+    /// `prepare` is called with what [`Array::optimal_boundary`] gives, and its answer is returned.
     /// `dist` is called at each reachable key and value by rising keys, with the boundary and the
     /// place of the pair, counted from 0.
     pub fn distribute<P: FnOnce(u8, usize, bool) -> bool, F: FnMut(&K, &V, u8, u8)>(

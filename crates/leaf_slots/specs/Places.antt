@@ -105,19 +105,19 @@ module _ {K V : Type 0} where
   front_vacated (Dead s k v ∷ ps) = Dead s k v ∷ ps
   front_vacated (Live s g k v ∷ ps) = Empty ∷ ps
 
-  -- each live place with no gap and the slot of the bitmap place that it stands at, counted from n; the others empty
+  -- each live place with no gap and the slot of the bitmap place that it is at, counted from n; the others empty
   abbrev pub repacked : ℕ → List (Place K V) → List (Place K V)
   repacked n [] = []
   repacked n (Empty ∷ ps) = Empty ∷ repacked (n + 1) ps
   repacked n (Dead s k v ∷ ps) = Empty ∷ repacked (n + 1) ps
   repacked n (Live s g k v ∷ ps) = Live (slot_of n) 0 k v ∷ repacked (n + 1) ps
 
-  -- live places with these pairs, no gaps, and the slots of the bitmap places that they stand at, counted from n
+  -- live places with these pairs, no gaps, and the slots of the bitmap places that they are at, counted from n
   abbrev pub lined : ℕ → List (K × V) → List (Place K V)
   lined n [] = []
   lined n (p ∷ ps) = Live (slot_of n) 0 p.0 p.1 ∷ lined (n + 1) ps
 
-  -- how many live places at the front stand before the one with a slot
+  -- how many live places at the front come before the one with a slot
   abbrev pub stands : ℕ → List (Place K V) → ℕ
   stands slot [] = 0
   stands slot (Empty ∷ ps) = 0

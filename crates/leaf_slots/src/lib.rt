@@ -6,12 +6,7 @@
 //! pair was removed or replaced, keeps slot and pair until the places are numbered anew or cut.
 //! The row behind them is built one place at a time, with a trait for each kind of call.
 //!
-//! ```
-//! let mut slots: Slots<u64, &str> = Slots::new();
-//! let place = Place::Live { slot: slot_of(0), gap: 0, key: 1, value: "one" };
-//! slots.insert(0, place);
-//! slots.lower(&1, &mut Steps::new()); // (0, Some((&1, &"one")))
-//! ```
+//! An array of `leaf_array` has one value of it. Its page shows insertions and a removal of an array.
 #![tactic(auto)]
 
 mod place;

@@ -71,7 +71,7 @@ pub(crate) fn fill<K, V>(place: &mut Place<K, V>, with: Place<K, V>)
     }
 }
 
-/// Takes so many ranks more below a place's own, if it is live.
+/// Adds `more` ranks below a place's own, if it is live.
 #[inline(always)]
 pub(crate) fn widen<K, V>(place: &mut Place<K, V>, more: u16)
     requires { top (place.old ∷ []) + more ≤ 15 }

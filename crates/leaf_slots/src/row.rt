@@ -1,9 +1,9 @@
 //! Rows of places: a method is written once, for the last place and for a place with the rest of the row behind it.
 //!
-//! A place for each pair of type parameters stands in a field of its own: an array of them would ask each caller that it fits in memory.
-//! A row of fifteen compiles to straight code for all of them. A trait has one or two methods and says for itself
+//! A place for each pair of type parameters is in a field of its own: an array of them would ask each caller to prove that
+//! it fits in memory. A row of fifteen compiles to straight code for all of them. A trait has one or two methods and says for itself
 //! which places a row has, since the proof of a call goes through all methods of its trait, and of the traits that
-//! this one stands on, for each of the fifteen.
+//! this one depends on, for each of the fifteen.
 
 ghost use Rattle.std.specs.Prelude.{◌≡◌, List};
 

@@ -144,7 +144,7 @@ impl<K, V> Slots<K, V> {
         self.all.rank_beside(at, fresh, slot, 0)
     }
 
-    /// How many live places stand before the one with this slot.
+    /// How many live places come before the one with this slot.
     #[inline(always)]
     pub fn position(&self, slot: u8) -> usize
         ensures { result ≡ stands slot self.now }
@@ -178,8 +178,8 @@ impl<K, V> Slots<K, V> {
         self.all.insert(at, place);
     }
 
-    /// Puts clones of so many pairs of other places, from one on, into the empty places from `at` on, which get the slots of
-    /// their bitmap places and no gaps. It says how many: fewer where memory is refused.
+    /// Puts clones of `count` pairs of other places, from the one at `from` on, into the empty places from `at` on. These get
+    /// the slots of their bitmap places and no gaps. Answers how many: fewer if an allocation fails.
     // Out of line: it is straight code for fifteen places.
     #[inline(never)]
     pub fn extend(&mut self, at: usize, source: &Self, from: usize, count: usize) -> usize
@@ -199,7 +199,7 @@ impl<K, V> Slots<K, V> {
         self.all.extend(at, 0, source, from, count)
     }
 
-    /// Buries the live place `at`: its pair is dead, and stands behind the live ones.
+    /// Buries the live place `at`: its pair is dead, and is put behind the live ones.
     #[inline(always)]
     pub fn bury(&mut self, at: usize)
         requires rank { top (drop at self.old) ≤ 15 }

@@ -54,7 +54,7 @@ pub(crate) fn begun<const S: usize>(
     }
 }
 
-/// How many slots an index has whose commits end so, where its list takes so many: one more, or four times as many.
+/// How many slots an index has whose commits end so, where its list takes this many: one more, or four times as many.
 pub(crate) fn slots_of(ending: Ending, used: usize) -> usize {
     match ending {
         Ending::NoSlot => used.saturating_add(1),

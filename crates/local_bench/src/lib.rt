@@ -60,7 +60,7 @@ pub extern "C" fn local_bench_225(
     run::<225>(alloc, keys, probes, task, rounds, slots)
 }
 
-/// Makes commits of one upsert on an index of at most 64 pairs in a segment, one for each probe in each round, and tells how
+/// Makes commits of one upsert on an index of at most 64 pairs in a segment, one for each probe in each round, and returns how
 /// many ended as wanted. It begins with the keys, which must rise. The number of an ending is that of [`ending_of`].
 #[unsafe(no_mangle)]
 pub extern "C" fn local_bench_endings(
@@ -71,7 +71,7 @@ pub extern "C" fn local_bench_endings(
     rounds: u32,
 ) -> u64 {
     let ending = ending_of(ending);
-    // a first one tells how many slots the list takes
+    // a first one says how many slots the list takes
     let Some(first) = begun::<64>(alloc, keys, keys.len().saturating_add(2)) else {
         return 0;
     };

@@ -16,7 +16,7 @@ module _ {K V : Type 0} where
   RefusesPast s n pasts.Memory = Has s n
 
   module _ (cmp : K → K → Ordering) where
-    -- of a history of more than twice so many transactions as many stay; a shorter one stays whole
+    -- of a history of more than 2 * count transactions the last count are kept; a shorter one is kept whole
     pub record Trims (count : ℕ) (old new : State K V) : Type 0 where
       pub long : count + count < length old.history → Rebases cmp old (latest_number old - count) new
       pub short : length old.history ≤ count + count → new ≡ old
@@ -28,7 +28,7 @@ module _ {K V : Type 0} where
         pub accepts : Accepts cmp width old reads writes told between
         pub trims : Trims count between new ⊎ (new ≡ between)
 
-      -- a commit of these reads and writes that keeps so many transactions
+      -- a commit of these reads and writes, and a cut of the history to this many transactions
       abbrev pub CommitsKeeping : State K V → List (Read K V) → List (Write K V) → ℕ → Result Accepted (Refused K V) → State K V → Type 0
       CommitsKeeping old reads writes count (Ok told) new = AcceptsKeeping old reads writes count told new
       CommitsKeeping old reads writes count (Err back) new = Refuses cmp width old reads writes back new

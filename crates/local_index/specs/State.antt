@@ -113,7 +113,7 @@ module _ {K V : Type 0} where
     abbrev pub Audits : State K V → Receipt K V → Audit → Type 0
     Audits s receipt audit = histories.Audits cmp s.base s.history receipt audit
 
-    -- the base is the list of this number, and what came before is gone; sessions stay, and so do slots
+    -- the base is the list of this number, and what came before is dropped; sessions stay, and so do slots
     pub record Rebases (old : State K V) (upto : ℕ) (new : State K V) : Type 0 where
       pub has : Has old upto
       pub changed : new ≡ record old { base = base_at cmp old.base old.history upto; history = history_behind old.base old.history upto }
@@ -129,7 +129,7 @@ module _ {K V : Type 0} where
     MayAccept s reads = histories.MayAccept cmp (latest_number s) s.last (present s) reads
 
     module _ (width : ℕ) where
-      -- why a commit of these reads and writes may be refused, with so many pairs in a segment at most
+      -- why a commit of these reads and writes may be refused, with at most s pairs in a segment
       abbrev pub MayRefuse : State K V → List (Read K V) → List (Write K V) → Cause → Type 0
       MayRefuse s reads writes (causes.Conflict place) = histories.MayRefuse cmp (latest_number s) s.last (present s) reads (causes.Conflict place)
       MayRefuse s reads writes causes.Exhausted = histories.MayRefuse cmp (latest_number s) s.last (present s) reads causes.Exhausted

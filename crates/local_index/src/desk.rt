@@ -34,7 +34,7 @@ impl<K, V> Model for Desk<K, V> {
 }
 
 impl<K, V> Desk<K, V> {
-    /// A desk for an index with so many places. Fails only if an allocation fails.
+    /// A desk for an index with `places` places. Fails only if an allocation fails.
     pub fn new(alloc: Global, places: usize) -> Result<Self, AllocError>
         ensures { IfOk result (λ desk. desk ≡ replicate places None) }
     {

@@ -75,7 +75,7 @@ impl<K: Clone + Ord, V: Clone + Eq, const S: usize> Model for LocalIndex<K, V, S
 }
 
 impl<K: Clone + Ord, V: Clone + Eq, const S: usize> LocalIndex<K, V, S> {
-    /// An empty index, for so many sessions at a time and with so many slots, of which the empty
+    /// An empty index, for at most `places` sessions at a time and with `slots` slots, of which the empty
     /// version takes one. Its last number is `2^64 - 1`. Fails only if an allocation fails.
     pub fn new(alloc: Global, places: usize, slots: usize) -> Result<Self, AllocError>
         requires { IsStoreSized places slots S }
@@ -84,8 +84,8 @@ impl<K: Clone + Ord, V: Clone + Eq, const S: usize> LocalIndex<K, V, S> {
         Self::with_last(alloc, places, slots, u64::MAX)
     }
 
-    /// An empty index whose last number is the given one: so many commits are accepted, and the
-    /// next is `Exhausted`. Fails only if an allocation fails.
+    /// An empty index whose last number is the given one: it accepts at most that many commits, and
+    /// refuses the next as `Exhausted`. Fails only if an allocation fails.
     pub fn with_last(
         alloc: Global,
         places: usize,
@@ -182,7 +182,7 @@ impl<K: Clone + Ord, V: Clone + Eq, const S: usize> LocalIndex<K, V, S> {
         self.list_of(session).len()
     }
 
-    /// Where the key stands in the session's list, with a cursor there (as `locate` of a `TreeIndex`
+    /// Where the key is in the session's list, with a cursor there (as `locate` of a `TreeIndex`
     /// gives it). The read isn't recorded.
     pub fn locate<'a>(&'a self, session: &Session<K, V>, key: &K) -> Nearby<'a, K, V, S>
         requires { IsSessionOf self.now session.now }
@@ -245,7 +245,7 @@ impl<K: Clone + Ord, V: Clone + Eq, const S: usize> LocalIndex<K, V, S> {
     /// The causes are decided in this order: `Conflict` with the first read whose answer isn't that
     /// of the present list, whatever its number; `Exhausted` at the last number; `Memory`; `NoSlot`,
     /// only where fewer than `2 * (n / (S + 1)) + 2` slots are free, for the `n` pairs that the
-    /// writes leave, since no version of so many takes more; and only where fewer than `2 * w + 1`
+    /// writes leave, since no version of `n` pairs takes more; and only where fewer than `2 * w + 1`
     /// are, for `w` writes, since segments that no write touches are taken over.
     pub fn commit(
         &mut self,
@@ -437,7 +437,7 @@ impl<K: Clone + Ord, V: Clone + Eq, const S: usize> LocalIndex<K, V, S> {
         answer(self.alloc, &self.list_read_at(place, number), query)
     }
 
-    // The session with this number at this place goes.
+    // Ends the session with this number at this place.
     pub(crate) fn close_place(&mut self, place: usize, number: u64)
         requires { IsSessionAt self.old place number }
         ensures { Closes self.old place self.new }

@@ -5,7 +5,7 @@ ghost use Rattle.local_index.specs.Conflicts.{ChangedRangeDiffers, FirstPairsHol
 ghost use Rattle.local_index.specs.Feeds.{FeedLeadsToPresent};
 
 /// A receipt of an index's own session audits `Yes`, memory aside, whatever is committed
-/// meanwhile, or `TooOld` where a checkpoint has gone past its number: a session is the index's own when it opens, and each
+/// meanwhile, or `TooOld` where a checkpoint has passed its number: a session is the index's own when it opens, and each
 /// read keeps it so, and so do a commit, a checkpoint, and every call that leaves base, history and its place.
 pub fn own_receipts_audit_yes<K: Ord, V>()
     ensures opens { OpeningsAreOwn V K.cmp }
@@ -33,7 +33,7 @@ pub fn a_changed_range_is_a_conflict<K: Ord, V>()
 {}
 
 /// Whatever is written behind the first pairs of a recorded range, or before its last ones, is no conflict: the answer of a list is
-/// that of each that begins, or ends, with the same pairs, as long as these have so many of the range.
+/// that of each that begins, or ends, with the same pairs, if these pairs have that many of the range.
 pub fn pairs_beyond_a_part_are_no_conflict<K: Ord, V>()
     ensures first { FirstPairsHold V K.cmp }
     ensures last { LastPairsHold V K.cmp }

@@ -69,7 +69,7 @@ pub enum DeskReply<K, V> {
     Busy,
     /// The session is closed, and this is its receipt.
     Closed(Receipt<K, V>),
-    /// The label has no session. Nothing changed; the writes of a commit come back.
+    /// The label has no session. Nothing changed. It has the writes of a commit.
     NoSession(Vec<Write<K, V>>),
     /// What the session's list answers.
     Answer(Answer<K, V>),
@@ -81,11 +81,11 @@ pub enum DeskReply<K, V> {
     Refused(Refused<K, V>),
     /// Versions were reclaimed.
     Reclaimed,
-    /// So many slots are in use.
+    /// How many slots are in use.
     Slots(usize),
     /// The session's list has this number.
     Number(u64),
-    /// The session's list has so many pairs.
+    /// How many pairs the session's list has.
     Len(usize),
     /// The list of this number is the base.
     Checkpointed(u64),
@@ -97,9 +97,9 @@ pub enum DeskReply<K, V> {
 
 /// Makes the calls, one after the other, each at most once.
 ///
-/// The replies and what becomes of index and desk are a run of the model. Where memory is refused,
-/// also to a commit, the list ends: the replies so far are given, and the call that met it changed
-/// nothing. The desk has at least the index's places, and its sessions are the index's
+/// The replies and what becomes of index and desk are a run of the model. If an allocation
+/// fails, also that of a commit, the list ends: the replies so far are returned, and the call that failed
+/// changed nothing. The desk has at least the index's places, and its sessions are the index's
 /// (`Serves`); the index may have other sessions too.
 pub fn play_all<K: Clone + Ord, V: Clone + Eq, const S: usize>(
     alloc: Global,
@@ -132,7 +132,7 @@ pub fn play_all<K: Clone + Ord, V: Clone + Eq, const S: usize>(
 
 /// Makes one call: what [`play_all`] does of a list of one, without a list of calls or of replies.
 ///
-/// Where memory is refused, also to a commit, nothing has changed. What a session reads may be
+/// If an allocation fails, also that of a commit, nothing has changed. What a session reads may be
 /// refused it, an audit at a number that is there, and a commit that nothing else refuses; no other
 /// call takes any, and none by a label without a session.
 pub fn play_one<K: Clone + Ord, V: Clone + Eq, const S: usize>(
@@ -278,7 +278,7 @@ fn play_audit<K: Clone + Ord, V: Clone + Eq, const S: usize>(
     Ok(DeskReply::Audit(index.audit(receipt)?))
 }
 
-// Tells the number of the session under a label.
+// The number of the session under a label.
 fn play_number<K: Clone + Ord, V: Clone + Eq, const S: usize>(
     alloc: Global,
     index: &LocalIndex<K, V, S>,
@@ -293,7 +293,7 @@ fn play_number<K: Clone + Ord, V: Clone + Eq, const S: usize>(
     DeskReply::Number(index.number(&ticket.session))
 }
 
-// Tells how many pairs the session under a label reads.
+// How many pairs the session under a label reads.
 fn play_len<K: Clone + Ord, V: Clone + Eq, const S: usize>(
     alloc: Global,
     index: &LocalIndex<K, V, S>,

@@ -1,4 +1,4 @@
-//! A reader of an index, which closes its session where it is let go.
+//! A reader of an index, which closes its session where it is dropped.
 
 ghost use Rattle.std.specs.Prelude.{◌≡◌, ◌↔◌, None, [], length, slice_set, IfOk, IsErr, OnErr};
 ghost use Rattle.std.specs.Borrow.{sem};
@@ -24,7 +24,7 @@ use std::ops::Bound;
 
 /// A reader of the list that was present when it was made, by a session of the index that it borrows.
 ///
-/// Its session closes where it is let go, so nothing is asked of its reads, and nobody has to close it. While it is there,
+/// Its session closes where it is dropped, so nothing is asked of its reads, and nobody has to close it. While it is there,
 /// nobody else has the index; who wants to read beside commits, or by several sessions, takes
 /// [`open`](LocalIndex::open). `R` is how it keeps what it recorded, and is never written.
 pub struct Reading<
@@ -88,7 +88,7 @@ impl<'a, K: Clone + Ord, V: Clone + Eq, const S: usize> Reading<'a, K, V, S, Seq
         self.list().len()
     }
 
-    /// Where the key stands, with a cursor there (as `locate` of a `TreeIndex`). The read isn't recorded.
+    /// Where the key is, with a cursor there (as `locate` of a `TreeIndex`). The read isn't recorded.
     pub fn locate<'b>(&'b self, key: &K) -> Nearby<'b, K, V, S>
         ensures { IsLocated K.cmp key.now (list_read self.now) (as_proximity result) }
     {
@@ -152,7 +152,7 @@ impl<K: Clone + Ord, V: Clone + Eq, const S: usize> LocalIndex<K, V, S> {
     ghost use Rattle.local_index.specs.Lending.{rests_if_refused};
     ghost use Rattle.local_index.specs.Reading.{index_of, reference_of, session_of};
 
-    /// A reader of the present list, which closes its session where it is let go. It is refused if and only if no place
+    /// A reader of the present list, which closes its session where it is dropped. It is refused if and only if no place
     /// is free, and takes no memory.
     pub fn reading<'a>(&'a mut self) -> Result<Reading<'a, K, V, S>, NoPlace>
         ensures opens { IfOk result (λ r. Opens K.cmp self.old (session_of r) (index_of r)) }

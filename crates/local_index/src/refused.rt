@@ -17,12 +17,12 @@ pub enum DeskRefused<K, V> {
     /// The label has a session already.
     #[error("the label has a session already; the index is as it was")]
     Busy,
-    /// The label has no session. The writes of a commit come back.
+    /// The label has no session. It has the writes of a commit.
     #[error("the label has no session; the index is as it was")]
     NoSession(Vec<Write<K, V>>),
     /// The commit was refused.
     #[error(transparent)]
-    Commit(Refused<K, V>),
+    Commit(#[from] Refused<K, V>),
     /// The number of the checkpoint is below that of the base, which this is.
     #[error("the history begins at number {0}; the index is as it was")]
     Behind(u64),

@@ -9,7 +9,7 @@ use crate::index::LocalIndex;
 use crate::index::from_base::BaseRefused;
 use std::alloc::{AllocError, Global};
 
-/// An index that ends where it is let go, with the sessions that are open then.
+/// An index that ends where it is dropped, with the sessions that are open then.
 pub struct ScopedIndex<K: Clone + Ord, V: Clone + Eq, const S: usize> {
     /// The index.
     pub index: LocalIndex<K, V, S>,

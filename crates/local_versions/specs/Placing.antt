@@ -31,7 +31,7 @@ slots_in None is = is
 slots_in (Some i) is = i ∷ is
 
 module _ {K V : Type 0} {s : ℕ} where
-  -- the pairs of the segment in a slot, where these items stand in the slots
+  -- the pairs of the segment in a slot, where these items are in the slots
   abbrev pub pairs_in_slot : (ℕ → Option (Item K V s)) → Option ℕ → List (K × V)
   pairs_in_slot at None = []
   pairs_in_slot at (Some i) = segment_pairs (at i)
@@ -125,7 +125,7 @@ module _ {K V : Type 0} {s : ℕ} where
   abbrev pub list_alone : Plan K V s → List (K × V)
   list_alone p = list_planned (λ i. None) p
 
-  -- a version that takes nothing over: it can be placed anywhere, and its list doesn't depend on what stands there
+  -- a version that takes nothing over: it can be placed anywhere, and its list doesn't depend on what is there
   pub record StandsAlone (cmp : K → K → Ordering) (p : Plan K V s) : Type 0 where
     pub placeable : (w : State (Item K V s)) → IsPlaceable cmp w p
     pub list : (at : ℕ → Option (Item K V s)) → list_planned at p ≡ list_alone p
@@ -135,7 +135,7 @@ module _ {K V : Type 0} {s : ℕ} where
   HasPlaced (parts.Taken p) i w w' = (loaded_slot p ≡ Some i) × (n : ℕ) × (status_at w i ≡ status.Shared n) × (w' ≡ with_status i (status.Shared (n + 1)) w) × Frame w w'
   HasPlaced (parts.Made t) i w w' = IsPlace w × IsFree w i × (w' ≡ placed i (items.Segment t.value) (status.Shared 1) w) × Frame w w'
 
-  -- segments with these pairs stand in these slots, n of which are new, and their owners are in hand
+  -- segments with these pairs are in these slots, n of which are new, and their owners are in hand
   pub record StandsIn (n : ℕ) (slots : List ℕ) (blocks : List (List (K × V))) (w w' : State (Item K V s)) : Type 0 where
     pub adds : AddsItems n w w'
     pub segments : All (λ i. IsSegment (value_at w' i)) slots
@@ -143,7 +143,7 @@ module _ {K V : Type 0} {s : ℕ} where
     pub hold : map (λ i. segment_pairs (value_at w' i)) slots ≡ blocks
     pub counted : (hand : List Hold) → Counted held_by hand w → Counted held_by (reverse (map SharedItem slots) ++ hand) w'
 
-  -- a directory stands in this slot, which is the version of that number with that list
+  -- a directory is in this slot, which is the version of that number with that list
   pub record HasVersion (cmp : K → K → Ordering) (w : State (Item K V s)) (slot number : ℕ) (pairs : List (K × V)) : Type 0 where
     pub directory : Directory K Kept
     pub is : value_at w slot ≡ Some (items.Directory directory)

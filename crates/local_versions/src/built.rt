@@ -103,7 +103,7 @@ impl<K: Ord + Drop, V: Drop, const S: usize> Drop for Built<K, V, S> {
     }
 }
 
-/// The version that writes make of an older one, under the next number, and what they are told; refused where memory is.
+/// The version that writes make of an older one, under the next number, and the replies. Fails only if an allocation fails.
 /// Nothing is placed yet. Segments that no write touches are taken over, so the older version has to be there when it is
 /// placed.
 pub fn build<K: Clone + Ord + Drop, V: Clone + Drop, const S: usize>(
@@ -139,7 +139,7 @@ pub fn build<K: Clone + Ord + Drop, V: Clone + Drop, const S: usize>(
     ))
 }
 
-/// The version of clones of these pairs, whose keys rise, with number 0; refused where memory is. Nothing is placed yet. It
+/// The version of clones of these pairs, whose keys rise, with number 0. Fails only if an allocation fails. Nothing is placed yet. It
 /// takes nothing over, so it can be placed wherever there are the slots that it takes, and its segments are as few as can
 /// hold the pairs.
 pub fn build_list<K: Clone + Ord + Drop, V: Clone + Drop, const S: usize>(
@@ -198,7 +198,7 @@ impl<'a, K: Ord, V, const S: usize> Older<'a, K, V, S> {
         Older { w, dir }
     }
 
-    /// The separators tell the segments apart.
+    /// The separators lie between the segments.
     pub(crate) fn laws(&self)
         ensures { IsVersion K.cmp (value_at self.now.state) self.now.directory }
     {

@@ -4,16 +4,26 @@
 //! `2 * (n / (S + 1)) + 1` of them. A version is built beside the place, placed whole or not at all, and published by an
 //! exchange of the root; who reads an older one reads on.
 //!
+//! <!-- crates/kept_versions/src/main.rt before_and_after -->
 //! ```text
-//! let first = place(&mut world, Built::empty(alloc))?;                    // the empty list, in one slot
-//! let (built, replies) = build(alloc, &world, version(&world, &first), &writes)?;
-//! let second = place(&mut world, built)?;                                 // refused, it comes back
-//! let view = view_of(&world, version(&world, &second));
-//! view.get(&key);                                                         // one search of the directory, one of a tree
-//! view.walk(lower, upper);                                                // a cursor over the pairs within two bounds
-//! view.locate(&key);                                                      // a cursor at a key or at its neighbours
-//! publish(&mut world, &root, second, writer);
+//! // What a reader that opened before a write finds, and what the present version has. None where the write was refused.
+//! fn before_and_after(alloc: Global, store: &mut Store) -> Option<(Option<u64>, Option<u64>)>
+//!     requires { store.old.present.number < 2 ^ 64 - 1 }
+//! {
+//!     let _place = store.open()?; // keeps version 1
+//!     let written = store.write(alloc, &[Write::Upsert(1, 20)]);
+//!     let before = match store.latest_at(1) {
+//!         Some((_number, version)) => value(&version),
+//!         None => None,
+//!     };
+//!     let after = value(&store.present());
+//!     match written {
+//!         Ok(_replies) => Some((before, after)),
+//!         Err(_) => None,
+//!     }
+//! }
 //! ```
+//! <!-- end -->
 //!
 //! What reads a version is a [`VersionView`], whatever lends its segments ([`Trees`]). A [`LocalStore`] keeps a root, readers
 //! and the writer of versions in a place of one thread: `reads` reads, `built` and `placing` build and place, `store` keeps.

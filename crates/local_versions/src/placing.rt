@@ -22,7 +22,7 @@ use version_drafts::draft::{Part, Segments};
 use version_views::{Directory, Item, Segment};
 
 /// Places a version: its new segments, and then its directory, which owns them and those that it takes over. It takes no
-/// memory, and succeeds where so many slots are free as it takes; else nothing has changed, and the version comes back.
+/// memory, and succeeds if as many slots are free as it takes; else nothing has changed, and the version is returned.
 /// Condition: the segments that it takes over are there.
 pub fn place<K: Ord + Drop, V: Drop, const S: usize>(
     w: &mut World<Item<K, V, S>, NoJob>,
@@ -107,7 +107,7 @@ fn take_over<K: Ord + Drop, V: Drop, const S: usize>(
     }
 }
 
-/// Places a segment where a slot is free. There are few of them, and the others are many: so it stands apart, and the loop
+/// Places a segment where a slot is free. There are few of them, and the others are many: so it is a function of its own, and the loop
 /// over all stays short.
 #[inline(never)]
 fn place_segment<K: Ord + Drop, V: Drop, const S: usize>(

@@ -122,7 +122,7 @@ pub fn walk<'a, K: Ord, V, const S: usize>(
     version.walk(lower, upper)
 }
 
-/// Where a key stands among the pairs of a version: [`VersionView::locate`].
+/// Where a key is among the pairs of a version: [`VersionView::locate`].
 pub fn locate<'a, K: Ord, V, const S: usize>(
     w: &'a World<Item<K, V, S>, NoJob>,
     dir: &'a Directory<K, Kept>,

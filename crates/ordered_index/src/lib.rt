@@ -50,7 +50,7 @@
 //!     rt: &R,
 //!     index: &mut LocalIndex<u64, u64, 64>,
 //! ) -> Result<Receipt<u64, u64>, Failure> {
-//!     let mut reading = index.reading()?; // its session closes where it is let go
+//!     let mut reading = index.reading()?; // its session closes where it is dropped
 //!     look(rt, &mut reading)?;
 //!     Ok(reading.take_receipt())
 //! }

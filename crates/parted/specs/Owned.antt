@@ -14,14 +14,14 @@ use denote.Struct.Lending.{lent_at}
 abbrev pub tokens : ℕ → ℕ → Fml
 tokens a k = fex Share (λ q. fex (Counts 63 q k) (λ _. flft (a ∷ []) q))
 
--- who borrows tokens of life a for κ knows that a runs on until κ is over
+-- who borrows tokens of life a for κ knows that a lasts until κ is over
 abbrev pub life_shared : ℕ → Lft → Fml
 life_shared a κ = fshr_bor κ (λ q. flft (a ∷ []) q)
 
 abbrev pub over : ℕ → Fml
 over a = fdead (a ∷ [])
 
--- k tokens of life a come back once life d is over, and a runs on until then
+-- k tokens of life a are returned once life d is over, and a lasts until then
 abbrev pub pledge_owned : ℕ → ℕ → ℕ → Fml
 pledge_owned a k d = fsep (flent (d ∷ []) (tokens a k)) (life_shared a (d ∷ []))
 
@@ -29,6 +29,6 @@ pledge_owned a k d = fsep (flent (d ∷ []) (tokens a k)) (life_shared a (d ∷ 
 abbrev pub seen_owned : (R : RattleType) → Ptr → R.Denot → ℕ → Fml
 seen_owned R p x a = lent_at R p x (a ∷ [])
 
--- the value x at p comes back once life a is over, and with it goes the right to free its memory
+-- the value x at p is returned once life a is over, together with the right to free its memory
 abbrev pub deed_owned : (Ty → Ptr → Fml) → (R : RattleType) → Ptr → R.Denot → ℕ → Fml
 deed_owned frees R p x a = fsep (in_block p ftrue) (fsep (flent (a ∷ []) (lies_at R full_share p x)) (frees (raw (lone R.mir)) p))

@@ -6,7 +6,7 @@ ghost use Rattle.std.specs.Borrow.{ftrue};
 use std::marker::Model;
 
 /// A list of numbers, for contracts alone: it has no bytes, and its calls do nothing when they run. A type that keeps less
-/// than its clauses tell, as the ends of a chain alone, keeps the rest in one, in a private field.
+/// than its clauses say, as the ends of a chain alone, keeps the rest in one, in a private field.
 #[derive(Drop)]
 pub struct GhostList {
     pub ghost items: { List ℕ },

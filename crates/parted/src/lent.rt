@@ -7,7 +7,7 @@ use crate::raw::Seen;
 
 /// Parts that are away until a life is over, whose number is `pledge.until`. Meanwhile that life's tokens read the value.
 ///
-/// It can't be let go: [`Lent::recover`] gives the parts back.
+/// It can't be dropped: [`Lent::recover`] gives the parts back.
 pub struct Lent<T> {
     /// The value, at its address.
     pub seen: Seen<T>,

@@ -8,7 +8,7 @@ use std::marker::Model;
 
 /// Tokens of one life. A life has `2^63` of them, and ends by all of them: while one is held it can't end.
 ///
-/// Tokens can't be let go. `id` is the number of the life, and `count` how many tokens these are.
+/// Tokens can't be dropped. `id` is the number of the life, and `count` how many tokens these are.
 pub struct Life {
     pub ghost id: { ℕ },
     pub ghost count: { ℕ },
@@ -32,7 +32,7 @@ impl Model for Ended {
     ghost also_shares = { λ e _ _. over e.id };
 }
 
-/// `count` tokens of life `id`, which are away until life `until` is over. They can't be let go.
+/// `count` tokens of life `id`, which are away until life `until` is over. They can't be dropped.
 pub struct Pledge {
     pub ghost id: { ℕ },
     pub ghost count: { ℕ },
@@ -89,7 +89,7 @@ impl Life {
         Ended {}
     }
 
-    /// Gives these tokens away until another life is over. Until then theirs runs on.
+    /// Gives these tokens away until another life is over. Until then theirs lasts.
     pub fn pledge(self, until: &Life) -> Pledge
         ensures kept { (result.id ≡ self.id) × (result.count ≡ self.count) }
         ensures until { result.until ≡ until.now.id }

@@ -3,7 +3,7 @@ ghost use Rattle.std.specs.Prelude.{◌≡◌};
 
 use crate::part::Part;
 
-/// A part that is one by its type, so that whoever counts owners counts parts. It can't be let go.
+/// A part that is one by its type, so that whoever counts owners counts parts. It can't be dropped.
 pub struct One<T> {
     /// The part.
     pub part: Part<T>,

@@ -9,7 +9,7 @@ use std::alloc::Allocator;
 /// The right to read a value while this is held: what is seen, and tokens of the life that it is seen under.
 ///
 /// `seen.value` is the value, `life.id` names the round in which it is frozen, and `life.count` says how many
-/// of the `2^63` parts of that round these are. A part can't be let go: it is joined to another one, lent, or
+/// of the `2^63` parts of that round these are. A part can't be dropped: it is joined to another one, lent, or
 /// given to [`thaw`]. It takes the bytes of an address.
 pub struct Part<T> {
     /// The value, at its address.
@@ -19,7 +19,7 @@ pub struct Part<T> {
     ghost same: { seen.life ≡ life.id },
 }
 
-/// Freezes a value: nobody writes it until all its parts are back. The value stays where it is.
+/// Freezes a value: nobody writes it until all its parts are joined again. The value stays where it is.
 ///
 /// Answers with the right to have the box back, and all `2^63` parts of a new round. Takes no memory.
 pub fn freeze<T: Drop, A: Allocator>(whole: Box<T, A>) -> (Deed<T, A>, Part<T>)
@@ -79,7 +79,7 @@ impl<T> Part<T> {
         self.life.join(life);
     }
 
-    /// The other parts, which are of this round, as parts that see what this one sees.
+    /// Relabels `other`, a part of the same round, with the value that this part sees.
     ///
     /// That two parts of one round see one value isn't known otherwise.
     pub fn like(&self, other: Part<T>) -> Part<T>

@@ -6,7 +6,7 @@ use crate::life::{Ended, Life, Pledge};
 use std::alloc::Allocator;
 use std::marker::Model;
 
-/// A value that is read while life `life` is running. It can be had many times, and let go.
+/// A value that is read while life `life` is running. It can be copied, and dropped.
 #[derive(Drop)]
 pub struct Seen<T> {
     ptr: *const T,
@@ -20,7 +20,7 @@ impl<T> Model for Seen<T> {
     ghost also_shares = { λ s _ _. seen_owned T.row s.ptr s.value s.life };
 }
 
-/// The right to have a box back once life `life` is over, under which its value is read. It can't be let go.
+/// The right to have a box back once life `life` is over, under which its value is read. It can't be dropped.
 pub struct Deed<T, A: Allocator> {
     ptr: *mut T,
     alloc: A,

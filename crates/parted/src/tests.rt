@@ -1,4 +1,4 @@
-//! Tests of parts, of lives, and of reading from several threads. They stand in the crate, which is checked in a minute or two
+//! Tests of parts, of lives, and of reading from several threads. They are in the crate, which is checked in a minute or two
 //! with them.
 
 use super::*;

@@ -6,7 +6,7 @@ use std::io;
 use std::ops::Bound;
 use thiserror::Error;
 
-/// A key: that of a person, or that of a name in the secondary index. All persons stand before all names.
+/// A key: that of a person, or that of a name in the secondary index. All persons come before all names.
 #[derive(Clone, Debug, PartialEq, Eq, PartialOrd, Ord, Drop)]
 pub(crate) enum Key {
     Person(u64),

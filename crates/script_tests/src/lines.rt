@@ -1,4 +1,4 @@
-//! Lines and their replies, lines at fault, and what stands where a read or a write fails.
+//! Lines and their replies, lines at fault, and what is written where a read or a write fails.
 
 ghost use Rattle.std.specs.Prelude.{◌≡◌, ◌<◌, ◌+◌};
 
@@ -281,7 +281,7 @@ const FIVE: &[u8] =
 
 const FIVE_STAGED: &str = "staged 1\nstaged 2\nstaged 3\nstaged 4\nstaged 5\n";
 
-// Slots, and what is told then: five pairs take three segments of two pairs at most, and a directory.
+// Slots, and what is answered then: five pairs take three segments of two pairs at most, and a directory.
 const BY_SLOTS: [(usize, &str); 2] = [
     (4, "noslot\nnoslot\nopen 1 at 0\n"),
     (
@@ -344,7 +344,7 @@ fn each_cause_of_a_refusal_has_a_word(rt: HostRuntime) -> Result<(), Fail> {
     Ok(())
 }
 
-// A line `insert 1 ` with a value of so many bytes, and a short one behind it.
+// A line `insert 1 ` with a value of this many bytes, and a short one behind it.
 fn long_line(alloc: Global, value: usize) -> Result<Vec<u8>, RunError> {
     let mut input = Vec::from_elem(alloc, b'v', value).map_err(|_| RunError::Memory)?;
     let mut script = Vec::new(alloc);
@@ -361,7 +361,7 @@ fn long_line(alloc: Global, value: usize) -> Result<Vec<u8>, RunError> {
     output(alloc, script.as_slice())
 }
 
-// How many bytes a value has, and what is told then: with ten bytes more, the line is too long from the second one on.
+// How many bytes a value has, and what is answered then: with ten bytes more, the line is too long from the second one on.
 const LONG: [(usize, &str); 3] = [
     (65_527, "staged 1\nok 1 inserted\n"),
     (65_528, "line 1: long\nok 1\n"),

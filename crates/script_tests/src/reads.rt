@@ -84,7 +84,7 @@ const ASKS: &[u8] = b"insert 2 b\ninsert 1 a\ninsert 3 c\ncommit -\nopen 7\nrang
 
 const BEFORE: &str = "staged 1\nstaged 2\nstaged 3\nok 1 inserted inserted inserted\nopen 7 at 1\n";
 
-// Bounds, and what is told of the range.
+// Bounds, and what is answered of the range.
 const RANGES: [Row; 8] = [
     (b"* *", "pairs 3\n1 a\n2 b\n3 c\n"),
     (b"=2 =2", "pairs 1\n2 b\n"),

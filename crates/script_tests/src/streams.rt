@@ -57,7 +57,7 @@ fn answered(input: &[u8], at: usize, replies: &[usize]) -> usize {
     bytes
 }
 
-/// Looks that a failed read drops the begun line, wherever it is, where the replies have so many bytes each.
+/// Looks that a failed read drops the begun line, wherever it is, where the replies have this many bytes each.
 pub fn fails_anywhere<R: Abort>(
     rt: &R,
     alloc: Global,
@@ -120,7 +120,7 @@ pub struct Cut {
     pub input: &'static [u8],
     /// How many are given.
     pub given: usize,
-    /// How many stand before the cut.
+    /// How many are before the cut.
     pub cut: usize,
 }
 
@@ -137,7 +137,7 @@ impl Read for Cut {
     }
 }
 
-/// Gives one byte at a time, and fails once so many are given.
+/// Gives one byte at a time, and fails once this many are given.
 #[derive(Drop)]
 pub struct Fails {
     /// All bytes.
@@ -167,7 +167,7 @@ impl Read for Fails {
     }
 }
 
-/// Takes one byte at a time, and once so many are taken, none or an error.
+/// Takes one byte at a time, and once this many are taken, none or an error.
 #[derive(Drop)]
 pub struct Falters {
     /// What was taken.

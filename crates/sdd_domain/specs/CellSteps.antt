@@ -1,4 +1,4 @@
--- what calls tell of a participant's steps on cells
+-- what calls say of a participant's steps on cells
 use Rattle.std.specs.Prelude.{◌≡◌, ◌⊎◌, ◌≤◌, ℕ, ◌++◌, ◌∷◌, [], List, All, length}
 use Rattle.domain_table.specs.Layout.{cell_word}
 pub use Rattle.domain_table.specs.Layout.{packed, NamesWith}
@@ -34,7 +34,7 @@ step_on l cell w v = record { word = cell_word (home_of l).1 cell; found = w; le
 abbrev pub IsReadOf : {T : Type 0} → Local T → ℕ → CellStep → Type 0
 IsReadOf l cell x = x ≡ step_on l cell x.found x.found
 
--- it made one step, which read this cell: it had this tag and named what this code tells
+-- it made one step, which read this cell: it had this tag and named what this code says
 abbrev pub HasReadCell : {T : Type 0} → Local T → ℕ → ℕ → ℕ → Local T → Type 0
 HasReadCell old cell t k new = (w : ℕ) × NamesWith w t k × HasMade old (step_on old cell w w ∷ []) new
 
@@ -42,7 +42,7 @@ HasReadCell old cell t k new = (w : ℕ) × NamesWith w t k × HasMade old (step
 abbrev pub HasStored : {T : Type 0} → Local T → ℕ → ℕ → ℕ → ℕ → Local T → Type 0
 HasStored old cell w t k new = (v : ℕ) × NamesWith v t k × HasMade old (step_on old cell w v ∷ []) new
 
--- and that word had that tag and named what that code tells
+-- and that word had that tag and named what that code says
 abbrev pub HasExchanged : {T : Type 0} → Local T → ℕ → ℕ → ℕ → ℕ → ℕ → Local T → Type 0
 HasExchanged old cell t k t' k' new = (w : ℕ) × NamesWith w t k × HasStored old cell w t' k' new
 
@@ -50,11 +50,11 @@ HasExchanged old cell t k t' k' new = (w : ℕ) × NamesWith w t k × HasStored 
 abbrev pub HasOnlyRead : {T : Type 0} → Local T → ℕ → Local T → Type 0
 HasOnlyRead old cell new = (xs : List CellStep) × All (IsReadOf old cell) xs × HasMade old xs new
 
--- it read this cell some times, and did nothing else to cells: the last time it had this tag and named what this code tells
+-- it read this cell some times, and did nothing else to cells: the last time it had this tag and named what this code says
 abbrev pub HasFoundLast : {T : Type 0} → Local T → ℕ → ℕ → ℕ → Local T → Type 0
 HasFoundLast old cell t k new = (xs : List CellStep) × (w : ℕ) × All (IsReadOf old cell) xs × NamesWith w t k × HasMade old (xs ++ step_on old cell w w ∷ []) new
 
--- it read this cell so many times at least, and did nothing else to cells
+-- it read this cell at least this many times, and did nothing else to cells
 abbrev pub HasReadOften : {T : Type 0} → Local T → ℕ → ℕ → Local T → Type 0
 HasReadOften old cell n new = (xs : List CellStep) × All (IsReadOf old cell) xs × (n ≤ length xs) × HasMade old xs new
 

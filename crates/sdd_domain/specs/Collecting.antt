@@ -26,7 +26,7 @@ held_in c = map garbage_told (bag_in c.calm.badge.views)
 abbrev pub slot_in : {T : Type 0} → Shared T → ℕ
 slot_in s = s.slot
 
--- at this count, what was noted three or more below is gone, from the first that came on; what has been there the longest of the others wasn't
+-- at this count, what was noted three or more below is taken out, from the oldest on; the oldest of the others wasn't noted so
 abbrev pub IsSwept : ℕ → List (ℕ × ℕ) → List (ℕ × ℕ) → Type 0
 IsSwept count old kept = (gone : List (ℕ × ℕ)) × (old ≡ kept ++ gone) × ((t : ℕ × ℕ) → Has gone t → t.1 + 3 ≤ count) × ((ts : List (ℕ × ℕ)) (t : ℕ × ℕ) → kept ≡ ts ++ t ∷ [] → count < t.1 + 3)
 

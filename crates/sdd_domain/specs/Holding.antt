@@ -3,7 +3,7 @@ use Rattle.std.specs.Prelude.{◌≡◌, ℕ, List, [], ◌∷◌, ◌++◌, map
 use Rattle.std.specs.Mem.{manually_drop_value}
 use Rattle.sdd_domain.specs.declared.held.Held.{Held}
 
--- one that an item holds, told by the slot and the round of its item
+-- an owner that an item holds, as the slot and the round of the owned item
 abbrev pub told_of : {T : Type 0} → Held T → ℕ × ℕ
 told_of h = (h.slot, h.part.part.life.id)
 
@@ -11,7 +11,7 @@ told_of h = (h.slot, h.part.part.life.id)
 abbrev pub IsHeldOf : {T : Type 0} → Held T → T → Type 0
 IsHeldOf h x = IsSomeAnd h.part.part.seen.value (λ m. manually_drop_value m ≡ x)
 
--- how an item that gives these up from the last one on tells them
+-- the owners of an item that hands these over from the last one on
 abbrev pub all_told : {T : Type 0} → List (Held T) → List (ℕ × ℕ)
 all_told hs = reverse (map told_of hs)
 

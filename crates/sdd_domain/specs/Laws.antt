@@ -1,4 +1,4 @@
--- what stands between any two steps of any threads, in a place of items of some type
+-- what holds between any two steps of any threads, in a place of items of some type
 use Rattle.std.specs.Prelude.{◌≡◌, ◌≢◌, ℕ, ◌+◌, ◌<◌, ◌≤◌, List, slice_index}
 use mathlib.Core.Option.{some}
 use lib.ListN.{get_elem?}

@@ -62,7 +62,7 @@ waiting_of l = length l.seat.me.0.waits
 abbrev pub participant_of : Guard → ℕ
 participant_of g = g.participant
 
--- the nest of guards that are open within one outermost one, as a guard and the participant tell it: which participant's, and which of its nests
+-- the nest of guards that are open within one outermost one, as a guard and the participant name it: which participant's, and which of its nests
 abbrev pub nest_of : Guard → ℕ × ℕ
 nest_of g = (g.participant, g.life.id)
 

@@ -38,7 +38,7 @@ fn take_cell<T: Holds>(domain: &Domain<T>, misses: &mut Tally) -> Option<usize>
 /// How often it is tried to set a tag before the last time: each time others may be faster.
 const TRIES: u64 = u64::MAX;
 
-/// A cell of a place: it owns an item, or nothing. Its type tells which items its place has.
+/// A cell of a place: it owns an item, or nothing. Its type says which items its place has.
 pub struct AtomicShared<T> {
     pub(crate) cell: usize,
     of: PhantomData<T>,
@@ -73,7 +73,7 @@ impl<T: Holds> AtomicShared<T> {
         }
     }
 
-    /// A cell that owns this item, without a tag. The owner is back where there is no cell, which is a miss.
+    /// A cell that owns this item, without a tag. Returns the owner if no cell is free, which is a miss.
     pub fn from(
         domain: &Domain<T>,
         owner: Shared<T>,
@@ -97,7 +97,7 @@ impl<T: Holds> AtomicShared<T> {
         Ok(cell)
     }
 
-    /// A cell that owns a new item, without a tag. The item is back where there is no cell or no free slot, which is a miss.
+    /// A cell that owns a new item, without a tag. Returns the item if no cell or no slot is free, which is a miss.
     /// Condition: it holds just the owners that are in the participant's hand.
     pub fn new(domain: &Domain<T>, item: T, local: &mut Local<T>) -> Result<AtomicShared<T>, T>
         requires home { home_of local.old ≡ place_of domain.now }
@@ -266,7 +266,7 @@ impl<T: Holds> AtomicShared<T> {
         self.load(domain, guard, local).get_shared(domain, local)
     }
 
-    /// Swaps what the cell owns and its tag, in one step: the owner and the tag go in, and those that it had come out.
+    /// Swaps what the cell owns and its tag, in one step: the owner and the tag are put in, and those that it had are returned.
     pub fn swap(
         &self,
         domain: &Domain<T>,
@@ -287,10 +287,10 @@ impl<T: Holds> AtomicShared<T> {
     }
 
     /// Swaps what the cell owns and its tag for `new`, in one step, where it names the item of `current`, or nothing where
-    /// that is to nothing, and has its tag: the owner that it had comes out, and with it what the cell names from then on.
-    /// Else the cell stays as it is: the owner is back, and with it the pointer that was found. It is one try: where other
+    /// that is to nothing, and has its tag: the owner that it had is returned, and with it what the cell names from then on.
+    /// Else the cell stays as it is, and the call returns the owner with the pointer that was found. It is one try: where other
     /// threads change the cell during the call, it may be refused though the cell was as `current` before and is so again,
-    /// and what was found may be equal to `current`. Pointers tell items by their slots, so both are of one place. It takes
+    /// and what was found may be equal to `current`. Pointers name items by their slots, so both are of one place. It takes
     /// no memory.
     pub fn compare_exchange<'g>(
         &self,
@@ -351,8 +351,8 @@ impl<T: Holds> AtomicShared<T> {
     }
 
     /// Sets the tag, in one step, where `f` answers true of the pointer that is found: whether it did. Where other threads
-    /// changed the cell since that pointer was loaded it tries again, and asks anew; after `2^64` times it gives up, and
-    /// tells that it didn't. What the cell owns stays.
+    /// changed the cell since that pointer was loaded it tries again, and asks anew. After `2^64` times it stops, and
+    /// answers false. What the cell owns stays.
     pub fn update_tag_if<'g, F: Fn(Ptr<'g, T>) -> bool>(
         &self,
         domain: &Domain<T>,

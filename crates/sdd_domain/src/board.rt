@@ -4,7 +4,7 @@ use crate::holds::Holds;
 use domain_table::board;
 use domain_table::holding::Holding;
 
-/// Items hold what their `Holds` tells.
+/// Items hold what their `Holds` says.
 pub struct Told;
 
 impl<T: Holds> Holding<T> for Told {

@@ -89,7 +89,7 @@ pub(crate) fn try_tag<T: Holds>(
 }
 
 /// Swaps what a cell owns and its tag, in one step, where its word is `expected`, and gives the owner that it had. Else
-/// that step loaded the cell: the owner that was brought is back, and with it which row is that of the item that was
+/// that step loaded the cell, and the call returns the owner that was passed in, with the row of the item that was
 /// found, if one was, and the tag that was. First comes the number of the spare slot that is the participant's now.
 pub(crate) fn exchange_owner<T: Holds>(
     words: &Words<T>,

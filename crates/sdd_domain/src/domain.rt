@@ -22,7 +22,7 @@ use sdd_plain::sizes::Sizes;
 use std::alloc::{AllocError, Global};
 use std::sync::atomic::AtomicBool;
 
-/// A place that threads share by `&`. It can't be let go: `close` ends it.
+/// A place that threads share by `&`. It can't be dropped: `close` ends it.
 pub struct Domain<T: Holds> {
     pub(crate) table: Board<T>,
     pub(crate) sizes: Sizes,
@@ -109,7 +109,7 @@ impl<T: Holds> Domain<T> {
         Err(RegisterRefused::Full)
     }
 
-    /// Tries once to act for a participant, with an empty ledger, which is back where somebody else does.
+    /// Tries once to act for a participant, with an empty ledger, which is returned if somebody else does.
     fn acting_for(&self, number: usize, ledger: Ledger<T>) -> Result<Local<T>, Ledger<T>>
         requires low { number < participants_of self.now }
         requires empty { IsEmpty self.now.sizes.slots ledger }
@@ -127,8 +127,9 @@ impl<T: Holds> Domain<T> {
     }
 
     /// Opens and closes accelerated guards of a participant, the first of which takes over what others left, and reclaims
-    /// behind each what nobody reads, at the last count too. It goes on until nothing waits, four times for each slot at most,
-    /// since what an item held waits only once the item is reclaimed; and ends the participant. Its ledger is back, empty.
+    /// behind each what nobody reads, at the last count too. It repeats this until nothing waits, at most four times for
+    /// each slot, since what an item held waits only once the item is reclaimed. Then it ends the participant, and returns
+    /// its ledger, empty.
     fn run_out(&self, local: Local<T>) -> Ledger<T>
         requires { (home_of local ≡ place_of self.now) × ((own_of local).nesting ≡ 0) × (hand_of local ≡ []) }
         ensures { IsEmpty self.now.sizes.slots result }
@@ -147,7 +148,7 @@ impl<T: Holds> Domain<T> {
         local.leave(self)
     }
 
-    /// Reclaims all that participants left, where nobody has a guard open, with a ledger that is back, empty.
+    /// Reclaims all that participants left, where nobody has a guard open. It returns the ledger, empty.
     fn reclaim_left(&self, ledger: Ledger<T>) -> Ledger<T>
         requires { IsEmpty self.now.sizes.slots ledger }
         ensures { IsEmpty self.now.sizes.slots result }

@@ -110,8 +110,8 @@ impl Guard {
     }
 
     /// Defers a job: it is run once, where the participant's guards open from now on, when no guard that is open now is open
-    /// any more; after the participant has ended, by whoever makes the first later scan; or by `Domain::close`. Where each
-    /// slot was taken when it was tried, the job is back, which is a miss.
+    /// any more; after the participant has ended, by whoever makes the first later scan; or by `Domain::close`. If each
+    /// slot was taken when it was tried, the job is returned, which is a miss.
     ///
     /// A job is an item that nobody is to own: it is placed and retired at once, so that it is reclaimed as other items are,
     /// and its `Holds::end`, which consumes it, runs it. Condition: it holds just the owners that are in the participant's hand.
@@ -140,8 +140,9 @@ impl Guard {
     }
 
     /// Closes a guard. An outermost closing scans first, if a guard of the nesting was accelerated or this is the 64th
-    /// since the last scan with the flag of garbage set. All that was loaded under the nesting goes home. A scan tries once for the scan lock, and raises the count by
-    /// one if every open guard published the present one.
+    /// since the last scan with the flag of garbage set. All that was loaded under the
+    /// nesting is returned to its home. A scan tries once for the scan lock, and raises the count by one if every open guard
+    /// published the present one.
     #[inline(always)]
     pub fn close<T: Holds>(self, domain: &Domain<T>, local: &mut Local<T>)
         requires home { home_of local.old ≡ place_of domain.now }

@@ -5,14 +5,14 @@ ghost use Rattle.sdd_domain.specs.Holding.{told_of};
 
 use crate::held::Held;
 
-/// An item that gives up the owners that it holds one at a time, and is then consumed.
+/// An item that hands over the owners that it holds one at a time, and is then consumed.
 ///
 /// Whoever reclaims it calls `give_up` until there is no more, releases what it got, and then calls `end`.
 pub trait Holds: Sized {
-    /// The owners that it holds, by slot and round, in the order in which they are given up.
+    /// The owners that it holds, by slot and round, in the order in which they are handed over.
     ghost holds: { Self → List (ℕ × ℕ) };
 
-    /// Gives up one owner, or answers that none is left.
+    /// Hands over one owner, or answers that none is left.
     fn give_up(&mut self) -> Option<Held<Self>>
         ensures { MatchOption result ((holds self.old ≡ []) × (holds self.new ≡ [])) (λ h. holds self.old ≡ told_of h ∷ holds self.new) };
 

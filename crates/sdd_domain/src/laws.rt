@@ -1,4 +1,4 @@
-//! What stands between any two steps of any threads. Nothing here runs.
+//! What holds between any two steps of any threads. Nothing here runs.
 
 ghost use Rattle.sdd_domain.specs.Laws.{ShowsSafe, RaisedAtMostOnce, LeasedStays, OwnedStays};
 

@@ -338,7 +338,7 @@ impl<T: Holds> Local<T> {
         seen_of(&self.rows, slot)
     }
 
-    /// Closes an outermost guard, after a scan if one is due, and ends its life: all that was leased goes home.
+    /// Closes an outermost guard, after a scan if one is due, and ends its life: all that was leased is returned to its home.
     #[inline(always)]
     pub(crate) fn finish(&mut self, domain: &Domain<T>, token: Life)
         requires home { home_of self.old ≡ place_of domain.now }
@@ -373,7 +373,8 @@ impl<T: Holds> Local<T> {
     }
 
     /// Ends the participant, which anybody may register from now on. What it retired and didn't reclaim
-    /// goes to the first later scan that takes the lock, whoever makes it. Conditions: none of its guards is open, and no owner is in its hand.
+    /// is taken over by the first later scan that takes the lock, whoever makes it. Conditions: none of its guards is open,
+    /// and no owner is in its hand.
     pub fn end(self, domain: &Domain<T>)
         requires home { home_of self ≡ place_of domain.now }
         requires closed { (own_of self).nesting ≡ 0 }

@@ -5,8 +5,8 @@ ghost use Rattle.std.specs.Prelude.{[]};
 use crate::held::Held;
 use crate::holds::Holds;
 
-/// A value that holds no owners, whatever its type. A place of such values is a `Domain<Plain<V>>`, which needs no impl of
-/// `Holds` for `V`.
+/// A value that holds no owners, whatever its type. A `Domain<Plain<V>>` needs no impl of `Holds` for
+/// `V`.
 #[derive(Clone, Copy, PartialEq, Eq, Debug, Drop)]
 pub struct Plain<T> {
     pub value: T,

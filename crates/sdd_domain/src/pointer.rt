@@ -22,7 +22,7 @@ pub struct Ptr<'g, T> {
     item: Option<&'g T>,
 }
 
-/// What a cell names and its tag, without the item and without a borrow: it tells of the pointers that a participant loads
+/// What a cell names and its tag, without the item and without a borrow: it describes the pointers that a participant loads
 /// whether they are the one that it put there, until its outermost guard closes.
 #[derive(Clone, Copy, PartialEq, Eq, Debug)]
 pub struct Named {
@@ -97,7 +97,7 @@ impl<'g, T> Ptr<'g, T> {
         self.tag
     }
 
-    /// Gives it this tag in the place of its own. What it is to stays.
+    /// Replaces the tag; the pointee is unchanged.
     pub fn set_tag(&mut self, tag: Tag)
         ensures slot { ptr_slot self.new ≡ ptr_slot self.old }
         ensures item { ptr_item self.new ≡ ptr_item self.old }
@@ -106,7 +106,7 @@ impl<'g, T> Ptr<'g, T> {
         self.tag = tag;
     }
 
-    /// Takes its tag away. What it is to stays.
+    /// Removes the tag; the pointee is unchanged.
     pub fn unset_tag(&mut self)
         ensures slot { ptr_slot self.new ≡ ptr_slot self.old }
         ensures item { ptr_item self.new ≡ ptr_item self.old }

@@ -39,8 +39,8 @@ impl<T: Holds> Shared<T> {
     ghost use Rattle.sdd_domain.specs.Holding.{told_of, IsHeldOf};
     ghost use Rattle.sdd_domain.specs.Sharing.{kept_in, IsOwnerOf};
 
-    /// Places an item in a free slot, and gives its first owner. Where each slot was taken when it was tried, the item
-    /// is back, which is a miss of the participant. The item holds all owners that are in the participant's hand, and no
+    /// Places an item in a free slot, and gives its first owner. If each slot was taken when it was tried, the item
+    /// is returned, which is a miss of the participant. The item holds all owners that are in the participant's hand, and no
     /// other one. It takes no memory.
     pub fn new(domain: &Domain<T>, item: T, local: &mut Local<T>) -> Result<Shared<T>, T>
         requires home { home_of local.old ≡ place_of domain.now }
@@ -110,8 +110,8 @@ impl<T: Holds> Shared<T> {
         self.slot
     }
 
-    /// One more owner of the item, beside this one: in Rust that is `clone(&self)`. This one alone is back where the item
-    /// has `2^32 - 1` owners, or where the participant has only one part of it, which is a miss. It tries again where other
+    /// One more owner of the item, beside this one: in Rust that is `clone(&self)`. Only this one is returned if the item
+    /// has `2^32 - 1` owners, or if the participant has only one part of it, which is a miss. It tries again where other
     /// threads change the count of owners at that moment. It takes no memory.
     pub fn clone(
         self,
@@ -186,7 +186,7 @@ impl<T: Holds> Shared<T> {
         Some(Shared { slot, part, calm })
     }
 
-    /// An owner of the item that a pointer is to, as `Ptr::get_shared` gives it; else the pointer is back.
+    /// An owner of the item that a pointer is to, as `Ptr::get_shared` gives it; else the pointer.
     pub fn try_from<'g>(
         domain: &Domain<T>,
         pointer: Ptr<'g, T>,

@@ -1,11 +1,11 @@
--- the book of a shared place: where parts are told to be
+-- the book of a shared place: where parts are said to be
 use Rattle.std.specs.Prelude.{◌≡◌, ◌⊎◌, ◌==◌, ℕ, zero, suc, ◌+◌, ◌*◌, cond, List, [], ◌∷◌}
 use Rattle.sdd_homes.specs.declared.Lease.{Lease}
 use Rattle.sdd_homes.specs.declared.Filling.{Filling}
 use Rattle.sdd_homes.specs.declared.Owner.{Owner}
 use Rattle.sdd_homes.specs.declared.Garbage.{Garbage}
 
--- What lies in a slot of the table: nothing is known of it (it is out), an empty value, the room for an item, the deed of a round, with the owners that its item holds, or so many parts of a round
+-- What lies in a slot of the table: nothing is known of it (it is out), an empty value, the room for an item, the deed of a round, with the owners that its item holds, or a number of parts of a round
 pub data Content : Type 0 where
   away : Content
   blank : Content

@@ -7,7 +7,7 @@ use Rattle.sdd_homes.specs.declared.Owner.{Owner}
 abbrev pub items_of : List Owner → List ℕ
 items_of = map (λ o. o.item)
 
--- how many owners of i views have, of which `hand` tells the owners
+-- how many owners of i views have, by the owners in `hand`
 abbrev pub owned : {V : Type 0} → (V → List Owner) → ℕ → List V → ℕ
 owned hand i [] = 0
 owned hand i (v ∷ vs) = times i (items_of (hand v)) + owned hand i vs

@@ -1,4 +1,4 @@
--- what stands of parts, homes and leases
+-- what is true of parts, homes and leases
 use Rattle.std.specs.Prelude.{◌≡◌, ◌≢◌, ℕ, suc, ◌+◌, ◌^◌, ◌<◌, ◌≤◌, List}
 use Rattle.sdd_steps.specs.declared.item.Item.{Item}
 use Rattle.sdd_steps.specs.State.{At, Has}

@@ -32,7 +32,7 @@ pub struct Garbage {
     pub round: u64,
     /// How often the participant has rotated since, or the count that was noted, where the item is in a private bag.
     pub age: u64,
-    /// One more than the slot of what came into the bag next, as the item's link word tells, or 0 where nothing is known
+    /// One more than the slot of what came into the bag next, as the item's link word says, or 0 where nothing is known
     /// of that word.
     pub next: u64,
 }

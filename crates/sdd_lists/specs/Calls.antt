@@ -26,7 +26,7 @@ module _ {L : Type 0} where
   abbrev pub HangsFirst : (L → Option ℕ) → State L → State L → AtomicShared L → ℕ → Type 0
   HangsFirst link w w' from i = (t : Tag) (es : List (Entry L)) (e : Entry L) → IsList link w (shared_cell from) t es → IsDetached link w e → FitsBefore (shared_cell from) es e → i ≡ e.slot → IsList link w' (shared_cell from) t (e ∷ es) × Leaves (shared_cell from ∷ e.link ∷ []) [] w w'
 
-  -- the first entry is gone, and those behind it hang here
+  -- the first entry is taken out, and those behind it hang here
   abbrev pub DropsFirst : (L → Option ℕ) → State L → State L → AtomicShared L → Type 0
   DropsFirst link w w' from = (t : Tag) (e : Entry L) (es : List (Entry L)) → IsList link w (shared_cell from) t (e ∷ es) → IsList link w' (shared_cell from) t es × Leaves (shared_cell from ∷ e.link ∷ []) (e.slot ∷ []) w w'
 

@@ -12,7 +12,7 @@ entry_value {T} e = (out-LinkedEntry T e).instance
 abbrev pub entry_with_value : {T : Type 0} → T → LinkedEntry T → LinkedEntry T
 entry_with_value {T} v e = roll-LinkedEntry T (record (out-LinkedEntry T e) { instance = v })
 
--- the link is gone once the entry gave it up
+-- the entry has no link once it handed that over
 abbrev pub entry_link : {T : Type 0} → LinkedEntry T → Option ℕ
 entry_link {T} e = option_map shared_cell (out-LinkedEntry T e).next
 

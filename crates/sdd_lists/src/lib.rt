@@ -1,9 +1,9 @@
 //! Linked lists of items of a place, and entries of values to hang there.
 //!
-//! An item with a link is a [`LinkedList`](linked_list::LinkedList): a list of such items hangs from a cell, and clauses
+//! An item with a link is a [`LinkedList`](linked_list::LinkedList): a list of these items hangs from a cell, and clauses
 //! see it as its `Entry`s in order, each with its slot, the cell of its link and its tag. A [`LinkedEntry`] is a value with
-//! a link. The calls on entries that a pointer names stand in [`world::linked_list`], and single changes of a list in
-//! [`world::chain`], of which `world_containers` makes its containers. It passes on what its users name, `chain` and `entries` not.
+//! a link. The calls on entries that a pointer names are in [`world::linked_list`], and single changes of a list in
+//! [`world::chain`], of which `world_containers` makes its containers. It re-exports what its users name, but not `chain` and `entries`.
 //!
 //! A deleted entry stays linked until it is passed at the front of its list, since `next_ptr` only reads.
 #![tactic(auto)]

@@ -1,4 +1,4 @@
-//! What can stand in a linked list.
+//! What can be in a linked list.
 
 ghost use Rattle.std.specs.Prelude.{◌≡◌, ℕ, Option, Some, IsSome};
 ghost use Rattle.sdd_world.specs.Tokens.{shared_cell};

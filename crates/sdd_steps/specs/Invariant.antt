@@ -80,7 +80,7 @@ pub record Facts (s : State) (born since : ℕ → ℕ) : Type 0 where
   pub calm : (p : ℕ) (x : Participant) (q : ℕ) → At s.participants p x → x.phase ≡ Idle → ¬ Has x.looked q
   pub quiet : (p q : ℕ) (x y : Participant) (n e : ℕ) (h : Loaded) (it : Item) (a : ℕ) → At s.participants p x → x.phase ≡ HasRead n → Has x.looked q → At s.participants q y → y.phase ≡ Opened e → Has y.loaded h → At s.items h.item it → it.state ≢ Retired p a
 
--- The invariant: owners are counted, and counts can be told for publications and retirements that meet the rest
+-- The invariant: owners are counted, and there are counts of publications and retirements that meet the rest
 abbrev pub Inv : State → Type 0
 Inv s = AllOwnersCounted (names_of s.cells) s.items × ((born : ℕ → ℕ) × (since : ℕ → ℕ) × Facts s born since)
 

@@ -15,7 +15,7 @@ pub record State : Type 0 where
   pub cells : List Cell
   pub items : List Item
 
--- a participant that never had a guard, an empty cell that stands by itself, and what a number out of range names
+-- a participant that never had a guard, an empty cell without a holder, and what a number out of range names
 abbrev pub newcomer : Participant
 newcomer = record { phase = Idle; found = 0; reread = None; looked = []; loaded = [] }
 

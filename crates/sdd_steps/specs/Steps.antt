@@ -145,7 +145,7 @@ abbrev pub holder_is : (ℕ → Bool) → Option ℕ → Bool
 holder_is test None = false
 holder_is test (Some j) = test j
 
--- the cell stands by itself, or its holder is in hand
+-- the cell has no holder, or its holder is in hand
 abbrev pub is_reachable : State → Cell → Bool
 is_reachable s o = stands_alone o || holder_is (item_is has_loose_owner s) o.holder
 
@@ -265,7 +265,7 @@ left_by p it = record it { state = left p it.state }
 abbrev pub settled_by : ℕ → Item → Item
 settled_by p it = record it { state = settled p it.state }
 
--- the empty cells of item i stand by themselves
+-- the empty cells of item i have no holder any more
 abbrev pub is_held_by : ℕ → Option ℕ → Bool
 is_held_by i None = false
 is_held_by i (Some j) = j == i

@@ -46,7 +46,7 @@ impl ItemState {
 }
 
 impl Cell {
-    // An empty cell of item i stands by itself.
+    // An empty cell of item i has no holder any more.
     fn let_go(self, i: usize) -> Cell
         ensures { result ≡ let_go i self }
     {
@@ -236,7 +236,7 @@ impl Snapshot {
         }
     }
 
-    // An item, if any, comes out of the hand into cell c.
+    // An item, if any, is moved from the hand into cell c.
     fn fill_cell(&mut self, alloc: Global, c: usize, new: Option<usize>) -> Result<(), AllocError>
         ensures { OnOk result (snapshot_state self.new ≡ filled (snapshot_state self.old) c new) }
     {
@@ -453,7 +453,7 @@ impl Snapshot {
         self.count += 1;
     }
 
-    /// Takes a step that is enabled. Where memory is refused nothing is known of what is left.
+    /// Takes a step that is enabled. If an allocation fails, nothing is known of what is left.
     pub(crate) fn take(&mut self, alloc: Global, step: Step) -> Result<(), AllocError>
         requires enabled { enabled (snapshot_state self.old) step ≡ true }
         requires room { HasRoom (snapshot_state self.old) }

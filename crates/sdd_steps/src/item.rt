@@ -15,14 +15,14 @@ pub enum ItemState {
     Collected(u64),
     /// The participant that retired it has ended.
     Waiting,
-    /// This participant reclaims it: it gives up what it still holds.
+    /// This participant reclaims it: what it still holds is released.
     Reclaimed(usize),
 }
 
 /// An item. Its number is the number of items that were placed before it.
 #[derive(Drop)]
 pub struct Item {
-    /// What stands in it; of a segment, what stands for its pairs. It never changes.
+    /// Its value; of a segment, a number that represents its pairs. It never changes.
     pub value: u64,
     /// Its owners that are out, whoever has them.
     pub hand: u64,
@@ -36,7 +36,7 @@ pub struct Item {
 /// A cell. An item that is out as a raw pointer counts as in a cell of its own.
 #[derive(Clone, Copy, PartialEq, Eq, Drop, Debug)]
 pub struct Cell {
-    /// The item that holds the cell. A cell without one stands by itself.
+    /// The item that holds the cell, if one does.
     pub holder: Option<usize>,
     /// The item of which the cell keeps an owner.
     pub names: Option<usize>,

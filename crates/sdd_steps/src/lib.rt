@@ -2,7 +2,7 @@
 //!
 //! A [`State`] holds what participants have published and loaded, the cells, and the items with their owners. A
 //! [`Step`] is one indivisible event of one participant. [`apply`] answers the next state if and only if the step is
-//! enabled. Whatever steps are taken, in whatever order: what an open guard has loaded isn't reclaimed, and stands
+//! enabled. Whatever steps are taken, in whatever order: what an open guard has loaded isn't reclaimed, and is
 //! as it was when it was loaded ([`State::is_safe`], and the [`laws`]).
 #![tactic(auto)]
 

@@ -52,7 +52,7 @@ impl<T> Seq<T> {
         self.items.as_slice()
     }
 
-    /// Puts an item at the end. Without memory it comes back, and the list stays.
+    /// Puts an item at the end. If an allocation fails, the item is returned, and the list is as it was.
     pub fn push(&mut self, item: T) -> Result<(), AllocFailed<T>>
         ensures ok { OnOk result (self.new ≡ self.old ++ item ∷ []) }
         ensures back { IfErr result (λ e. e.value ≡ item) }

@@ -37,7 +37,7 @@ impl Model for State {
 }
 
 impl State {
-    /// The start: the count is 0, no participant has a guard, all cells are empty and stand by themselves, and there
+    /// The start: the count is 0, no participant has a guard, all cells are empty and without a holder, and there
     /// is no item. Cell 0 is the root. Fails only if an allocation fails.
     pub fn start(alloc: Global, participants: usize, cells: usize) -> Result<State, AllocError>
         requires participants { (1 ≤ participants) × (participants ≤ 2 ^ 30) }
@@ -103,16 +103,20 @@ impl State {
     }
 }
 
-/// The next state if the step is enabled, else `None`. Fails only if an allocation fails, or if so many items
-/// were placed that one more can't be kept. The state that is given stays as it is in each case.
+/// The next state if the step is enabled, else `None`. Fails only if an allocation fails, or if as many items
+/// were placed as can be kept. The state that is passed in stays as it is in each case.
 ///
+/// <!-- crates/version_tests/src/single_steps.rt after -->
 /// ```text
-/// let state = State::start(alloc, 2, 1)?;
-/// match apply(alloc, &state, Step::ReadEpoch(0))? {
-///     Some(next) => ..,   // participant 0 remembers the count
-///     None => ..,         // not here: it has no guard, so it may read
+/// // What a step leaves, which has to be enabled.
+/// fn after<R: Abort>(rt: &R, alloc: Global, state: State, step: Step) -> State {
+///     match apply(alloc, &state, step) {
+///         Ok(Some(next)) => next,
+///         _ => panic!(rt; "a step that isn't enabled"),
+///     }
 /// }
 /// ```
+/// <!-- end -->
 pub fn apply(alloc: Global, state: &State, step: Step) -> Result<Option<State>, AllocError>
     ensures { IfOk result (λ o. MatchOption o (enabled state.now step ≡ false) (λ t. LeadsTo state.now step t)) }
 {

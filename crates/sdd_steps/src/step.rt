@@ -13,13 +13,13 @@ pub enum Step {
     Publish(usize),
     /// It published another count than at its previous opening: the items that it retired age by one.
     Rotate(usize),
-    /// Under its guard it loads the item of the cell, which stands by itself, or whose holder it loaded or is in hand.
+    /// Under its guard it loads the item of the cell, which has no holder, or whose holder it loaded or is in hand.
     LoadCell(usize, usize),
     /// Under its guard it loads the item, an owner of which is in hand.
     LoadInHand(usize, usize),
     /// It reads the second item, a segment of the first one, which it loaded.
     ReadSegment(usize, usize, usize),
-    /// The item, if any, comes out of the hand into the cell, and the item of the cell into the hand.
+    /// The item, if any, is moved from the hand into the cell, and the item of the cell into the hand.
     SwapCell(usize, usize, Option<usize>),
     /// An owner in hand is given back. The last one leaves the item due to the participant.
     Release(usize, usize),
@@ -33,17 +33,17 @@ pub enum Step {
     /// It published the present count and noted this of all others: the count is raised.
     Raise(usize),
     /// The item, which the participant retired, has age 3, or was noted in a private bag three counts below the one
-    /// that the participant last read again: it is reclaimed, and what it holds is to be given up.
+    /// that the participant last read again: it is reclaimed, and what it holds is to be released.
     Reclaim(usize, usize),
-    /// The first item, which the participant reclaimed, gives up an owner of the second one, which comes into the
-    /// hand.
+    /// The first item, which the participant reclaimed, hands over an owner of the second one, which is in hand
+    /// then.
     GiveUp(usize, usize, usize),
-    /// The holder of the cell, which the participant reclaimed, gives up the cell's owner, which comes into the hand.
-    /// Then the cell stands by itself.
+    /// The holder of the cell, which the participant reclaimed, hands over the cell's owner, which is in hand then.
+    /// Then the cell has no holder.
     GiveUpCell(usize, usize),
-    /// The guard, what the participant loaded and its looks are gone.
+    /// The guard ends, and with it what the participant loaded and its looks.
     Close(usize),
-    /// A new item with this value in hand. The owners and the cells that it holds come out of the hand.
+    /// A new item with this value in hand. The owners and the cells that it holds are taken from the hand.
     Place(usize, u64, Seq<usize>, Seq<usize>),
     /// One more owner in hand of an item that has one.
     RaiseOwners(usize, usize),

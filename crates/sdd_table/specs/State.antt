@@ -199,7 +199,7 @@ placed i v s w = record w { values = set w.values i (Some v); states = set w.sta
 abbrev pub with_value : {T : Type 0} → ℕ → T → State T → State T
 with_value i v w = record w { values = set w.values i (Some v) }
 
--- slot i is free, and its value is gone
+-- slot i is free, and has no value
 abbrev pub slot_freed : {T : Type 0} → ℕ → State T → State T
 slot_freed i w = record w { values = set w.values i None; states = set w.states i status.Free }
 

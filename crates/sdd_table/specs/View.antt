@@ -21,7 +21,7 @@ pub record Lists {X : Type 0} (f : X → ℕ) (all : List X) (names : List ℕ) 
   pub each : (j : ℕ) → times j names ≡ get_or (map f all) j 0
   pub count : length names ≡ sum_by f all
 
--- a stack of such names, with room for n
+-- a stack of these names, with room for n
 pub record IsFreeList {X : Type 0} (f : X → ℕ) (all : List X) (n : ℕ) (stack : Vec ℕ) : Type 0 where
   pub lists : Lists f all stack.items
   pub room : n ≤ vec_capacity stack

@@ -15,14 +15,14 @@ pub enum Held<T> {
     SharedCell(AtomicShared<T>),
 }
 
-/// An item that gives up what it owns one at a time, and is then consumed.
+/// An item that hands over what it owns one at a time, and is then consumed.
 ///
 /// A reclaim calls `give_up` until there is no more, and then `end`.
 pub trait Holds: Sized {
-    /// What the item owns, in the order in which it is given up.
+    /// What the item owns, in the order in which it is handed over.
     ghost holds: { Self → List Hold };
 
-    /// Gives up one owner or cell, or answers that nothing is left.
+    /// Hands over one owner or cell, or answers that nothing is left.
     fn give_up(&mut self) -> Option<Held<Self>>
         ensures { MatchOption result ((holds self.old ≡ []) × (holds self.new ≡ [])) (λ h. holds self.old ≡ hold_of h ∷ holds self.new) };
 

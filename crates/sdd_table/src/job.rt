@@ -4,7 +4,7 @@
 //! box round any task. A structure that defers no job keeps a `World<T, NoJob>`, which has no boxed task among its
 //! parts: so its own model may speak of the order of its keys.
 
-/// What can wait in a place and is run once: it is spent by that.
+/// What can wait in a place and is run once, which consumes it.
 pub trait Deferred: Sized + Drop {
     /// Does it.
     fn run(self);

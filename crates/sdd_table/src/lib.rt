@@ -1,4 +1,4 @@
-//! What stands below a place of one thread: its store, and what reclaims in it.
+//! The layer below a place of one thread: its store, and what reclaims in it.
 //!
 //! A [`Table`] keeps items, jobs and cells in numbered places, and what each participant notes of itself. Clauses see it as a
 //! `State`, and each step of [`reclaim`] as a function of states. Owners and cells are numbers of it, which a place makes

@@ -4,8 +4,8 @@ ghost use Rattle.std.specs.Prelude.{[]};
 
 use crate::holds::{Held, Holds};
 
-/// A value that holds no owners and no cells, whatever its type. A place of such values is a `World<Plain<V>>`, which
-/// needs no impl of `Holds` for `V`.
+/// A value that holds no owners and no cells, whatever its type. A `World<Plain<V>>` needs no impl of `Holds` for
+/// `V`.
 #[derive(Clone, Copy, PartialEq, Eq, Debug, Drop)]
 pub struct Plain<T> {
     pub value: T,

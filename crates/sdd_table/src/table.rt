@@ -46,7 +46,7 @@ pub struct Table<T, J: Deferred> {
     free_cells: Vec<usize>,
 }
 
-/// Invariant: specs/View.antt, IsTable: a value stands in each slot that is used, the stacks of free places name those that
+/// Invariant: specs/View.antt, IsTable: a value is in each slot that is used, the stacks of free places name those that
 /// are free, and the places in bags are those that wait.
 impl<T, J: Deferred> Model for Table<T, J> {
     ghost use Rattle.sdd_table.specs.State.{State};
@@ -432,7 +432,7 @@ impl<T, J: Deferred> Table<T, J> {
         self.participants.are_empty(p)
     }
 
-    /// Rooms for all that the sizes name.
+    /// Room for all that the sizes name.
     pub fn new(alloc: Global, sizes: &Sizes) -> Result<Table<T, J>, AllocError>
         requires { sizes.now.slots + sizes.now.jobs < 2 ^ 32 }
         ensures { IfOk result (λ w. w ≡ fresh sizes.now) }

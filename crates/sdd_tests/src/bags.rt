@@ -105,7 +105,7 @@ pub(crate) fn play<const N: usize>(
     right
 }
 
-/// Takes all entries of a bag, ends it, and gives their owners back; tells how many there were.
+/// Takes all entries of a bag, ends it, and gives their owners back; returns how many there were.
 fn fold<R: Abort, const N: usize>(
     rt: &R,
     alloc: Global,
@@ -128,7 +128,7 @@ fn fold<R: Abort, const N: usize>(
     give_all(rt, w, kept)
 }
 
-/// Gives owners back, and tells how many there were.
+/// Gives owners back, and returns how many there were.
 fn give_all<R: Abort>(
     rt: &R,
     w: &mut World<LinkedEntry<u64>>,
@@ -145,7 +145,7 @@ fn give_all<R: Abort>(
     count
 }
 
-/// Makes the calls of a table on a new bag, folds its entries and ends it; tells how many entries were folded.
+/// Makes the calls of a table on a new bag, folds its entries and ends it; returns how many entries were folded.
 fn on_a_bag<R: Abort, const N: usize>(
     rt: &R,
     alloc: Global,
@@ -268,7 +268,7 @@ struct Plain {
 }
 
 impl Plain {
-    /// Puts a value into the primary, and else, where that may be, into the overflow; or it comes back.
+    /// Puts a value into the primary, and else, where that may be, into the overflow; or it is returned.
     fn push(&mut self, value: u64, may_overflow: bool) -> Result<(), u64> {
         let full = self.primary.len() >= 3;
         if self.room == 0 || full && !may_overflow {

@@ -1,4 +1,4 @@
-//! Containers of the numbers of a range. Each call that makes some stands here once, for it costs wherever it stands.
+//! Containers of the numbers of a range. Each call that makes some is here once, since each place where it is costs time.
 
 ghost use Rattle.std.specs.Prelude.{◌<◌, length, IfSome};
 ghost use Rattle.world_containers.specs.Bags.{IsLength, IsSomeBag, bag_cells};
@@ -22,7 +22,7 @@ use world_containers::world;
 pub(crate) enum Lack {
     /// No slot or no cell is free for this one.
     Of(u64),
-    /// Nothing was made, and so many numbers came back.
+    /// Nothing was made, and this many numbers were returned.
     Unmade(NotMade, usize),
 }
 

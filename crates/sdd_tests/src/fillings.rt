@@ -217,7 +217,7 @@ fn values_come_back_where_nothing_is_made(rt: HostRuntime) {
     assert!(rt; queue == wanted && bag == wanted && stack == wanted);
 }
 
-/// Why a stack isn't made where no cell is free, and how many values come back.
+/// Why a stack isn't made where no cell is free, and how many values are returned.
 fn unmade_stack<R: Abort>(rt: &R, alloc: Global) -> (NotMade, usize) {
     let mut w = place_of(rt, alloc, 2, 0);
     let (made, lack) = some_stack(&mut w, 1..5);

@@ -54,13 +54,13 @@ impl List {
         self.room = self.room.saturating_sub(self.values.len() as u64);
     }
 
-    /// Whether so many values are there, and whether none is.
+    /// Whether this many values are there, and whether none is.
     fn agrees(&self, found: (usize, bool)) -> bool {
         found == (self.values.len(), self.values.is_empty())
     }
 }
 
-/// A list of nothing with room for so many values, and one of the values below 20.
+/// A list of nothing with room for this many values, and one of the values below 20.
 fn list_of_none(alloc: Global, room: u64) -> List {
     List {
         values: Vec::new(alloc),

@@ -17,7 +17,7 @@ use world_containers::linked_entry::LinkedEntry;
 use world_containers::refusal::{CloneRefused, NotMade};
 use world_containers::world;
 
-/// The values that come back where no slot or no cell is free for an entry.
+/// The values that are returned where no slot or no cell is free for an entry.
 fn unplaced<R: Abort>(rt: &R, w: &mut World<LinkedEntry<u64>>) -> (u64, u64, u64, u64)
     requires { 0 < length w.old.participants }
     ensures { 0 < length w.new.participants }

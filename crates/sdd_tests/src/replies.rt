@@ -8,7 +8,7 @@ use world_containers::linked_entry::LinkedEntry;
 pub(crate) enum Reply {
     Done,
     Back(u64),
-    /// The value is back since no slot or no cell is free.
+    /// The value is returned since no slot or no cell is free.
     Full(u64),
     Value(Option<u64>),
     Listed(Option<u64>, Option<u64>, Option<u64>),
@@ -16,7 +16,7 @@ pub(crate) enum Reply {
     Count(usize),
 }
 
-/// Whether a value was put in, or came back.
+/// Whether a value was put in, or was returned.
 pub(crate) fn told(pushed: Result<(), u64>) -> Reply {
     match pushed {
         Ok(()) => Done,

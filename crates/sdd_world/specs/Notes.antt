@@ -43,7 +43,7 @@ IsLinked w [] = Unit {0}
 IsLinked w (i ∷ []) = Unit {0}
 IsLinked w (i ∷ j ∷ is) = (behind_at w i ≡ j) × IsLinked w (j ∷ is)
 
--- no note comes, goes or changes, nor what it names, and the count doesn't fall
+-- no note is added, removed or changed, nor what it names, and the count doesn't fall
 pub record SameNotes {T : Type 0} (w w' : State T) : Type 0 where
   pub count : w.count ≤ w'.count
   pub notes : (i : ℕ) → note_at w' i ≡ note_at w i

@@ -46,7 +46,7 @@ pub record IsQuiet {T : Type 0} (w : State T) (p : ℕ) : Type 0 where
   pub clean : (local_at w p).garbage ≡ false
   pub slow : (local_at w p).accelerated ≡ false
 
--- all but the participants stands as it was
+-- all but the participants is as it was
 pub record OnlyParticipantsChange {T : Type 0} (w w' : State T) : Type 0 where
   pub count : w'.count ≡ w.count
   pub values : w'.values ≡ w.values

@@ -14,13 +14,13 @@ pub fn owners_are_counted<T: Holds>()
 {}
 
 /// What a cell keeps whose owner is in hand, or in an item that has an owner, stays while a guard opens, though that
-/// reclaims items, which give up owners and cells.
+/// reclaims items, whose owners and cells are released.
 pub fn held_cells_stay<T: Holds>()
     ensures { HeldCellsStay T.holds }
 {}
 
 /// What a guard protects: every item that has an owner while it is open; and what it protects stays as it was until
-/// it closes, whatever calls come in between.
+/// it closes, whatever calls are made in between.
 pub fn guards_protect<T>()
     ensures owned { OwnedIsProtected T }
     ensures stays { StaysUntilClosed T }

@@ -34,7 +34,7 @@ pub mod ptr;
 pub mod raw_ptr;
 pub mod shared;
 
-/// A place of one thread, with room for all that its sizes name. It can't be let go: `close` ends it.
+/// A place of one thread, with room for all that its sizes name. It can't be dropped: `close` ends it.
 /// `J` is what it keeps as jobs: a structure that defers none takes `NoJob`.
 pub struct World<T, J: Deferred = Job> {
     pub(crate) table: Table<T, J>,

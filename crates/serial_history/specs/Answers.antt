@@ -36,7 +36,7 @@ module _ {K V : Type 0} where
   behind nears.Empty = nears.Empty
 
 module _ {K V : Type 0} (cmp : K → K → Ordering) where
-  -- what stands at a key or around it
+  -- the pair at a key, or those around it
   abbrev pub near : K → List (K × V) → Near K V
   near key pairs = near_by (lookup_entry (is_at (cmp key)) pairs) (last_pair (below cmp key pairs)) (slice_get (above cmp key pairs) 0)
 

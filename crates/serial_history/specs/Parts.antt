@@ -11,13 +11,13 @@ part_of parts.All xs = xs
 part_of (parts.First most) xs = take most xs
 part_of (parts.Last most) xs = last_items most xs
 
--- a part may have another item beside so many
+-- a part may have another item beside this many
 abbrev pub has_room : Part → ℕ → Bool
 has_room parts.All count = true
 has_room (parts.First most) count = nat_lt count most
 has_room (parts.Last most) count = nat_lt count most
 
--- so many items are more than a part may have
+-- this many items are more than a part may have
 abbrev pub is_over : Part → ℕ → Bool
 is_over parts.All count = false
 is_over (parts.First most) count = nat_lt most count
@@ -28,7 +28,7 @@ abbrev pub turned : {X : Type 0} → Part → List X → List X
 turned (parts.Last most) xs = reverse xs
 turned part xs = xs
 
--- where the item with this number stands then, among so many
+-- the position of the item with this number then, among this many
 abbrev pub place_of : Part → ℕ → ℕ → ℕ
 place_of (parts.Last most) number count = count - 1 - number
 place_of part number count = number

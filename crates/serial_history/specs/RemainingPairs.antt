@@ -1,4 +1,4 @@
--- The pairs that a cursor is yet to give, where it goes one way alone.
+-- The pairs that a cursor is yet to give, where it moves in one direction only.
 use Rattle.std.specs.Prelude.{◌≡◌, ℕ, zero, suc, ◌+◌, cond, List, [], ◌∷◌, Option, Some, None, drop, slice_get}
 use Rattle.std.specs.BTreeMap.Range.{is_from_start, is_past_end}
 use Rattle.std.specs.declared.cmp.Ordering.{Ordering}
@@ -20,7 +20,7 @@ module _ {X : Type 0} where
   falling zero xs = []
   falling (suc n) xs = onto (slice_get xs n) (falling n xs)
 
--- a cursor goes one way alone, for a part of its pairs
+-- a cursor moves in one direction only, for a part of its pairs
 abbrev pub IsAlone : {K V : Type 0} → Part → Cursor K V → Type 0
 IsAlone (parts.Last most) c = c.forward ≡ Unopened
 IsAlone part c = c.backward ≡ Unopened

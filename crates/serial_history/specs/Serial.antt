@@ -39,7 +39,7 @@ RefusesCheckpoint base history upto (checkpoints.Behind number) = (upto < base.n
 RefusesCheckpoint base history upto (checkpoints.Ahead number) = (latest base history < upto) × (number ≡ latest base history)
 RefusesCheckpoint base history upto checkpoints.Memory = (base.number < upto) × (upto ≤ latest base history)
 
--- why the transactions behind this number aren't told
+-- why the transactions after this number aren't returned
 abbrev pub RefusesSince : {K V : Type 0} → Base K V → List (Transaction K V) → ℕ → SinceRefused → Type 0
 RefusesSince base history n (feeds.TooOld number) = (n < base.number) × (number ≡ base.number)
 RefusesSince base history n (feeds.Ahead number) = (latest base history < n) × (number ≡ latest base history)
@@ -55,7 +55,7 @@ module _ {K V : Type 0} (cmp : K → K → Ordering) where
     pub earlier : AllWithin (Holds pairs) reads 0 place
     pub differs : HoldsAt (λ read. Holds pairs read → ⊥) reads place
 
-  -- a transaction is good on a list: its reads hold, and its writes are told what they are told there
+  -- a transaction is valid on a list: its reads hold, and its replies are those that its writes get there
   pub record IsValid (pairs : List (K × V)) (t : Transaction K V) : Type 0 where
     pub reads : All (Holds pairs) t.reads
     pub replies : t.replies ≡ replies_to cmp t.writes pairs
@@ -70,7 +70,7 @@ module _ {K V : Type 0} (cmp : K → K → Ordering) where
   IsSerial [] pairs = Unit {0}
   IsSerial (t ∷ ts) pairs = IsValid pairs t × IsSerial ts (after_writes cmp t.writes pairs)
 
-  -- the list of a number: the base's list after so many transactions as the number exceeds the base's
+  -- the list of a number: the base's list after as many transactions as the number exceeds the base's
   abbrev pub list_numbered : Base K V → List (Transaction K V) → ℕ → List (K × V)
   list_numbered base history n = after_all (take (n - base.number) history) base.pairs
 

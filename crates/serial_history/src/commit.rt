@@ -10,7 +10,7 @@ use version_views::{Reply, Write};
 pub struct Accepted {
     /// The number of the list that it left, one above that of the list before.
     pub number: u64,
-    /// What each of its writes was told, in order.
+    /// The reply to each of its writes, in order.
     pub replies: Vec<Reply>,
 }
 
@@ -26,8 +26,8 @@ pub enum Cause {
     /// A growth or a clone was refused.
     #[error("memory was refused")]
     Memory,
-    /// Too few slots are free for the new version: in an index of one thread, fewer than a version of so many pairs may take; in
-    /// one that threads share, fewer than this one takes, or an item has as many owners as it can have.
+    /// Too few slots are free for the new version: in an index of one thread, fewer than a version with that many pairs may
+    /// take; in one that threads share, fewer than this one takes, or an item has as many owners as it can have.
     #[error("too few slots are free")]
     NoSlot,
 }
@@ -56,23 +56,23 @@ impl<K, V> Refused<K, V> {
 #[derive(Clone, Copy, Debug, PartialEq, Eq, Error)]
 pub enum CheckpointRefused {
     /// The number is below that of the base, which this is.
-    #[error("the history begins at number {0}")]
+    #[error("the history begins at number {0}; the index is as it was")]
     Behind(u64),
     /// The number is above the present one, which this is.
-    #[error("the present number is {0}")]
+    #[error("the present number is {0}; the index is as it was")]
     Ahead(u64),
     /// A growth or a clone was refused.
-    #[error("memory was refused")]
+    #[error("memory was refused; the index is as it was")]
     Memory,
 }
 
-/// Why a history doesn't tell the transactions behind a number.
+/// Why a history doesn't return the transactions after a number.
 #[derive(Clone, Copy, Debug, PartialEq, Eq, Error)]
 pub enum SinceRefused {
-    /// The number is below that of the base, which this is: some of them are gone.
-    #[error("the history begins at number {0}")]
+    /// The number is below that of the base, which this is: some of them were dropped.
+    #[error("the history begins at number {0}; the index is as it was")]
     TooOld(u64),
     /// The number is above the present one, which this is.
-    #[error("the present number is {0}")]
+    #[error("the present number is {0}; the index is as it was")]
     Ahead(u64),
 }

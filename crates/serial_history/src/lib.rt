@@ -6,13 +6,31 @@
 //! history, whose list at a number can be made again. `specs/` has the definitions: `Holds`, `IsFirstConflict`,
 //! `IsSerial` and `after_all`.
 //!
+//! <!-- crates/index_tests/src/history.rt transaction based -->
 //! ```text
-//! let mut receipt = Receipt::blank(alloc);
-//! receipt.note(Query::Get(1), &Answer::Get(Some(10)))?;              // a read is recorded
-//! first_conflict(&list, receipt.reads.as_slice());                     // Some(0), where `list` has no 10 at 1
-//! let prepared = prepare(alloc, receipt.reads.as_slice(), 2)?;         // its reads, and room for two replies
-//! let list = replay(alloc, &version, &history[4..9])?;                  // the list of number 9, from the version of number 4
+//! /// A transaction of two upserts.
+//! fn transaction(alloc: Global) -> Result<Transaction<u64, u64>, AllocError> {
+//!     let mut writes = Vec::new(alloc);
+//!     writes.push(Write::Upsert(1, 10))?;
+//!     writes.push(Write::Upsert(2, 20))?;
+//!     Ok(Transaction {
+//!         reads: Reads::of(&[]),
+//!         writes: Seq::from_vec(writes),
+//!         replies: Seq::new(alloc),
+//!     })
+//! }
+//!
+//! /// The list that the transaction leaves of none, made again from a base with its pairs.
+//! fn based(alloc: Global) -> Result<TreeIndex<u64, u64>, AllocError> {
+//!     let history = [transaction(alloc)?];
+//!     let list = replay(alloc, &Base::empty(alloc), &history)?;
+//!     let pairs = pairs_of(alloc, &list)?;
+//!     // what is read here shows the proof that the keys rise
+//!     let _rising = list.len();
+//!     Base::new(1, pairs).tree(alloc)
+//! }
 //! ```
+//! <!-- end -->
 #![tactic(auto)]
 
 pub mod base;

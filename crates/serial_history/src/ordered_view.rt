@@ -139,7 +139,7 @@ fn has<K: Clone + Ord, V: Clone + Eq, L: OrderedView<K, V>>(list: &L, key: &K) -
     list.find(key).is_some()
 }
 
-/// What stands around a key: the pair that has it, if there is one; else the nearest ones.
+/// What is at a key or around it: the pair that has it, if there is one; else the nearest ones.
 pub(crate) fn around<'t, K, V>(
     exact: Option<(&'t K, &'t V)>,
     smaller: Option<(&'t K, &'t V)>,
@@ -184,7 +184,7 @@ fn cloned<K: Clone, V: Clone>(found: &Near<&K, &V>) -> Result<Near<K, V>, AllocE
     }
 }
 
-/// Whether what was found around a key is what is told.
+/// Whether what was found around a key is what an answer says.
 fn is_same<K: Eq, V: Eq>(found: &Near<&K, &V>, told: &Near<K, V>) -> bool
     requires keys { EqualsAreSame K.eq }
     requires values { EqualsAreSame V.eq }

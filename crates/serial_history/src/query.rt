@@ -17,11 +17,11 @@ pub enum Query<K> {
     Range(Bound<K>, Bound<K>),
     /// The pair with this key, or the nearest ones.
     Locate(K),
-    /// The first of the pairs within two bounds: so many, or all if there are fewer. A write behind
-    /// the last of so many changes nothing in it.
+    /// The first pairs within two bounds: this many, or all if there are fewer. A write beyond the
+    /// last of them changes nothing in it.
     First(Bound<K>, Bound<K>, usize),
-    /// The last of the pairs within two bounds, by rising keys: so many, or all if there are fewer. A
-    /// write before the first of so many changes nothing in it.
+    /// The last pairs within two bounds, in ascending order: this many, or all if there are fewer. A
+    /// write before the first of them changes nothing in it.
     Last(Bound<K>, Bound<K>, usize),
 }
 
@@ -35,7 +35,7 @@ pub enum Answer<K, V> {
     Contains(bool),
     /// The pairs, by rising keys.
     Range(Seq<(K, V)>),
-    /// What stands at the key or around it.
+    /// The pair at the key, or those around it.
     Locate(Near<K, V>),
 }
 
@@ -44,14 +44,14 @@ pub enum Answer<K, V> {
 pub enum Part {
     /// All of them.
     All,
-    /// The first ones: so many, or all if there are fewer.
+    /// The first ones: this many, or all if there are fewer.
     First(usize),
-    /// The last ones: so many, or all if there are fewer.
+    /// The last ones: this many, or all if there are fewer.
     Last(usize),
 }
 
 impl Part {
-    /// Whether it may have another pair beside so many.
+    /// Whether it may have another pair beside `count`.
     pub(crate) fn has_room(self, count: usize) -> bool
         ensures { result ≡ has_room self count }
     {
@@ -61,7 +61,7 @@ impl Part {
         }
     }
 
-    /// Whether so many pairs are more than it may have.
+    /// Whether `count` pairs are more than it may have.
     pub(crate) fn is_over(self, count: usize) -> bool
         ensures { result ≡ is_over self count }
     {
@@ -71,8 +71,8 @@ impl Part {
         }
     }
 
-    /// Where the pair with this number stands among so many, if a cursor gives them: the last one first, where the last
-    /// ones are meant.
+    /// The position of the pair with this number among `count`, in the order in which a cursor gives them: the last one
+    /// first, for the last ones.
     pub(crate) fn place(self, number: usize, count: usize) -> usize
         requires { number < count }
         ensures within { result < count }

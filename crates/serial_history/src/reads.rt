@@ -11,7 +11,7 @@ use std::marker::Model;
 /// The recorded reads of an accepted commit, for contracts alone: they have no bytes.
 ///
 /// A commit tests the reads of its receipt, and only contracts ask for them afterwards. So a history keeps none of them, and its
-/// contracts still say that they held. Code can't tell two of them apart: they are equal, whatever was read.
+/// contracts still say that they held. Code can't distinguish two of them: they are equal, whatever was read.
 #[derive(Drop)]
 pub struct Reads<K, V> {
     shown: GhostItems<Recorded<K, V>>,

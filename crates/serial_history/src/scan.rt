@@ -173,7 +173,7 @@ pub(crate) fn next<'t, K: Ord + 't, V: 't, C: PairCursor<'t, K, V>>(
     cursor.step()
 }
 
-/// Whether what was found is a pair, and this one.
+/// Whether `found` is exactly this pair.
 fn is_pair<K: Eq, V: Eq>(found: Option<(&K, &V)>, pair: &(K, V)) -> bool
     requires keys { EqualsAreSame K.eq }
     requires values { EqualsAreSame V.eq }

@@ -12,7 +12,7 @@ use std::marker::Model;
 
 /// A `Vec` that contracts see as the list of its items, whatever its capacity.
 ///
-/// It stands where a definition speaks of a whole value that has a list inside, as a [`Receipt`]
+/// It serves where a definition speaks of a whole value that has a list inside, as a [`Receipt`]
 /// has its recorded reads, and makes byte strings keys and values (`Seq<u8>`, in the order of a
 /// dictionary). It is made from a `Vec` and gives it back, neither with memory.
 ///
@@ -125,7 +125,7 @@ impl<T> Seq<T> {
         self.items.as_slice()
     }
 
-    /// Puts an item at the end. Without memory it comes back, and the list stays.
+    /// Puts an item at the end. If an allocation fails, the item is returned, and the list is as it was.
     pub fn push(&mut self, item: T) -> Result<(), AllocFailed<T>>
         ensures ok { OnOk result (self.new ≡ self.old ++ item ∷ []) }
         ensures err { OnErr result (self.new ≡ self.old) }

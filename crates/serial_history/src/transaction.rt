@@ -76,22 +76,22 @@ pub enum Audit {
     No(usize),
     /// No list has that number yet.
     Unknown,
-    /// The receipt's number is below that of the base, which this is: its list is gone.
+    /// The receipt's number is below that of the base, which this is: its list was dropped.
     TooOld(u64),
 }
 
-/// What an accepted commit read, wrote and was told: an entry of the history.
+/// What an accepted commit read and wrote, with its replies: an entry of the history.
 #[derive(Clone, Debug, PartialEq, Eq, Drop)]
 pub struct Transaction<K, V> {
     /// The reads that it rested on, which contracts alone see.
     pub reads: Reads<K, V>,
     /// Its writes, in order.
     pub writes: Seq<Write<K, V>>,
-    /// What each write was told.
+    /// The reply to each write.
     pub replies: Seq<Reply>,
 }
 
-/// What a commit adds to the history, but for its writes: its reads, and room for what its writes are told.
+/// What a commit adds to the history, but for its writes: its reads, and room for its replies.
 #[derive(Drop)]
 pub struct Prepared<K, V> {
     /// The reads that it rests on, which contracts alone see.
@@ -100,7 +100,7 @@ pub struct Prepared<K, V> {
     pub replies: Vec<Reply>,
 }
 
-/// A commit's reads, of which nothing is copied, and room for what so many writes are told. Fails only if an allocation fails.
+/// A commit's reads, of which nothing is copied, and room for `writes` replies. Fails only if an allocation fails.
 pub fn prepare<K, V>(
     alloc: Global,
     reads: &[Recorded<K, V>],

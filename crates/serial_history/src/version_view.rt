@@ -19,7 +19,7 @@ use version_views::{LocalNearby, LocalWalk, Trees, VersionView};
 /// A cursor over the list of a session, within two bounds or without any.
 pub type Walk<'a, K, V, const S: usize> = LocalWalk<'a, K, V, S>;
 
-/// Where a key stands in the list of a session, with a cursor there.
+/// Where a key is in the list of a session, with a cursor there.
 pub type Nearby<'a, K, V, const S: usize> = LocalNearby<'a, K, V, S>;
 
 impl<'t, K: Ord, V, W: Trees<K, V>> PairCursor<'t, K, V> for version_views::Walk<'t, K, V, W> {

@@ -1,6 +1,6 @@
 //! Threads that log what they read and committed: `scripts/histories` looks for a serial order in it.
 //!
-//! Two threads commit and two read, each so many times. A session reads two keys, for at least the latest number that its
+//! Two threads commit and two read, each this many times. A session reads two keys, for at least the latest number that its
 //! thread knows; who commits then upserts a third key on the session's receipt, with a value that nobody else writes.
 
 ghost use Rattle.std.specs.Prelude.{◌≡◌};

@@ -1,16 +1,16 @@
 //! An index that threads share, read and written over and over: what `bench/threads` measures.
 //!
-//! `shared_bench PAIRS READERS GETS WRITES MILLISECONDS` builds an index of so many pairs, which so many threads then read,
-//! by sessions of so many gets each, beside a thread that commits so many upserts at a time, if any. It prints the gets, the
-//! sessions, how many gets found another value than one that belongs to their key, the commits, those that were refused, and
+//! `shared_bench PAIRS READERS GETS WRITES MILLISECONDS` builds an index of PAIRS pairs. READERS threads then read it by
+//! sessions of GETS gets each, beside a thread that commits WRITES upserts at a time, if any. It prints the gets, the sessions,
+//! how many gets found another value than one that belongs to their key, the commits, those that were refused, and
 //! how many nanoseconds half, 99 % and 99.9 % of the commits took at most, each with the reclaim behind it.
 //!
 //! With no reader, the last word is a number of rounds, which one thread makes: of sessions, or of commits, if there are
 //! writes. It prints the same, but times no commit and so counts none, and the sum of the values that were got. Without
 //! arguments nothing is done.
 //!
-//! `shared_bench log PAIRS ROUNDS SEED` has two threads commit to an index of so many pairs and two read it, so many times
-//! each, and prints what they read and were told, which `scripts/histories` looks at: a line for each pair at first, one for
+//! `shared_bench log PAIRS ROUNDS SEED` has two threads commit to an index of PAIRS pairs and two read it, ROUNDS times each.
+//! It prints what they read and what commits were answered, which `scripts/histories` looks at: a line for each pair at first, one for
 //! each turn of each thread, and one for the last number.
 #![tactic(auto)]
 
@@ -64,7 +64,7 @@ fn end<R: Wait>(rt: &R, mut domain: Domain<Item>) {
     unreachable!()
 }
 
-/// The time within which all but one in so many commits were made, if they are in order.
+/// The time within which all but one in this many commits were made, if they are in order.
 fn within(times: &[u64], one_in: usize) -> u64
     requires { 0 < one_in }
 {

@@ -1,4 +1,4 @@
-//! Participants of the place. Each call of it at its type of items stands once, since its proof is long.
+//! Participants of the place. Each call of it at its type of items is made once, since its proof is long.
 
 ghost use Rattle.std.specs.Prelude.{◌≡◌, IfSome};
 ghost use Rattle.sdd_domain.specs.Tokens.{place_of};

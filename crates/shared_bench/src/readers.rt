@@ -87,7 +87,7 @@ pub fn session(
     }
 }
 
-/// So many sessions of a participant, one by one.
+/// This many sessions of a participant, one by one.
 pub fn sessions(
     alloc: Global,
     domain: &Domain<Item>,

@@ -44,7 +44,7 @@ pub fn next(state: u64) -> u64 {
     b ^ b.wrapping_shl(17)
 }
 
-/// A number below so many, by a state.
+/// A number below this many, by a state.
 pub fn drawn(state: u64, pairs: u32) -> u64 {
     state
         .wrapping_shr(32)

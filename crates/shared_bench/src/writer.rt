@@ -18,7 +18,7 @@ pub struct Commits {
     pub refused: u64,
 }
 
-/// Upserts of so many pairs, from a number on. None where memory is refused.
+/// Upserts of this many pairs, from a number on. None if an allocation fails.
 pub fn ascending(alloc: Global, from: u32, count: u32) -> Option<Vec<Write<u64, u64>>> {
     let mut writes = Vec::with_capacity(alloc, count as usize).ok()?;
     for i in 0..count {
@@ -28,7 +28,7 @@ pub fn ascending(alloc: Global, from: u32, count: u32) -> Option<Vec<Write<u64, 
     Some(writes)
 }
 
-/// Upserts of so many pairs that the index has, and the state of draws behind them. Each value belongs to its key.
+/// Upserts of this many pairs that the index has, and the state of draws behind them. Each value belongs to its key.
 fn drawing(alloc: Global, task: Task, state: u64) -> Option<(Vec<Write<u64, u64>>, u64)> {
     let mut state = state;
     let mut writes = Vec::with_capacity(alloc, task.writes as usize).ok()?;
@@ -83,7 +83,7 @@ pub fn build<L: Naming, R: Wait>(
     false
 }
 
-/// So many commits one by one: how many were accepted.
+/// This many commits one by one: how many were accepted.
 pub fn rounds<L: Naming, R: Wait>(
     rt: &R,
     alloc: Global,

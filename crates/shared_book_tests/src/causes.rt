@@ -1,4 +1,4 @@
-//! Commits that are refused: nothing changes, the share does not count them, and the writes come back.
+//! Commits that are refused: nothing changes, the share does not count them, and the writes are returned.
 
 use crate::table::Call::{Audit, Commit, Counts, Reclaim, Rounds};
 use crate::table::Claim::{Between, Got, Has, Listed, Mixed};
@@ -27,7 +27,7 @@ const CHANGED: &[(Call, Told)] = &[
     (Counts, Counted(4, 2, 4)),
 ];
 
-/// Of several reads the first that does not hold is told; an absent key and an empty range are reads as well.
+/// Of several reads the first that does not hold is the answer; an absent key and an empty range are reads as well.
 const FIRST_OF: &[(Call, Told)] = &[
     (
         Commit(0, &[], &[Insert(2, 1), Insert(4, 1)]),

@@ -56,7 +56,7 @@ const OF_NOTHING: &[(Call, Told)] = &[
     (Counts, Counted(0, 0, 0)),
 ];
 
-/// Two checkpoints, the second at the present number: no transaction is left, and the book goes on.
+/// Two checkpoints, the second at the present number: no transaction is left, and the book continues.
 const TWO: &[(Call, Told)] = &[
     (
         Commit(0, &[], &[Insert(5, 50), Insert(3, 30)]),

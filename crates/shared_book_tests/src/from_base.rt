@@ -27,16 +27,16 @@ use version_views::Write::{Insert, Upsert};
 
 const FIVE: &[(u64, u64)] = &[(1, 10), (2, 20), (3, 30), (4, 40), (5, 50)];
 
-/// What is told where a book is to begin with a list.
+/// What is answered where a book is to begin with a list.
 #[derive(Clone, Copy)]
 enum Begun {
-    /// So many slots are in use then, and the book answers these calls.
+    /// This many slots are in use then, and the book answers these calls.
     With(usize, &'static [(Call, Told)]),
-    /// There is no book; the pairs come back, and no slot is in use once what waits is reclaimed.
+    /// There is no book; the pairs are returned, and no slot is in use once what waits is reclaimed.
     Not(SharedBaseCause),
 }
 
-/// A number and its list, how many slots the place of a book of it has, and what is told.
+/// A number and its list, how many slots the place of a book of it has, and what is answered.
 #[derive(Clone, Copy)]
 struct Case {
     number: u64,
@@ -268,7 +268,7 @@ fn five<R: Abort>(rt: &R, alloc: Global, met: &mut bool) -> BaseList<u64, u64> {
     BaseList { number: 7, pairs }
 }
 
-/// A book of the five pairs, made again of what comes back where memory was refused, when nothing was in use.
+/// A book of the five pairs, made again of what is returned where memory was refused, when nothing was in use.
 fn begun_again<'d, L: Naming, R: Abort>(
     rt: &R,
     alloc: Global,
@@ -342,7 +342,7 @@ fn tried<L: Naming, R: Abort>(
     }
 }
 
-/// Whether an allocation was refused while a book of the five pairs was made in a place of so many slots, which tells this.
+/// Whether an allocation was refused while a book of the five pairs was made in a place of this many slots, which answers this.
 fn insisted<R: Abort>(
     rt: &R,
     alloc: Global,

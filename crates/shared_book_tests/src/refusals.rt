@@ -22,7 +22,7 @@ use version_views::Write;
 
 const TWICE: &str = "memory was refused twice";
 
-/// A place for so many items, made at once or, where memory was refused, by a second try.
+/// A place for this many items, made at once or, where memory was refused, by a second try.
 pub(crate) fn place_by_two<R: Abort>(
     rt: &R,
     alloc: Global,
@@ -195,7 +195,7 @@ fn checkpoint<L: Naming, R: Abort>(rt: &R, scene: &mut Scene<'_, L, 2>, met: &mu
     assert!(rt; state(scene) == before);
 }
 
-/// What is found of a book: what two commits tell, what an audit of the first list says before that is the base and
+/// What is found of a book: what two commits answer, what an audit of the first list says before that is the base and
 /// afterwards, and the number, how many pairs there are and the count of the share.
 type Found = (Accepted, Accepted, [Audit; 2], (u64, usize, u64));
 
@@ -225,7 +225,7 @@ fn writes_and_audits<L: Naming, R: Abort>(
     (first, second, [replayed, based], counts)
 }
 
-/// Whether a commit tells this.
+/// Whether a commit answers this.
 fn is_told(accepted: &Accepted, number: u64, replies: [Reply; 2]) -> bool {
     accepted.number == number && accepted.replies.as_slice() == &replies[..]
 }

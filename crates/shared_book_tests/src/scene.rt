@@ -24,7 +24,7 @@ pub(crate) const ROOM: &str = "memory is there";
 /// The items of the place: versions of numbers by numbers.
 pub(crate) type Item = Node<u64, u64>;
 
-/// A place for two participants, one cell and so many items.
+/// A place for two participants, one cell and this many items.
 pub(crate) fn sized(slots: usize) -> Sizes
     requires { (1 ≤ slots) × (slots ≤ 1073741824) }
     ensures { result ≡ record { participants = 2; slots = slots; cells = 1; jobs = 0 } }
@@ -37,7 +37,7 @@ pub(crate) fn sized(slots: usize) -> Sizes
     }
 }
 
-/// A place for so many items.
+/// A place for this many items.
 pub(crate) fn place(alloc: Global, slots: usize) -> Result<Domain<Item>, AllocError>
     requires { (1 ≤ slots) × (slots ≤ 1073741824) }
 {

@@ -46,18 +46,18 @@ pub(crate) enum Call {
     Counts,
     Numbers,
     Reclaim,
-    /// So many rounds of it, and a look at how many slots are in use then.
+    /// This many rounds of it, and a look at how many slots are in use then.
     Rounds(u64),
 }
 
-/// What a transaction wrote and was told. What it read, contracts alone see.
+/// What a transaction wrote, and its replies. What it read, contracts alone see.
 pub(crate) type Entry = (&'static [Write<u64, u64>], &'static [Reply]);
 
 /// What a call answers.
 #[derive(Clone, Copy)]
 pub(crate) enum Told {
     Accepted(u64, &'static [Reply]),
-    /// The writes come back.
+    /// The writes are returned.
     Refused(Cause),
     Audited(Audit),
     /// The base stays as it is.
@@ -107,7 +107,7 @@ fn receipt(alloc: Global, number: u64, claims: &[Claim]) -> Result<Receipt<u64, 
     Ok(receipt)
 }
 
-/// Commits the writes on the receipt, and tells whether the answer is the one that is wanted.
+/// Commits the writes on the receipt, and returns whether the answer is the one that is wanted.
 fn commits<L: Naming, R: Abort, const S: usize>(
     rt: &R,
     alloc: Global,
@@ -126,7 +126,7 @@ fn commits<L: Naming, R: Abort, const S: usize>(
     }
 }
 
-/// Whether a transaction wrote and was told this.
+/// Whether a transaction wrote this, with these replies.
 fn is_entry(transaction: &Transaction<u64, u64>, entry: Entry) -> bool {
     transaction.writes.as_slice() == entry.0 && transaction.replies.as_slice() == entry.1
 }
@@ -147,7 +147,7 @@ fn is_fed<L: Naming, const S: usize>(
     alike
 }
 
-/// Makes a call, and tells whether it answers what is wanted.
+/// Makes a call, and returns whether it answers what is wanted.
 fn answers<L: Naming, R: Abort, const S: usize>(
     rt: &R,
     alloc: Global,
@@ -255,7 +255,7 @@ pub(crate) fn on_a_book<R: Abort>(rt: &R, alloc: Global, last: u64, rows: &[(Cal
     end(rt, domain);
 }
 
-/// Plays a table on an empty book with so many slots, with one pair in each segment.
+/// Plays a table on an empty book with this many slots, with one pair in each segment.
 pub(crate) fn on_a_small_book<R: Abort>(rt: &R, alloc: Global, slots: usize, rows: &[(Call, Told)])
     requires { (1 ≤ slots) × (slots ≤ 1073741824) }
 {

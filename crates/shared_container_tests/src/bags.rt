@@ -25,7 +25,7 @@ struct Scene<'a> {
 }
 
 impl<'a> Scene<'a> {
-    /// Pushes a value: it is back where no slot is free.
+    /// Pushes a value: it is returned where no slot is free.
     fn push(&self, local: &mut Local<u64>, value: u64) -> Option<u64>
         requires home { (home_of local.old ≡ place_of self.now.domain.now) × (hand_of local.old ≡ []) }
         requires closed { (own_of local.old).nesting ≡ 0 }
@@ -37,7 +37,7 @@ impl<'a> Scene<'a> {
         }
     }
 
-    /// Pushes a value into the primary: it is back, and true, where that is full, and back where no slot is free.
+    /// Pushes a value into the primary: it is returned, and true, where that is full, and back where no slot is free.
     fn try_push(&self, local: &mut Local<u64>, value: u64) -> Option<(u64, bool)>
         requires home { (home_of local.old ≡ place_of self.now.domain.now) × (hand_of local.old ≡ []) }
         requires closed { (own_of local.old).nesting ≡ 0 }
@@ -68,7 +68,7 @@ impl<'a> Scene<'a> {
     }
 }
 
-/// What a participant finds: what comes back of what is pushed into the primary, and of what is pushed; what is popped; how
+/// What a participant finds: what is returned of what is pushed into the primary, and of what is pushed; what is popped; how
 /// many items there are before, in between and in the end; whether the bag is empty with items and without; and the sum of
 /// what is popped all at once.
 #[derive(Clone, Copy, PartialEq, Eq)]

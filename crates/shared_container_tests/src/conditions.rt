@@ -13,7 +13,7 @@ use std::alloc::Global;
 use std::process::Abort;
 use std::test::Fail;
 
-/// Pushes a value where the newest item is this one. What is back of one that is refused on the condition, or for want of a
+/// Pushes a value where the newest item is this one. What is returned of one that is refused on the condition, or for want of a
 /// slot, and that it was the condition.
 pub(crate) fn push_behind(
     scene: &Scene,

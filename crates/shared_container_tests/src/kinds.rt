@@ -1,4 +1,4 @@
-//! What tests of several kinds of containers are played on. Clauses name it, and stand without the tests, too.
+//! What tests of several kinds of containers are played on. Clauses name it, and are there without the tests, too.
 
 use shared_containers::bag::Bag;
 use shared_containers::queue::Queue;

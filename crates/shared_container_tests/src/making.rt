@@ -21,7 +21,7 @@ use std::process::Abort;
 use std::test::Fail;
 
 /// The values of what was made, or made in part, as the digits of a number in the order of a walk or of pops; and the value
-/// that came back.
+/// that was returned.
 type Made = (Option<u64>, Option<u64>);
 
 const NOTHING: Made = (None, None);
@@ -35,7 +35,7 @@ struct Scene<'a> {
 }
 
 impl<'a> Scene<'a> {
-    /// A container of the values from 1 up to below the last one, as far as it was made, and the value that came back.
+    /// A container of the values from 1 up to below the last one, as far as it was made, and the value that was returned.
     fn make(
         &self,
         alloc: Global,
@@ -74,7 +74,7 @@ impl<'a> Scene<'a> {
         }
     }
 
-    /// A clone of a stack or a queue, as far as it was made, and the value that came back.
+    /// A clone of a stack or a queue, as far as it was made, and the value that was returned.
     fn copy(&self, any: &Any, local: &mut Local<u64>) -> (Option<Any>, Option<u64>)
         requires home { (home_of local.old ≡ place_of self.now.domain.now) × (hand_of local.old ≡ []) }
         requires closed { (own_of local.old).nesting ≡ 0 }
@@ -102,7 +102,7 @@ impl<'a> Scene<'a> {
         }
     }
 
-    /// The clone that came back.
+    /// The clone that was returned.
     fn back(&self, why: NotCloned<u64>, local: &mut Local<u64>) -> Option<u64>
         requires home { home_of local.old ≡ place_of self.now.domain.now }
         requires mine { IfRefused why (λ r. IsKeptIn r (place_of self.now.domain.now).0) }
@@ -253,7 +253,7 @@ const ROWS: &[Row] = &[
     (Kind::Bag, 2, 4, 4, ((None, Some(1)), NOTHING)),
 ];
 
-/// Whether it goes as a row says.
+/// Whether it takes the course that a row says.
 fn is_right<R: Abort>(rt: &R, alloc: Global, row: &Row) -> Result<bool, AllocError> {
     let domain = Domain::new(alloc, sized(1, row.1, row.2))?;
     let mut local = member(rt, &domain);
@@ -303,7 +303,7 @@ impl Clone for Rare {
     }
 }
 
-/// A queue of such numbers, with its links.
+/// A queue of these numbers, with its links.
 #[derive(Drop)]
 struct Rares<'a> {
     domain: &'a Domain<Plain<Rare>>,
@@ -379,7 +379,7 @@ fn a_clone_ends_before_a_value_whose_clone_is_refused_memory(rt: HostRuntime) ->
     Ok(())
 }
 
-/// Makes a bag of three values and ends it. Where memory is refused instead: whether all of them are back.
+/// Makes a bag of three values and ends it. Where memory is refused instead: whether all of them are returned.
 fn makes_a_bag<R: Abort>(rt: &R, alloc: Global) -> Result<(), bool> {
     let Ok(domain) = Domain::new(alloc, sized(1, 3, 6)) else {
         return Err(true);

@@ -91,7 +91,7 @@ fn stacks_want_a_cell_each_and_queues_two(rt: HostRuntime) -> Result<(), Fail> {
     Ok(())
 }
 
-/// What comes back of 1 and 2, whose conditions hold, in a place of one slot; and the digits and the count of what is in.
+/// What is returned of 1 and 2, whose conditions hold, in a place of one slot; and the digits and the count of what is in.
 type Found = ([Option<(u64, bool)>; 2], (u64, usize));
 
 fn pushes_two<R: Abort>(rt: &R, alloc: Global, domain: &Domain<u64>, kind: Kind) -> Found {

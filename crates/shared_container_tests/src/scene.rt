@@ -19,7 +19,7 @@ use shared_containers::stack::Stack;
 use std::alloc::Global;
 use std::process::Abort;
 
-/// A place for so many participants, with so many slots and cells.
+/// A place for this many participants, with this many slots and cells.
 pub(crate) fn sized(participants: u8, slots: u16, cells: u16) -> Sizes
     requires { 1 ≤ participants }
     ensures { IsSized result }
@@ -189,7 +189,7 @@ pub(crate) struct Scene<'a> {
 }
 
 impl<'a> Scene<'a> {
-    /// Pushes a value: it is back where no slot is free.
+    /// Pushes a value: it is returned where no slot is free.
     pub(crate) fn push(&self, local: &mut Local<u64>, value: u64) -> Option<u64>
         requires home { (home_of local.old ≡ place_of self.now.domain.now) × (hand_of local.old ≡ []) }
         requires shallow { (own_of local.old).nesting < 4294967295 }

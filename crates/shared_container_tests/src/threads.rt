@@ -13,7 +13,7 @@ use std::sync::atomic::{AtomicU64, Ordering};
 use std::test::Fail;
 use std::thread::{Threads, join};
 
-/// Pushes the values from one on up to below another, and tells how many there were.
+/// Pushes the values from one on up to below another, and returns how many there were.
 fn pushing(scene: &Scene, first: u64, last: u64) -> Option<u64> {
     let Ok(mut local) = scene.domain.register() else {
         return None;
@@ -43,7 +43,7 @@ struct Out {
     late: u64,
 }
 
-/// Pops values until two thousand came out in all, and counts each where it belongs. It gives up after ten million tries.
+/// Pops values until there were two thousand in all, and counts each where it belongs. It gives up after ten million tries.
 fn popping(scene: &Scene, counts: &Counts) -> Option<Out> {
     let Ok(mut local) = scene.domain.register() else {
         return None;
@@ -190,7 +190,7 @@ fn push_next(scene: &Scene, local: &mut Local<u64>) -> bool
     }
 }
 
-/// Does so until five hundred numbers were pushed, and tells how many were. It gives up after a million tries.
+/// Does so until five hundred numbers were pushed, and returns how many were. It gives up after a million tries.
 fn counting(scene: &Scene) -> Option<u64> {
     let Ok(mut local) = scene.domain.register() else {
         return None;
@@ -208,7 +208,7 @@ fn counting(scene: &Scene) -> Option<u64> {
     Some(pushed)
 }
 
-/// How many numbers of a stack stand in front of the one before them, from the thousandth on.
+/// How many numbers of a stack are in front of the one before them, from the thousandth on.
 fn in_order(scene: &Scene, local: &mut Local<u64>) -> u64
     requires home { (home_of local.old ≡ place_of scene.now.domain.now) × (hand_of local.old ≡ []) }
     requires closed { (own_of local.old).nesting ≡ 0 }

@@ -109,7 +109,7 @@ fn push(
     }
 }
 
-/// Puts 1, 2 and 3 into a bag of two places and its overflow, and takes it apart, by so many steps: the sum of what they gave,
+/// Puts 1, 2 and 3 into a bag of two places and its overflow, and takes it apart, by this many steps: the sum of what they gave,
 /// and how many gave nothing. What is left is released.
 fn takes_apart(
     domain: &Domain<u64>,

@@ -30,14 +30,14 @@ IsPlaced s value place = (kept_in s ≡ place) × IsOwnerOf s value
 abbrev pub IsBackIn : {T : Type 0} → Shared T → Shared T → TableId → Type 0
 IsBackIn {T} s owner place = (kept_in s ≡ place) × ((x : T) → IsOwnerOf owner x → IsOwnerOf s x) × (s.slot ≡ owner.slot)
 
--- an owner in this place comes out where the condition said yes, and one of an item that stays where it said no
+-- an owner in this place is returned where the condition said yes, and one of an item that stays where it said no
 abbrev pub IsFrom : {T : Type 0} → Popped T → TableId → (Bool → Type 0) → Type 0
 IsFrom Empty place said = Unit {0}
 IsFrom (Item s) place said = (kept_in s ≡ place) × said true
 IsFrom (Kept s) place said = (kept_in s ≡ place) × said false
 IsFrom Again place said = Unit {0}
 
--- an owner that comes out is such a one
+-- an owner that is returned is one of these
 abbrev pub IfItem : {T : Type 0} → Popped T → (Shared T → Type 0) → Type 0
 IfItem Empty P = Unit {0}
 IfItem (Item s) P = P s
@@ -56,7 +56,7 @@ IfDone Done P = P
 IfDone (Unwanted s) P = Unit {0}
 IfDone (Slow s) P = Unit {0}
 
--- what is back after a push is the value, or its owner in this place; it may be refused by a condition, and as full, where these are so
+-- a refused push returns the value, or its owner in this place; it may be refused by a condition, and as full, where these are so
 abbrev pub IsRefused : {T : Type 0} → PushRefused T → T → TableId → Type 0 → Type 0 → Type 0
 IsRefused (NoSlot v) value place unwanted full = v ≡ value
 IsRefused (Full v) value place unwanted full = (v ≡ value) × full

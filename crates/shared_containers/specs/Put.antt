@@ -1,4 +1,4 @@
--- that a push put an item in, as the steps on cells tell that it made
+-- that a push put an item in, by the steps on cells that it made
 use Rattle.std.specs.Prelude.{◌≡◌, ◌≢◌, ◌⊎◌, ◌+◌, ℕ, List, ◌++◌, ◌∷◌, [], Option, Some}
 use Rattle.atomic_table.specs.Seated.{TableId}
 use Rattle.sdd_domain.specs.Cells.{cell_number}

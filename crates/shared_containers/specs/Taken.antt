@@ -1,4 +1,4 @@
--- that a pop took an item out, as the steps on cells tell that it made
+-- that a pop took an item out, by the steps on cells that it made
 use Rattle.std.specs.Prelude.{◌≡◌, ◌≢◌, ◌⊎◌, ℕ, true, false, Some}
 use Rattle.sdd_domain.specs.Cells.{cell_number}
 use Rattle.sdd_domain.specs.CellSteps.{NamesWith, HasMadeOne, step_on}

@@ -56,9 +56,9 @@ impl<T: Holds, const ARRAY_LEN: usize> Bag<T, ARRAY_LEN> {
         }
     }
 
-    /// A bag of the values, the first `ARRAY_LEN` of them in the primary. Where no empty bag can be made they are back. The first
-    /// value that is refused, as `push` refuses it, is back with the bag of those before it, and what is left of the values is
-    /// let go. Conditions: the values end, they hold no owners, and none is in the participant's hand.
+    /// A bag of the values, the first `ARRAY_LEN` of them in the primary. If no empty bag can be made, the values are
+    /// returned. If a value is refused, as `push` refuses it, it is returned with the bag of those before it, and the rest of
+    /// the values is dropped. Conditions: the values end, they hold no owners, and none is in the participant's hand.
     pub fn from_iter<I: IntoIterator<Item = T>>(
         alloc: Global,
         domain: &Domain<T>,
@@ -126,7 +126,7 @@ impl<T: Holds, const ARRAY_LEN: usize> Bag<T, ARRAY_LEN> {
         taken
     }
 
-    /// Puts a value into the primary, or into the overflow where no place was free. Where no slot is free it is back, a miss;
+    /// Puts a value into the primary, or into the overflow where no place was free. If no slot is free it is returned, a miss;
     /// after `2^64 - 1` tries its owner is. Conditions: the value holds no owners, and none is in the participant's hand.
     pub fn push(
         &self,
@@ -167,8 +167,8 @@ impl<T: Holds, const ARRAY_LEN: usize> Bag<T, ARRAY_LEN> {
         }
     }
 
-    /// Puts a value into the primary alone. Where each of its places is found taken the value is back (`Full`), or its owner
-    /// where others took the places that were free (`Busy`). Conditions: as those of `push`.
+    /// Puts a value into the primary alone. If each of its places is found taken, the value is returned (`Full`), or its
+    /// owner if others took the places that were free (`Busy`). Conditions: as those of `push`.
     pub fn try_push(
         &self,
         domain: &Domain<T>,
@@ -319,7 +319,7 @@ impl<T: Holds, const ARRAY_LEN: usize> Bag<T, ARRAY_LEN> {
     }
 }
 
-/// Puts an owner's item into a cell, unless that is found taken. Else the item's owner is back.
+/// Puts an owner's item into a cell, or returns the owner if the cell is found taken.
 fn fill<T: Holds>(
     domain: &Domain<T>,
     cell: &AtomicShared<T>,

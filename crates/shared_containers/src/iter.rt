@@ -16,14 +16,9 @@ use sdd_domain::shared::Shared;
 use shared_lists::Links;
 
 /// A walk along the items of a stack or a queue, from the first one on, under one guard. It borrows that guard alone: the
-/// place, its links and the participant are lent to each step, so pushes and pops may come in between.
+/// place, its links and the participant are lent to each step, so pushes and pops may be made in between.
 ///
-/// ```text
-/// let mut items = stack.iter(&domain, &links, &guard, &mut local);
-/// while let Some(value) = items.next(&domain, &links, &guard, &mut local) {
-///     sum += *value;
-/// }
-/// ```
+/// `walks` in `crates/shared_container_tests/src/walks.rt` walks while items are popped.
 #[derive(Drop)]
 pub struct Iter<'g, T> {
     /// What it gives next.

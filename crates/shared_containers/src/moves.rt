@@ -22,7 +22,7 @@ use sdd_domain::shared::Shared;
 use sdd_plain::tag::Tag;
 use shared_lists::moves::let_go;
 
-/// Has a cell own an item in the place of what was found in it, in one step. Else the item's owner is back.
+/// Replaces what was found in a cell by an item, in one step. Else it returns the item's owner.
 pub(crate) fn exchange<T: Holds>(
     domain: &Domain<T>,
     cell: &AtomicShared<T>,

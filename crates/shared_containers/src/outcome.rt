@@ -43,7 +43,7 @@ impl<T: Holds> PushRefused<T> {
 
 /// Why a container of the values of an iterator wasn't made, with what was built of it.
 pub enum FromIterRefused<C, T, I> {
-    /// Not even an empty container could be made. What was to give the values is back.
+    /// Not even an empty container could be made. It has what was to give the values.
     Unmade(NotMade, I),
     /// A value was refused, as a push of it is: the container of those before it, and the refusal.
     Partly(C, PushRefused<T>),
@@ -61,7 +61,7 @@ pub enum CloneRefused<C, T> {
 pub enum NotCloned<T> {
     /// The value's own `clone` was refused memory.
     Memory,
-    /// There was no room for the clone, which is back.
+    /// There was no room for the clone, which it has.
     Refused(PushRefused<T>),
 }
 

@@ -29,7 +29,7 @@ use shared_lists::Links;
 use shared_lists::moves::{TRIES, follow};
 
 /// A queue of items of a place, which threads push and pop by `&`. It must be consumed by `end`.
-/// The tag of an item's link tells whether the item was popped. Whoever sets it pops the item, so each is popped at most
+/// The tag of an item's link says whether the item was popped. Whoever sets it pops the item, so each is popped at most
 /// once; and behind an item that was popped nobody appends, since that would exchange a link without a tag.
 pub struct Queue<T> {
     front: Stack<T>,
@@ -58,9 +58,9 @@ impl<T: Holds> Queue<T> {
         Some(Queue { front, last })
     }
 
-    /// A queue of the values, the first one in front. Where fewer than two cells are free for it they are back, a miss. The first
-    /// value that is refused, as `push` refuses it, is back with the queue of those before it, and what is left of the values
-    /// is let go. Conditions: the values end, they hold no owners, and none is in the participant's hand.
+    /// A queue of the values, the first one in front. If fewer than two cells are free, the values are returned, a miss.
+    /// If a value is refused, as `push` refuses it, it is returned with the queue of those before it, and the rest of the
+    /// values is dropped. Conditions: the values end, they hold no owners, and none is in the participant's hand.
     pub fn from_iter<I: IntoIterator<Item = T>>(
         domain: &Domain<T>,
         values: I,
@@ -89,9 +89,9 @@ impl<T: Holds> Queue<T> {
         Ok(queue)
     }
 
-    /// A queue of clones of the items that `for_each` finds, in their order, each in a slot of its own. Where fewer than two
-    /// cells are free for it there is none, a miss. Where a clone is refused memory, or has no room, the queue of those before
-    /// it is back. The next push on it goes along all of its items. Conditions: clones hold no owners, and none is in the
+    /// A queue of clones of the items that `for_each` finds, in their order, each in a slot of its own. If fewer than two
+    /// cells are free there is no queue, a miss. If a clone is refused memory, or has no room, the queue of those before
+    /// it is returned. The next push on it walks along all of its items. Conditions: clones hold no owners, and none is in the
     /// participant's hand.
     pub fn clone(
         &self,
@@ -177,7 +177,7 @@ impl<T: Holds> Queue<T> {
         self.front.iter(domain, links, guard, local)
     }
 
-    /// Calls `f` with each item of such a walk, under a guard of its own.
+    /// Calls `f` with each item of an `iter`, under a guard of its own.
     pub fn for_each<F: FnMut(&T)>(
         &self,
         domain: &Domain<T>,
@@ -202,8 +202,8 @@ impl<T: Holds> Queue<T> {
         self.front.len(domain, links, local)
     }
 
-    /// Puts a value behind all others. Where no slot is free it is back, a miss. It tries again where others push or pop; after
-    /// `2^64 - 1` times the value's owner is back. Conditions: the value holds no owners, and none is in the participant's hand.
+    /// Puts a value behind all others. If no slot is free it is returned, a miss. The call tries again where others push or
+    /// pop; after `2^64 - 1` times it returns the value's owner. Conditions: the value holds no owners, and none is in the participant's hand.
     pub fn push(
         &self,
         domain: &Domain<T>,
@@ -223,7 +223,7 @@ impl<T: Holds> Queue<T> {
     }
 
     /// The same where `f` answers true of the last item, or of none: it is asked each time that the value might be appended, and
-    /// the value stands behind just the item that it was asked of last. Where it answers false the value's owner is back.
+    /// the value is put just behind the item that it was asked of last. If it answers false, the value's owner is returned.
     pub fn push_if<F: Fn(Option<&T>) -> bool>(
         &self,
         domain: &Domain<T>,

@@ -53,8 +53,8 @@ impl<T: Holds> Stack<T> {
         })
     }
 
-    /// A stack of the values, the last one in front. Where no cell is free for it they are back, a miss. The first value that is
-    /// refused, as `push` refuses it, is back with the stack of those before it, and what is left of the values is let go.
+    /// A stack of the values, the last one in front. If no cell is free, the values are returned, a miss. If a value is
+    /// refused, as `push` refuses it, it is returned with the stack of those before it, and the rest of the values is dropped.
     /// Conditions: the values end, they hold no owners, and none is in the participant's hand.
     pub fn from_iter<I: IntoIterator<Item = T>>(
         domain: &Domain<T>,
@@ -85,8 +85,8 @@ impl<T: Holds> Stack<T> {
         Ok(stack)
     }
 
-    /// A stack of clones of the items that `for_each` finds, in their order, each in a slot of its own. Where no cell is free for
-    /// it there is none, a miss. Where a clone is refused memory, or has no room, the stack of those before it is back.
+    /// A stack of clones of the items that `for_each` finds, in their order, each in a slot of its own. If no cell is free
+    /// there is no stack, a miss. If a clone is refused memory, or has no room, the stack of those before it is returned.
     /// Conditions: clones hold no owners, and none is in the participant's hand.
     pub fn clone(
         &self,
@@ -176,7 +176,7 @@ impl<T: Holds> Stack<T> {
         }
     }
 
-    /// Calls `f` with each item of such a walk, under a guard of its own.
+    /// Calls `f` with each item of an `iter`, under a guard of its own.
     pub fn for_each<F: FnMut(&T)>(
         &self,
         domain: &Domain<T>,
@@ -210,8 +210,8 @@ impl<T: Holds> Stack<T> {
         count
     }
 
-    /// Puts a value in front. Where no slot is free it is back, a miss. It tries again where others push or pop; after
-    /// `2^64 - 1` times the value's owner is back. Conditions: the value holds no owners, and none is in the participant's hand.
+    /// Puts a value in front. If no slot is free it is returned, a miss. The call tries again where others push or pop; after
+    /// `2^64 - 1` times it returns the value's owner. Conditions: the value holds no owners, and none is in the participant's hand.
     pub fn push(
         &self,
         domain: &Domain<T>,
@@ -231,7 +231,7 @@ impl<T: Holds> Stack<T> {
     }
 
     /// The same where `f` answers true of the first item, or of none: it is asked once each time that the push is tried, and
-    /// the value is put before just the item that it was asked of last. Where it answers false the value's owner is back.
+    /// the value is put just before the item that it was asked of last. If it answers false, the value's owner is returned.
     pub fn push_if<F: Fn(Option<&T>) -> bool>(
         &self,
         domain: &Domain<T>,
@@ -426,7 +426,7 @@ impl<T: Holds> Stack<T> {
 }
 
 /// Puts an item in front of what was found there, in one step: its link owns that from then on, and the owner that the stack
-/// had of it is released. Where others were faster the item's owner is back.
+/// had of it is released. If others were faster, it returns the item's owner.
 fn put_before<T: Holds>(
     domain: &Domain<T>,
     cell: &AtomicShared<T>,

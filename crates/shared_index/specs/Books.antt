@@ -49,7 +49,7 @@ abbrev pub misses_without : NewRefused → ℕ → ℕ
 misses_without news.Memory misses = misses
 misses_without news.NoSlot misses = misses + 1
 
--- the number that was asked for lies before the base's, or behind the present one, as a refused checkpoint tells
+-- the number that was asked for lies below the base's, or above the present one, as a refused checkpoint says
 abbrev pub LiesOutside : ℕ → CheckpointRefused → Type 0
 LiesOutside upto (checkpoints.Behind number) = upto < number
 LiesOutside upto (checkpoints.Ahead number) = number < upto
@@ -71,7 +71,7 @@ module _ {K V : Type 0} (cmp : K → K → Ordering) where
   abbrev pub list_at : BookState K V → ℕ → List (K × V)
   list_at b number = list_numbered cmp b.base b.history number
 
-  -- the transaction of these reads and writes, told what they are told on the present list
+  -- the transaction of these reads and writes, with the replies that the writes get on the present list
   abbrev pub transaction_of : BookState K V → List (Read K V) → List (Write K V) → Transaction K V
   transaction_of b reads writes = transaction_on cmp (present_list b) reads writes
 

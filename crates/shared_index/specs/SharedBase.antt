@@ -6,7 +6,7 @@ use Rattle.shared_index.specs.declared.book.from_base.SharedBaseCause.{SharedBas
 use Rattle.shared_index.specs.declared.book.from_base.SharedBaseCause.TheVariants as causes
 
 module _ {K V : Type 0} (cmp : K → K → Ordering) where
-  -- the keys rise up to this place, and not with the one that stands there
+  -- the keys ascend up to this place, and the key at this place isn't above the one before it
   pub record RisesUpto (pairs : List (K × V)) (place : ℕ) : Type 0 where
     pub behind_one : 0 < place
     pub within : place < length pairs

@@ -1,4 +1,4 @@
--- why an index that threads share doesn't tell what came behind a number
+-- why an index that threads share doesn't return what came after a number
 use Rattle.std.specs.Prelude.{◌≡◌, ℕ, ◌<◌, List}
 use Rattle.serial_history.specs.Serial.{Base, HasNumber, latest}
 use Rattle.serial_history.specs.declared.transaction.Transaction.{Transaction}
@@ -10,7 +10,7 @@ RefusesFeed base history n (feeds.TooOld number) = (n < base.number) × (number 
 RefusesFeed base history n (feeds.Ahead number) = (latest base history < n) × (number ≡ latest base history)
 RefusesFeed base history n feeds.Memory = HasNumber base history n
 
--- the number that was asked for lies before the base's, or behind the present one, as is told
+-- the number that was asked for lies below the base's, or above the present one, as the refusal says
 abbrev pub LiesOutsideFeed : ℕ → FeedRefused → Type 0
 LiesOutsideFeed n (feeds.TooOld number) = n < number
 LiesOutsideFeed n (feeds.Ahead number) = number < n

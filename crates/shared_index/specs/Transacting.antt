@@ -1,4 +1,4 @@
--- what an accepted commit is told, and what a transaction is that makes its writes of what it read
+-- the replies of an accepted commit, and what a transaction is that makes its writes of what it read
 use Rattle.std.specs.Prelude.{◌≡◌, List, Ok, Result, map}
 use Rattle.std.specs.Global.{Vec}
 use Rattle.std.specs.declared.alloc.AllocError.{AllocError}
@@ -12,11 +12,11 @@ use Rattle.shared_index.specs.declared.transact.TransactRefused.{TransactRefused
 use Rattle.shared_index.specs.declared.transact.TransactRefused.TheVariants as refusals
 
 module _ {K V : Type 0} (cmp : K → K → Ordering) where
-  -- on a list of which these reads hold, the writes are told this
+  -- these are the replies to the writes, on a list of which these reads hold
   abbrev pub AreTold : List (Read K V) → List (Write K V) → List Reply → Type 0
   AreTold reads writes replies = (pairs : List (K × V)) × IsValid cmp pairs (record { reads = reads; writes = writes; replies = replies })
 
-  -- the writes of an accepted transaction are those that a plan gives for its reads, and are told this on a list of which these hold
+  -- the writes of an accepted transaction are those that a plan returns for its reads, and its replies are those of a list of which these reads hold
   abbrev pub IsMade : (List (Read K V) → Result (Vec (Write K V)) AllocError → Type 0) → Transacted K V → Type 0
   IsMade plan t = (writes : Vec (Write K V)) × plan t.receipt.reads (Ok writes) × AreTold t.receipt.reads writes.items t.accepted.replies.items
 

@@ -75,8 +75,8 @@ impl<L: Naming, K: Clone + Ord, V: Clone + Eq, const S: usize> Model for Book<L,
 
 impl<L: Naming, K: Clone + Ord, V: Clone + Eq, const S: usize> Book<L, K, V, S> {
     /// A book without transactions, whose last number is the given one; a cell that names its version; and as many shares as
-    /// the ledger has parts. Refused, all comes back: for want of memory before anything is placed, and else, where its
-    /// participant missed a slot or a cell, with what was placed released, which waits to be reclaimed.
+    /// the ledger has parts. A refusal returns all arguments. It comes for want of memory, before anything is placed; or
+    /// where the participant missed a slot or a cell. What was placed until then is released, and waits to be reclaimed.
     pub fn new(
         alloc: Global,
         domain: &Domain<Node<K, V>>,
@@ -280,7 +280,7 @@ impl<L: Naming, K: Clone + Ord, V: Clone + Eq, const S: usize> Book<L, K, V, S> 
         reclaim_once(domain, &mut self.local);
     }
 
-    /// Ends the book and shares of it, and gives its participant back: what no cell owns is retired. The ledger goes, so no
+    /// Ends the book and its shares, and returns its participant. What no cell owns is retired. The ledger ends too, so no
     /// share counts any more.
     pub fn end(self, domain: &Domain<Node<K, V>>, shares: Vec<Share<L>>) -> Local<Node<K, V>>
         requires place { place_of domain.now ≡ L.place }

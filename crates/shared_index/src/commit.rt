@@ -21,8 +21,8 @@ use shared_versions::{Node, Present, build, build_list, publish};
 use std::alloc::Global;
 use version_views::{Reply, Write, WriteRefused};
 
-/// Builds the version that writes make of the present one, places it, and has the cell name it: what each write is told.
-/// Where it is refused, the present version is as it was; for want of a slot, that is one miss of the participant.
+/// Builds the version that writes make of the present one, places it, and has the cell name it. It returns the reply to
+/// each write. A refusal leaves the present version as it was; for want of a slot, it is one miss of the participant.
 pub(crate) fn install<K: Clone + Ord, V: Clone, const S: usize>(
     alloc: Global,
     domain: &Domain<Node<K, V>>,

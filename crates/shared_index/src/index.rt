@@ -33,7 +33,7 @@ use version_views::Write;
 /// is read without the lock.
 ///
 /// What a call does under the lock is what the same call of the [`Book`] does. A contract can't say here what that did to a
-/// book that other threads change too; it says what the caller's share tells. An index must be consumed, by
+/// book that other threads change too; it says what the caller's share counts. An index must be consumed, by
 /// [`close`](SharedIndex::close).
 pub struct SharedIndex<'d, L: Naming, K: Clone + Ord, V: Clone + Eq, const S: usize> {
     domain: &'d Domain<Node<K, V>>,
@@ -60,8 +60,8 @@ impl<'d, L: Naming, K: Clone + Ord, V: Clone + Eq, const S: usize> Model
 }
 
 impl<'d, L: Naming, K: Clone + Ord, V: Clone + Eq, const S: usize> SharedIndex<'d, L, K, V, S> {
-    /// An empty index in a place, with so many shares, at least one. Its last number is `2^64 - 1`. Refused, all comes back:
-    /// `Memory` where there is no room for the shares, and `NoSlot` where no slot is free for the empty version, or no cell,
+    /// An empty index in a place, with `shares` shares, at least one. Its last number is `2^64 - 1`. A refusal returns all
+    /// arguments: `Memory` where there is no room for the shares, and `NoSlot` where no slot is free for the empty version, or no cell,
     /// which is one miss of the participant.
     pub fn new(
         alloc: Global,
@@ -84,7 +84,7 @@ impl<'d, L: Naming, K: Clone + Ord, V: Clone + Eq, const S: usize> SharedIndex<'
         Self::with_last(alloc, domain, local, blank, shares, u64::MAX)
     }
 
-    /// The same, with this last number: so many commits are accepted at most, and the next is `Exhausted`.
+    /// The same, with this last number: at most that many commits are accepted, and the next is refused as `Exhausted`.
     pub fn with_last(
         alloc: Global,
         domain: &'d Domain<Node<K, V>>,
@@ -115,12 +115,13 @@ impl<'d, L: Naming, K: Clone + Ord, V: Clone + Eq, const S: usize> SharedIndex<'
         Ok((index, cut))
     }
 
-    /// An index in a place whose base is this list, under its number, with so many shares, at least one. Its last number is
-    /// `2^64 - 1`. So an index goes on in many threads where [`base`](Self::base), or that of an index of one thread, was read.
+    /// An index in a place whose base is this list, under its number, with `shares` shares, at least one. Its last number is
+    /// `2^64 - 1`. So an index continues in many threads from what [`base`](Self::base), or that of an index of one thread,
+    /// returned.
     ///
-    /// The first share begins at the number of the list, and the others at 0: so their counts sum to the number, as ever.
+    /// The first share begins at the number of the list, and the others at 0. So their counts sum to the number, as always.
     ///
-    /// The causes are decided in this order, and all comes back with each: `NotAscending`, before any memory is asked for;
+    /// The causes are decided in this order, and each returns all arguments: `NotAscending`, before any memory is requested;
     /// `Memory`, before anything is placed; `NoSlot`, where too few slots are free for the list, or no cell, which is one miss
     /// of the participant: what was placed until then waits to be reclaimed.
     pub fn from_base(
@@ -178,16 +179,11 @@ impl<'d, L: Naming, K: Clone + Ord, V: Clone + Eq, const S: usize> SharedIndex<'
     ///
     /// It is refused, with as many guards open as before, where [`SharedSession::open`] is: as `Nested` if and only if
     /// no more guards of the participant can be counted, and as `Earlier`, with the number of the version that it
-    /// loaded, where that is below `at_least`. Who was told the number of a commit asks for that number, so that it
-    /// reads what was committed; 0 asks for nothing. `NoVersion` never comes: only commits write to the cell, and each
+    /// loaded, where that is below `at_least`. To read what was committed, pass the number that the commit returned;
+    /// 0 asks for nothing. `NoVersion` never comes: only commits write to the cell, and each
     /// has it name a version of this width.
     ///
-    /// ```text
-    /// let mut session = index.open(&mut local, accepted.number)?;
-    /// session.read(Query::Get(1))?;
-    /// let receipt = session.close(index.domain(), &mut local);
-    /// index.commit(&rt, &mut share, &receipt, writes)?;
-    /// ```
+    /// [`Participant::reading`](crate::Participant::reading) opens one that closes by itself.
     pub fn open(
         &self,
         local: &mut Local<Node<K, V>>,
@@ -232,7 +228,7 @@ impl<'d, L: Naming, K: Clone + Ord, V: Clone + Eq, const S: usize> SharedIndex<'
         told
     }
 
-    /// Whether the reads of a receipt are answered as the list of its number answers them, as [`Book::audit`] tells.
+    /// Whether the reads of a receipt are answered as the list of its number answers them, as [`Book::audit`] says.
     pub fn audit<R: Wait>(&self, rt: &R, receipt: &Receipt<K, V>) -> Result<Audit, AllocError>
         requires keys { ClonesAreSame K.is_clone }
         requires values { ClonesAreSame V.is_clone }

@@ -5,16 +5,50 @@
 //! Who commits has a [`Share`], which counts the accepted commits that were made with it: in the end their counts sum to the
 //! number of the index.
 //!
+//! <!-- crates/shared_configuration/src/service.rt read_both one_more raised -->
 //! ```text
-//! let (index, mut shares) = SharedIndex::<L, u64, u64, 64>::new(alloc, &domain, local, Blank::new(1), 1)?;
-//! let mut share = shares.pop()?;
-//! index.commit(&rt, &mut share, &Receipt::blank(alloc), vec![in alloc; Write::Insert(1, 10)]?)?;   // number 1
-//! share.count();                                                                                   // 1
-//! index.audit(&rt, &receipt)?;                                                                     // Yes, No or Unknown
-//! index.reclaim(&rt);
-//! shares.push(share)?;
-//! let (local, number) = index.close(shares)?;                                                      // number 1
+//! /// One session for at least this number, which records both settings. None where it or memory was refused.
+//! fn read_both<L: Naming>(member: &mut Member<'_, '_, L>, at_least: u64) -> Option<Found> {
+//!     let Ok(mut reading) = member.reading(at_least) else {
+//!         return None;
+//!     };
+//!     let workers = reading.read(Query::Get(WORKERS));
+//!     let waiting = reading.read(Query::Get(WAITING));
+//!     match (workers, waiting) {
+//!         (Ok(workers), Ok(waiting)) => Some((workers, waiting, reading.close())),
+//!         _ => None,
+//!     }
+//! }
+//!
+//! /// One more of each setting than the first was read to be.
+//! fn one_more(
+//!     alloc: Global,
+//!     reads: &[Recorded<u64, u64>],
+//! ) -> Result<Vec<Write<u64, u64>>, AllocError> {
+//!     let number = match reads {
+//!         [(_, Answer::Get(Some(number))), ..] => number.wrapping_add(1),
+//!         _ => 1,
+//!     };
+//!     Ok(vec![in alloc;
+//!         Write::Upsert(WORKERS, number),
+//!         Write::Upsert(WAITING, number),
+//!     ]?)
+//! }
+//!
+//! /// Reads both settings, and commits one more of each. Where either was changed since, it reads them again, nine times at most.
+//! /// True if it is accepted.
+//! fn raised<L: Naming, R: Wait>(
+//!     rt: &R,
+//!     alloc: Global,
+//!     member: &mut Member<'_, '_, L>,
+//!     share: &mut Share<L>,
+//! ) -> bool {
+//!     let queries = [Query::Get(WORKERS), Query::Get(WAITING)];
+//!     let told = member.transact(rt, share, &queries, 9, |reads| one_more(alloc, reads));
+//!     told.is_ok()
+//! }
 //! ```
+//! <!-- end -->
 #![tactic(auto)]
 
 mod book;

@@ -7,9 +7,9 @@ ghost use Rattle.sdd_plain.specs.declared.sizes.Sizes.{Sizes};
 use std::marker::Brand;
 use std::sync::ledger::Ledger;
 
-/// The place of an index, with its sizes, its last number, and the ledger of its shares. What is behind a lock and what stands
+/// The place of an index, with its sizes, its last number, and the ledger of its shares. What is behind a lock and what is
 /// outside it agree on these by their types alone, so each index has a type of its own for them. A caller who needs no name
-/// takes `Brand`, and says at one call what it stands for.
+/// takes `Brand`, and says in its proof, at one call, what it denotes.
 pub trait Naming: Ledger {
     ghost place: { TableId × Sizes };
 

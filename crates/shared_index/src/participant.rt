@@ -1,4 +1,4 @@
-//! A participant of an index, which ends where it is let go.
+//! A participant of an index, which ends where it is dropped.
 
 ghost use Rattle.std.specs.Prelude.{◌≡◌, ◌≤◌, ◌++◌, ◌∷◌, [], None, Some, IfOk, IfErr, IsErrOf, IsSome, OnErr, OnOk};
 ghost use Rattle.leaf_array.specs.Values.{ClonesAreSame};
@@ -19,7 +19,7 @@ use std::marker::Model;
 
 /// A participant of the place of an index, to read it by one session at a time.
 ///
-/// It ends where it is let go, and so does its session: nothing is asked of its calls, and nobody has to close or end
+/// It ends where it is dropped, and so does its session: nothing is asked of its calls, and nobody has to close or end
 /// anything. Contracts see its session, where one is open.
 pub struct Participant<'i, 'd, L: Naming, K: Clone + Ord, V: Clone + Eq, const S: usize> {
     index: &'i SharedIndex<'d, L, K, V, S>,
@@ -59,7 +59,7 @@ impl<'i, 'd, L: Naming, K: Clone + Ord, V: Clone + Eq, const S: usize> Drop
 }
 
 impl<'d, L: Naming, K: Clone + Ord, V: Clone + Eq, const S: usize> SharedIndex<'d, L, K, V, S> {
-    /// Registers a participant, which ends where it is let go. It is refused where [`Domain::register`] is: as `Full` where each
+    /// Registers a participant, which ends where it is dropped. It is refused where [`Domain::register`] is: as `Full` where each
     /// participant of the place was taken when it was tried, and as `Memory` where there was none for what it keeps.
     ///
     /// [`Domain::register`]: sdd_domain::domain::Domain::register
@@ -90,7 +90,7 @@ impl<'i, 'd, L: Naming, K: Clone + Ord, V: Clone + Eq, const S: usize> Participa
         self.index
     }
 
-    /// A reader of the present list, by a session that closes where the reader is let go: [`SharedIndex::open`] says which
+    /// A reader of the present list, by a session that closes where the reader is dropped: [`SharedIndex::open`] says which
     /// version it reads. It takes no memory.
     ///
     /// It is refused as `Earlier`, with the number of the version that was loaded, where that is below `at_least`; then no session is

@@ -1,4 +1,4 @@
-//! A reader of an index that threads share, which closes its session where it is let go.
+//! A reader of an index that threads share, which closes its session where it is dropped.
 
 ghost use Rattle.std.specs.Prelude.{◌≡◌, ◌++◌, ◌∷◌, [], None, length, IfOk, IsSome, OnErr};
 ghost use Rattle.std.specs.Option.{option_copied};
@@ -20,7 +20,7 @@ use std::ops::Bound;
 
 /// A reader of the list that was present when it was made, by a session of the participant that it borrows.
 ///
-/// Its session closes where it is let go, so nothing is asked of its reads, and nobody has to close it. What others commit
+/// Its session closes where it is dropped, so nothing is asked of its reads, and nobody has to close it. What others commit
 /// and reclaim meanwhile doesn't change what it reads. A participant has one reader at a time; who wants to read by several
 /// sessions takes [`open`](crate::SharedIndex::open).
 pub struct SharedReading<'a, 'i, 'd, L: Naming, K: Clone + Ord, V: Clone + Eq, const S: usize> {
@@ -77,7 +77,7 @@ impl<'a, 'i, 'd, L: Naming, K: Clone + Ord, V: Clone + Eq, const S: usize> Share
         self.participant.session().len()
     }
 
-    /// Where the key stands, with a cursor there (as `locate` of a `TreeIndex`). The read isn't recorded.
+    /// Where the key is, with a cursor there (as `locate` of a `TreeIndex`). The read isn't recorded.
     pub fn locate(&self, key: &K) -> SharedNearby<'_, K, V>
         ensures { IsLocated K.cmp key.now (list_read self.now) (as_proximity result) }
     {

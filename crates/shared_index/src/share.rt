@@ -29,8 +29,8 @@ impl<L: Naming> Model for Share<L> {
 }
 
 impl<L: Naming> Share<L> {
-    /// How many accepted commits were made with it, and where it is the first share of an index that began with a list, how many
-    /// that list's number stands for.
+    /// How many accepted commits were made with it. The first share of an index that began with a list counts that list's
+    /// number, too.
     pub fn count(&self) -> u64
         ensures { result ≡ self.now }
     {
@@ -128,7 +128,7 @@ fn merge_all<L: Naming>(mut shares: Vec<Share<L>>, all: &mut ledger::Share<L>)
     shares.destroy_empty();
 }
 
-/// Ends shares of a ledger that goes.
+/// Ends shares of a ledger that ends.
 pub(crate) fn end_all<L: Naming>(mut shares: Vec<Share<L>>) {
     while let Some(share) = shares.pop() {
         let Share { count: _, mark: _ } = share;

@@ -59,23 +59,34 @@ pub struct Ran<A> {
 #[derive(Clone, Copy, Debug, PartialEq, Eq, Error)]
 pub enum RunCause {
     /// There are more than 2^30 slots, or 2^30 tasks or more.
-    #[error("there are more than 2^30 slots, or 2^30 tasks or more")]
+    #[error("there are more than 2^30 slots, or 2^30 tasks or more; no task was run")]
     Sizes,
     /// There is no memory for the place, its participants, or what is kept for each task.
-    #[error("memory was refused")]
+    #[error("memory was refused; no task was run")]
     Memory,
     /// No slot is free for the empty version.
-    #[error("no slot is free for the empty version")]
+    #[error("no slot is free for the empty version; no task was run")]
     NoSlot,
 }
 
 /// Tasks that weren't run.
-#[derive(Drop)]
+#[derive(Debug, Drop, Error)]
+#[error("{cause}")]
 pub struct RunRefused<A> {
     /// Why.
     pub cause: RunCause,
-    /// The tasks.
+    /// The tasks, as they were handed in.
     pub tasks: Vec<A>,
+}
+
+impl<A> RunRefused<A> {
+    /// The tasks, as they were handed in.
+    pub fn into_tasks(self) -> Vec<A>
+        ensures { result ≡ self.tasks }
+    {
+        let RunRefused { cause: _, tasks } = self;
+        tasks
+    }
 }
 
 // A task at its share.
@@ -91,13 +102,13 @@ struct Rooms<L: Naming, A> {
     ended: Vec<Ended<A>>,
 }
 
-/// Runs tasks over an empty index of their own, each in a thread of its own where one can be had, in a place of so many slots, and
-/// ends the index and the place when all tasks have ended. Each has a share, and a participant can be registered for each at
+/// Runs tasks over an empty index of their own, each in a thread of its own where one can be had, in a place of `slots`
+/// slots. It ends the index and the place when all tasks have ended. Each has a share, and a participant can be registered for each at
 /// a time. Its last number is `2^64 - 1`.
 ///
 /// Where no thread can be had, tasks run one after another: so none may wait for another one.
 ///
-/// The causes of a refusal are decided in this order, and the tasks are back with each: `Sizes`, `Memory`, `NoSlot`.
+/// The causes of a refusal are decided in this order, and each returns the tasks: `Sizes`, `Memory`, `NoSlot`.
 pub fn run_tasks<
     K: Clone + Ord + Send + Sync,
     V: Clone + Eq + Send + Sync,
@@ -241,7 +252,7 @@ fn run_over<
     }
 }
 
-// Room for so many tasks. None where memory was refused.
+// Room for `count` tasks. None where memory was refused.
 fn made_room<L: Naming, A>(alloc: Global, count: usize) -> Option<Rooms<L, A>>
     ensures empty { IfSome result (λ r. (r.assigned.items ≡ []) × (r.shares.items ≡ []) × (r.ended.items ≡ [])) }
     ensures room { IfSome result (λ r. (count ≤ vec_capacity r.assigned) × (count ≤ vec_capacity r.shares) × (count ≤ vec_capacity r.ended)) }

@@ -21,7 +21,7 @@ use version_views::Write;
 pub struct Transacted<K, V> {
     /// The reads that it rests on, with the number of the list that they were read in.
     pub receipt: Receipt<K, V>,
-    /// The number of the list that it left, and what each of its writes was told.
+    /// The number of the list that it left, and the reply to each of its writes.
     pub accepted: Accepted,
 }
 
@@ -29,12 +29,12 @@ pub struct Transacted<K, V> {
 #[derive(Clone, Debug, PartialEq, Eq, Drop, Error)]
 pub enum TransactRefused<K, V> {
     /// Its commit was refused, with its writes: as `Conflict` where that was its last try.
-    #[error("{0}")]
-    Commit(Refused<K, V>),
+    #[error(transparent)]
+    Commit(#[from] Refused<K, V>),
     /// There was no memory for what it reads, or the plan had none for its writes.
     #[error("memory was refused before the commit; the index is as it was")]
     Memory,
-    /// The root was found to name no version of such segments. It never comes, as with [`open`](crate::SharedIndex::open).
+    /// The root was found to name no version with segments of this width. It never comes, as with [`open`](crate::SharedIndex::open).
     #[error("the root names no version of such segments; the index is as it was")]
     NoVersion,
 }
@@ -57,10 +57,22 @@ impl<'i, 'd, L: Naming, K: Clone + Ord, V: Clone + Eq, const S: usize> Participa
     ///
     /// The plan is asked without the lock, once in each try. Its session is closed by then.
     ///
+    /// <!-- crates/shared_configuration/src/service.rt raised -->
     /// ```text
-    /// let queries = [Query::Get(1)];
-    /// member.transact(&rt, &mut share, &queries, 9, |reads| plan_of(alloc, reads))?;   // ten tries at most
+    /// /// Reads both settings, and commits one more of each. Where either was changed since, it reads them again, nine times at most.
+    /// /// True if it is accepted.
+    /// fn raised<L: Naming, R: Wait>(
+    ///     rt: &R,
+    ///     alloc: Global,
+    ///     member: &mut Member<'_, '_, L>,
+    ///     share: &mut Share<L>,
+    /// ) -> bool {
+    ///     let queries = [Query::Get(WORKERS), Query::Get(WAITING)];
+    ///     let told = member.transact(rt, share, &queries, 9, |reads| one_more(alloc, reads));
+    ///     told.is_ok()
+    /// }
     /// ```
+    /// <!-- end -->
     pub fn transact<R: Wait, F: Fn(&[Recorded<K, V>]) -> Result<Vec<Write<K, V>>, AllocError>>(
         &mut self,
         rt: &R,

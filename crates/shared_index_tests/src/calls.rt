@@ -22,7 +22,7 @@ use std::sync::Wait;
 use std::sync::ledger::Blank;
 use version_views::Write;
 
-/// An index of numbers, with so many pairs in a segment at most.
+/// An index of numbers, with this many pairs in a segment at most.
 pub(crate) type Index<'d, L, const S: usize> = SharedIndex<'d, L, u64, u64, S>;
 
 /// The same with two.
@@ -77,7 +77,7 @@ pub(crate) fn bounded<'d, L: Naming, R: Abort, const S: usize>(
     }
 }
 
-/// An empty index with so many shares, or what it was to be made of.
+/// An empty index with this many shares, or what it was to be made of.
 pub(crate) fn made<'d, L: Naming, const S: usize>(
     alloc: Global,
     domain: &'d Domain<Item>,
@@ -94,7 +94,7 @@ pub(crate) fn made<'d, L: Naming, const S: usize>(
     SharedIndex::new(alloc, domain, local, blank, shares)
 }
 
-/// An index with so many shares that begins with a list, or what it was to be made of.
+/// An index with this many shares that begins with a list, or what it was to be made of.
 pub(crate) fn held<'d, L: Naming, const S: usize>(
     alloc: Global,
     domain: &'d Domain<Item>,
@@ -235,7 +235,7 @@ pub(crate) fn counted<L: Naming, R: Wait, const S: usize>(
     (index.numbers(rt), (index.slots_in_use(), index.slots()))
 }
 
-/// So many rounds of a reclaim.
+/// This many rounds of a reclaim.
 pub(crate) fn rounds<L: Naming, R: Wait, const S: usize>(
     rt: &R,
     index: &Index<'_, L, S>,

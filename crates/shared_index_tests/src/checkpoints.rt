@@ -16,7 +16,7 @@ use std::process::Abort;
 use std::sync::Wait;
 use std::sync::ledger::Blank;
 
-/// What is found: whether three commits are accepted, what four checkpoints are told, what audits say of numbers below the
+/// What is found: whether three commits are accepted, the answers to four checkpoints, what audits say of numbers below the
 /// base, at it, above it and above the present one, and the number.
 type Cut = (
     [Option<bool>; 3],

@@ -1,4 +1,4 @@
-//! An index of one thread that goes on in two threads, and back: each begins with the base of the one before.
+//! An index of one thread that continues in two threads, and back: each begins with the base of the one before.
 
 ghost use Rattle.std.specs.Prelude.{◌≡◌};
 ghost use Rattle.sdd_domain.specs.Tokens.{place_of};
@@ -122,7 +122,7 @@ fn is_list(list: &BaseList<u64, u64>, number: u64, pairs: &[(u64, u64)]) -> bool
 }
 
 /// What is found of the index that threads share: what a session reads before they write and afterwards, with what audits say,
-/// what the threads are told, its base at the end, and the number that it ends at.
+/// what the threads get as answers, its base at the end, and the number that it ends at.
 type Found = (
     [(Seen, [Audit; 2]); 2],
     [Option<u64>; 6],
@@ -155,7 +155,7 @@ fn shared<L: Naming + Send + Sync, R: Threads + Wait + Abort + Sync>(
     ([first, last], told, (checked, list), number)
 }
 
-/// Whether an index of one thread goes on from there.
+/// Whether an index of one thread continues from there.
 fn goes_on<R: Abort>(rt: &R, alloc: Global, list: BaseList<u64, u64>) -> bool {
     let BaseList { number, pairs } = list;
     let mut index = match Alone::from_base(alloc, number, pairs, 1, 64) {
@@ -188,7 +188,7 @@ fn an_index_of_one_thread_goes_on_in_two_and_back(rt: HostRuntime) {
     assert!(rt; goes_on(&rt, alloc, list));
 }
 
-/// Why no index begins with the list, whose pairs are back; none where one does.
+/// Why no index begins with the list, whose pairs are returned; none where one does.
 fn refused<L: Naming, R: Abort>(
     rt: &R,
     alloc: Global,

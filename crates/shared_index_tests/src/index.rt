@@ -18,7 +18,7 @@ use std::sync::Wait;
 use std::sync::ledger::Blank;
 use version_views::Write;
 
-/// What is found with two shares: what commits of one key tell that rest on its value, the counts of the shares, how many
+/// What is found with two shares: what commits of one key answer that rest on its value, the counts of the shares, how many
 /// shares there are at first and where one is missing, and the number.
 type Missing = ([Option<bool>; 4], [u64; 2], [usize; 2], u64);
 
@@ -68,7 +68,7 @@ fn an_index_is_closed_with_all_its_shares(rt: HostRuntime) {
 /// The numbers of a base and a present list; how many slots are in use, and how many there are.
 type Counts = ((u64, u64), (usize, usize));
 
-/// What is found under the lock: what a commit tells; what is counted before, after one round of a reclaim and after eight;
+/// What is found under the lock: what a commit answers; what is counted before, after one round of a reclaim and after eight;
 /// what three audits say, and the number.
 type Locked = (
     Result<Accepted, Refused<u64, u64>>,
@@ -77,7 +77,7 @@ type Locked = (
     u64,
 );
 
-/// What a commit is told under the lock is what the book tells, and eight rounds of a reclaim free slots, as `reclaim` does.
+/// The answer to a commit under the lock is what the book answers, and eight rounds of a reclaim free slots, as `reclaim` does.
 fn told_under_the_lock<L: Naming, R: Wait + Abort>(
     rt: &R,
     alloc: Global,
@@ -154,7 +154,7 @@ fn refused<L: Naming, R: Abort>(
     }
 }
 
-/// The same in a place of its own, with so many slots and cells.
+/// The same in a place of its own, with this many slots and cells.
 fn refused_in<R: Abort>(rt: &R, alloc: Global, slots: usize, cells: usize) -> Option<NewRefused> {
     if slots > 8 || cells > 8 {
         panic!(rt; "a small place");
@@ -184,7 +184,7 @@ fn no_index_is_made_without_a_slot_or_a_cell(rt: HostRuntime) {
     assert!(rt; found == [none, none, None]);
 }
 
-/// What a commit is told where the place has no slot for it, what a session reads then, and the number.
+/// The answer to a commit where the place has no slot for it, what a session reads then, and the number.
 type Small = (Result<Accepted, Refused<u64, u64>>, Answer<u64, u64>, u64);
 
 /// A commit in a place with two slots, of which the empty version has one: it would take two more.
@@ -209,7 +209,7 @@ fn too_small<L: Naming, R: Wait + Abort>(
     (told, list, closed(rt, domain, index, shares))
 }
 
-/// Whether a commit was refused for want of slots, and its write came back.
+/// Whether a commit was refused for want of slots, and its write was returned.
 fn is_without_slots(told: &Result<Accepted, Refused<u64, u64>>) -> bool {
     match told {
         Ok(_) => false,

@@ -47,7 +47,7 @@ pub(crate) enum Task {
     Sums,
 }
 
-/// What six threads do with an empty index, what they are told, and what the index is then.
+/// What six threads do with an empty index, what they get as answers, and what the index is then.
 #[derive(Clone, Copy)]
 pub(crate) struct Crowd {
     pub(crate) participants: u8,
@@ -67,12 +67,12 @@ fn counted<L: Naming>(is_done: bool, share: &Share<L>) -> Option<u64> {
     if is_done { Some(share.count()) } else { None }
 }
 
-/// What is told of key 1 that was counted up.
+/// What is answered of key 1 that was counted up.
 fn counted_up<L: Naming>(wrote: Option<u64>, share: &Share<L>) -> Option<u64> {
     Some(u64::from(share.count() == wrote?))
 }
 
-/// What is told of commits that were read back.
+/// What is answered of commits that were read back.
 fn found_back<L: Naming>(right: Option<u32>, share: &Share<L>) -> Option<u64> {
     if share.count() == 50 {
         Some(u64::from(right?))
@@ -81,7 +81,7 @@ fn found_back<L: Naming>(right: Option<u32>, share: &Share<L>) -> Option<u64> {
     }
 }
 
-/// Does it with a share: what is told.
+/// Does it with a share: what is answered.
 fn committed<L: Naming, R: Wait + Abort, const S: usize>(
     rt: &R,
     alloc: Global,
@@ -114,7 +114,7 @@ fn committed<L: Naming, R: Wait + Abort, const S: usize>(
     }
 }
 
-/// Does it, with the share if it commits: what is told.
+/// Does it, with the share if it commits: what is answered.
 fn done<L: Naming, R: Wait + Abort, const S: usize>(
     rt: &R,
     alloc: Global,
@@ -185,7 +185,7 @@ fn put_back<L: Naming, R: Abort>(rt: &R, shares: &mut Vec<Share<L>>, share: Opti
     }
 }
 
-/// What six threads are told that do these.
+/// What six threads get as answers that do these.
 pub(crate) fn six<L: Naming + Send + Sync, R: Threads + Wait + Abort + Sync, const S: usize>(
     rt: &R,
     alloc: Global,
@@ -249,7 +249,7 @@ fn is_list(answer: &Answer<u64, u64>, list: &[(u64, u64)]) -> bool {
     }
 }
 
-/// What is found of a crowd: what the threads are told, whether the list is right by audits and by a session, and the number.
+/// What is found of a crowd: what the threads get as answers, whether the list is right by audits and by a session, and the number.
 type Found = ([Option<u64>; 6], bool, bool, u64);
 
 fn crowded<L: Naming + Send + Sync, R: Threads + Wait + Abort + Sync, const S: usize>(

@@ -77,7 +77,7 @@ fn receipt_of<L: Naming, R: Abort>(
     (ended(session, index, local), right)
 }
 
-/// What is found of a large index: how many commits fill it, how many reads find what they are to, and what two commits are told
+/// What is found of a large index: how many commits fill it, how many reads find what they are to, and the answers to two commits
 /// that write what the last of these reads found, and the number.
 type Found = (u64, u64, [Told; 2], u64);
 
@@ -179,7 +179,7 @@ fn finds_first<L: Naming>(
     found == Ok(Answer::Get(Some(10)))
 }
 
-/// So many participants, each of which opens a session that stays open until all others have opened and read theirs, and a
+/// This many participants, each of which opens a session that stays open until all others have opened and read theirs, and a
 /// commit has changed what they read: how many find the first value.
 fn at_once<L: Naming, R: Wait + Abort>(
     rt: &R,
@@ -200,7 +200,7 @@ fn at_once<L: Naming, R: Wait + Abort>(
     others.saturating_add(u32::from(found))
 }
 
-/// A commit, which so many participants read beside the next one: how many find it, and the number.
+/// A commit, which this many participants read beside the next one: how many find it, and the number.
 fn crowded<L: Naming, R: Wait + Abort>(
     rt: &R,
     alloc: Global,

@@ -30,6 +30,8 @@ mod sharing;
 #[cfg(test)]
 mod tasks;
 #[cfg(test)]
+mod texts;
+#[cfg(test)]
 mod threads;
 #[cfg(test)]
 mod transact;

@@ -56,7 +56,7 @@ fn read_back<L: Naming, const S: usize>(
     }
 }
 
-/// Whether a session for the greatest number is refused, and told one that is at least this.
+/// Whether a session for the greatest number is refused, with a number that is at least this.
 fn is_told_earlier<L: Naming, const S: usize>(
     index: &Index<'_, L, S>,
     local: &mut Local<Item>,
@@ -80,8 +80,8 @@ fn is_told_earlier<L: Naming, const S: usize>(
 }
 
 /// Fifty commits of a key that nobody else writes, each read back in a session of a participant of its own, for at least the number
-/// that the commit was told: how many were found, with a receipt that is right by an audit, and whoever asks for the greatest number
-/// told one that isn't below that of the commit. None if no participant was free.
+/// that the commit returned: how many were found, with a receipt that is right by an audit. Whoever asks for the greatest number
+/// is refused with one that isn't below that of the commit. None if no participant was free.
 pub(crate) fn read_often<L: Naming, R: Wait, const S: usize>(
     rt: &R,
     alloc: Global,
@@ -93,7 +93,7 @@ pub(crate) fn read_often<L: Naming, R: Wait, const S: usize>(
     let mut local = registered(domain)?;
     let mut right: u32 = 0;
     for value in 1..=50u64 {
-        // the last number stands for a commit that was refused: no session is opened for it
+        // the last number represents a commit that was refused: no session is opened for it
         let number = raised(rt, alloc, index, share, key, value).unwrap_or(u64::MAX);
         let is_later = is_told_earlier(index, &mut local, number);
         if let Some(receipt) = read_back(index, &mut local, number, key, value) {

@@ -101,7 +101,7 @@ fn counted<L: Naming, R: Wait>(
     }
 }
 
-/// So many transactions, each of which raises key 1.
+/// This many transactions, each of which raises key 1.
 fn raised_often<L: Naming, R: Wait>(
     rt: &R,
     alloc: Global,
@@ -213,7 +213,7 @@ fn kept_by_a_reader<L: Naming, R: Wait>(
     index.domain().slots_in_use()
 }
 
-/// What was run in a place of so many slots.
+/// What was run in a place of this many slots.
 fn ran<R: Threads + Wait + Sync>(
     rt: &R,
     alloc: Global,
@@ -254,7 +254,7 @@ fn a_participant_and_its_reader_end_by_themselves(rt: HostRuntime) -> Result<(),
     Ok(())
 }
 
-/// The commits of each task, if it is the one that stood at its place.
+/// The commits of each task, if it is the one that was at its place.
 fn commits(ended: &[Ended<Work>]) -> [u64; 3] {
     match ended {
         [
@@ -303,7 +303,7 @@ fn tasks_raise_one_key_by_transactions(rt: HostRuntime) -> Result<(), Fail> {
     Ok(())
 }
 
-/// Two tasks, which aren't run only for want of memory, and are back then.
+/// Two tasks, which aren't run only for want of memory, and are returned then.
 fn run_two<R: Threads + Wait + Abort + Sync>(rt: &R, alloc: Global) {
     let Ok(tasks) = vec![in alloc; Work::Rests, Work::Raises(alloc, 2)] else {
         return;
@@ -322,7 +322,7 @@ fn a_refusal_of_memory_gives_the_tasks_back(rt: HostRuntime) {
     run_two(&rt, rt.alloc());
 }
 
-/// Why one task isn't run in a place of so many slots, and how many tasks are back.
+/// Why one task isn't run in a place of this many slots, and how many tasks are returned.
 fn refused<R: Threads + Wait + Sync>(
     rt: &R,
     alloc: Global,

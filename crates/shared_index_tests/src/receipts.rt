@@ -45,7 +45,7 @@ enum Step {
     Reclaim,
 }
 
-/// What is told at the end of a step: the number of a commit, or why it or its session was refused.
+/// What is answered at the end of a step: the number of a commit, or why it or its session was refused.
 pub(crate) type Told = (&'static str, u64);
 
 /// The query of a read.
@@ -60,7 +60,7 @@ fn query(ask: Ask) -> Query<u64> {
     }
 }
 
-/// What is told of a refusal to open a session.
+/// What is answered of a refusal to open a session.
 fn unopened(why: OpenRefused) -> Told {
     match why {
         OpenRefused::Nested => ("nested", 0),
@@ -69,7 +69,7 @@ fn unopened(why: OpenRefused) -> Told {
     }
 }
 
-/// What is told of a refused commit.
+/// What is answered of a refused commit.
 fn uncommitted(why: Cause) -> Told {
     match why {
         Cause::Conflict(at) => ("conflict", at as u64),
@@ -79,7 +79,7 @@ fn uncommitted(why: Cause) -> Told {
     }
 }
 
-/// Commits writes on a receipt: what is told. Refused, they have to come back.
+/// Commits writes on a receipt: what is answered. Refused, they have to be returned.
 pub(crate) fn written<L: Naming, R: Wait + Abort, const S: usize>(
     rt: &R,
     alloc: Global,
@@ -140,7 +140,7 @@ fn receipt_of<L: Naming, R: Wait + Abort, const S: usize>(
     }
 }
 
-/// Takes a step: what is told at its end.
+/// Takes a step: what is answered at its end.
 fn stepped<L: Naming, R: Wait + Abort, const S: usize>(
     rt: &R,
     alloc: Global,
@@ -173,7 +173,7 @@ fn stepped<L: Naming, R: Wait + Abort, const S: usize>(
     }
 }
 
-/// How many steps of a table tell what they are to before the first that doesn't.
+/// How many steps of a table answer what they are to before the first that doesn't.
 fn played<L: Naming, R: Wait + Abort, const S: usize>(
     rt: &R,
     alloc: Global,
@@ -410,7 +410,7 @@ const ENDS: Table = Table {
     number: 9,
 };
 
-/// Several reads: the first that doesn't hold is told. What was changed and changed back holds.
+/// Several reads: the first that doesn't hold is the answer. What was changed and changed back holds.
 const SEVERAL_READS: Table = Table {
     is_by_ones: false,
     slots: 512,
@@ -468,7 +468,7 @@ const SEVERAL_READS: Table = Table {
     number: 8,
 };
 
-/// A session for a number that isn't there yet is told the one that is.
+/// A session for a number that isn't there yet is refused with the one that is.
 const EARLIER: Table = Table {
     is_by_ones: true,
     slots: 64,
@@ -485,7 +485,7 @@ const EARLIER: Table = Table {
     number: 3,
 };
 
-/// An index whose last number is 2: who read what is there is told so, as is who read nothing.
+/// An index whose last number is 2: who read what is there is answered so, as is who read nothing.
 const LAST_NUMBER: Table = Table {
     is_by_ones: true,
     slots: 64,

@@ -26,7 +26,7 @@ use version_views::Write;
 
 const TWICE: &str = "memory was refused twice";
 
-/// A place for two participants and so many items.
+/// A place for two participants and this many items.
 fn place_by_two<R: Abort>(rt: &R, alloc: Global) -> Domain<Item> {
     match place(alloc, place_for(2, 16)) {
         Ok(domain) => domain,
@@ -68,7 +68,7 @@ fn two_writes(alloc: Global) -> Result<Vec<Write<u64, u64>>, AllocError> {
     Ok(writes)
 }
 
-/// Commits two writes of one key. Where memory was refused, they are back, and index and share are as before.
+/// Commits two writes of one key. Where memory was refused, they are returned, and index and share are as before.
 fn commit_by_two<L: Naming, R: Wait + Abort>(
     rt: &R,
     alloc: Global,
@@ -162,7 +162,7 @@ fn base_by_two<L: Naming, R: Wait + Abort>(rt: &R, index: &Numbers<'_, L>) -> Op
     list.pairs.as_slice().first().copied()
 }
 
-/// What is found: what two commits tell, the answer of a recorded read and how many its receipt has, what an audit of it says
+/// What is found: what two commits answer, the answer of a recorded read and how many its receipt has, what an audit of it says
 /// before the first list is the base and afterwards, how many transactions came behind that list, its pair, and the number.
 type Found = (
     [Accepted; 2],
@@ -199,7 +199,7 @@ fn used<L: Naming, R: Wait + Abort>(
     ([first, second], read, [replayed, kept], rest, pair, number)
 }
 
-/// Whether a commit tells this.
+/// Whether a commit answers this.
 fn is_told(accepted: &Accepted, number: u64, replies: [Reply; 2]) -> bool {
     accepted.number == number && accepted.replies.as_slice() == &replies[..]
 }

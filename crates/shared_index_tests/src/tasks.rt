@@ -20,7 +20,7 @@ use std::sync::Wait;
 use std::sync::ledger::Blank;
 use version_views::Write;
 
-/// A place for so many participants and items, with one cell.
+/// A place for this many participants and items, with one cell.
 pub(crate) fn place_for(participants: usize, slots: usize) -> Sizes
     requires participants { (1 ≤ participants) × (participants ≤ 1073741824) }
     requires slots { slots ≤ 1073741824 }
@@ -34,7 +34,7 @@ pub(crate) fn place_for(participants: usize, slots: usize) -> Sizes
     }
 }
 
-/// An empty index with so many shares.
+/// An empty index with this many shares.
 pub(crate) fn begun<'d, L: Naming, R: Abort, const S: usize>(
     rt: &R,
     alloc: Global,
@@ -140,7 +140,7 @@ pub(crate) fn swap<L: Naming, R: Wait, const S: usize>(
     None
 }
 
-/// So many upserts of one key, which nobody else writes, each resting on the one before: whether all were accepted.
+/// This many upserts of one key, which nobody else writes, each resting on the one before: whether all were accepted.
 pub(crate) fn own_key<L: Naming, R: Wait, const S: usize>(
     rt: &R,
     alloc: Global,
@@ -160,7 +160,7 @@ pub(crate) fn own_key<L: Naming, R: Wait, const S: usize>(
     true
 }
 
-/// So many upserts of one key, which rest on nothing, and of which none is reclaimed: whether all were accepted.
+/// This many upserts of one key, which rest on nothing, and of which none is reclaimed: whether all were accepted.
 pub(crate) fn upserts<L: Naming, R: Wait + Abort, const S: usize>(
     rt: &R,
     alloc: Global,
@@ -251,7 +251,7 @@ pub(crate) fn write<L: Naming, R: Wait, const S: usize>(
     let _told = commit(rt, index, share, &Receipt::blank(alloc), writes);
 }
 
-/// So many commits, which raise ten keys in turn, each followed by a reclaim.
+/// This many commits, which raise ten keys in turn, each followed by a reclaim.
 pub(crate) fn write_often<L: Naming, R: Wait + Abort, const S: usize>(
     rt: &R,
     alloc: Global,

@@ -59,7 +59,7 @@ fn told(told: Result<Transacted<u64, u64>, TransactRefused<u64, u64>>) -> (&'sta
     }
 }
 
-/// Raises key 1 by a transaction with so many retries, while another share writes to it in each of its first so many tries:
+/// Raises key 1 by a transaction with this many retries, while another share writes to it in each of its first this many tries:
 /// what it came to, and how often it was tried.
 fn beside<L: Naming, R: Wait + Abort, const S: usize>(
     rt: &R,

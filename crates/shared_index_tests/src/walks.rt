@@ -238,7 +238,7 @@ fn kept_on<L: Naming + Send + Sync, R: Threads + Wait + Abort + Sync>(
     (is_first, read, audit, list, count, number)
 }
 
-/// The same in a place of its own, for two participants and so many items.
+/// The same in a place of its own, for two participants and this many items.
 fn in_a_place<R: Threads + Wait + Abort + Sync>(
     rt: &R,
     alloc: Global,

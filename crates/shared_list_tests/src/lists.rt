@@ -38,7 +38,7 @@ enum Act {
     Next(u64),
 }
 
-/// What a list shows: the value of an entry, a yes or a no, or that there is none or an owner is back.
+/// What a list shows: the value of an entry, a yes or a no, or that there is none or an owner is returned.
 #[derive(Clone, Copy, PartialEq, Eq)]
 enum Shown {
     Value(u64),

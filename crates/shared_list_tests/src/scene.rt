@@ -16,7 +16,7 @@ use shared_lists::{LinkedEntry, Links};
 use std::alloc::Global;
 use std::process::Abort;
 
-/// A place for so many participants, with so many slots and as many cells.
+/// A place for this many participants, with this many slots and as many cells.
 pub(crate) fn sized(participants: u8, slots: u16) -> Sizes
     requires { 1 ≤ participants }
     ensures { IsSized result }

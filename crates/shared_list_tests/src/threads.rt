@@ -63,7 +63,7 @@ fn push_one(
     }
 }
 
-/// The same under a guard: the owner, where it is back.
+/// The same under a guard: the owner, where it is returned.
 fn push_under<'g>(
     domain: &Domain<u64>,
     head: &'g Shared<u64>,

@@ -1,4 +1,4 @@
--- what entries of lists show to clauses, and what the steps on cells tell of them
+-- what entries of lists show to clauses, and what the steps on cells say of them
 use Rattle.std.specs.Prelude.{◌≡◌, ◌≢◌, ◌⊎◌, ◌^◌, ◌<◌, ◌≤◌, ◌+◌, ℕ, Bool, true, false, ◌-◌, List, ◌++◌, ◌∷◌, [], Some, length}
 use Rattle.sdd_domain.specs.Cells.{cell_number}
 use Rattle.sdd_domain.specs.CellSteps.{CellStep, NamesWith, HasMade, HasReadCell, HasStored, step_on}
@@ -40,7 +40,7 @@ mark_number true = 1
 abbrev pub IsBackAs : {T : Type 0} → Shared T → Shared T → Type 0
 IsBackAs {T} s owner = (kept_in s ≡ kept_in owner) × (owner_slot (Some s) ≡ owner_slot (Some owner)) × ((x : T) → IsOwnerOf owner x → IsOwnerOf s x)
 
--- the same but for the slot, of which lending an item tells nothing
+-- the same but for the slot, of which lending an item says nothing
 abbrev pub IsLentAs : {T : Type 0} → Shared T → Shared T → Type 0
 IsLentAs {T} s owner = (kept_in s ≡ kept_in owner) × ((x : T) → IsOwnerOf owner x → IsOwnerOf s x)
 
@@ -60,7 +60,7 @@ HasPushedBehind old e m s new = (own : ℕ) × (t : ℕ) × (q : Shared _) × (t
 abbrev pub HasFoundDeleted : {T : Type 0} → Local T → ℕ → Local T → Type 0
 HasFoundDeleted old cell new = (xs : List CellStep) × (w : ℕ) × (t : ℕ) × (k : ℕ) × (2 ≤ t) × NamesWith w t k × HasMade old (xs ++ step_on old cell w w ∷ []) new
 
--- it made so many steps on cells
+-- it made this many steps on cells
 abbrev pub HasMadeMany : {T : Type 0} → Local T → ℕ → Local T → Type 0
 HasMadeMany old n new = (xs : List CellStep) × (n ≤ length xs) × HasMade old xs new
 

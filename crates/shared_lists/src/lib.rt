@@ -1,7 +1,7 @@
 //! Lists of items of a place that threads share, without locks.
 //!
 //! [`Links`] have a cell for each slot of a place, in which is what follows the item of that slot. So each item of the place
-//! can stand in a list, as a [`LinkedEntry`]: the tag of its link tells whether it is clear, marked or deleted. Containers are
+//! can be in a list, as a [`LinkedEntry`]: the tag of its link says whether it is clear, marked or deleted. Containers are
 //! made of the same links (`shared_containers`).
 #![tactic(auto)]
 

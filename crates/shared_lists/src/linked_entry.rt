@@ -1,6 +1,6 @@
 //! Entries of lists.
 //!
-//! An entry is an item with the link of its slot: the link owns what follows the item, and its tag tells whether the entry is
+//! An entry is an item with the link of its slot: the link owns what follows the item, and its tag says whether the entry is
 //! clear (`None`), marked (`First`) or deleted (`Second`, `Both`). A deleted entry stays where it is; walks pass over it.
 
 ghost use Rattle.std.specs.Prelude.{◌≡◌, ◌≢◌, ◌<◌, ◌≤◌, ◌⊎◌, ◌↔◌, ◌^◌, ℕ, [], Some, IsTrue, IsFalse, IfOk, IfErr, IfNone, IfSome, OnErr};
@@ -43,7 +43,7 @@ pub(crate) enum Tried<T> {
 }
 
 impl<'g, T: Holds> LinkedEntry<'g, T> {
-    /// Places an item that nothing follows, with a clear link. Where no slot is free it is back, a miss. Conditions: it holds no
+    /// Places an item that nothing follows, with a clear link. If no slot is free it is returned, a miss. Conditions: it holds no
     /// owners, and none is in the participant's hand.
     pub fn new(
         domain: &Domain<T>,
@@ -142,8 +142,8 @@ impl<'g, T: Holds> LinkedEntry<'g, T> {
         tells_deleted(self.link.tag(domain, local))
     }
 
-    /// Marks it where it is clear: whether it did. It tries again where other threads change the link, and gives up after
-    /// `2^64` times.
+    /// Marks it if it is clear: whether it did. It tries again where other threads change the link, at most `2^64`
+    /// times.
     pub fn mark(&self, domain: &Domain<T>, guard: &Guard, local: &mut Local<T>) -> bool
         requires open { IsOpenIn guard.now local.old domain.now }
         requires entry { IsEntryOf self.now domain.now }
@@ -201,7 +201,7 @@ impl<'g, T: Holds> LinkedEntry<'g, T> {
     }
 
     /// Puts another entry behind this one, before what followed it, and gives that as a pointer with the tag that this entry has
-    /// from then on: marked if `mark` is true, else clear. The owner is back where this entry was deleted, or is the other one
+    /// from then on: marked if `mark` is true, else clear. Returns the owner if this entry was deleted, or is the other one
     /// itself; and after `2^64 - 1` tries, at each of which others were faster. Condition: nobody else has linked the other
     /// one, and nothing follows it.
     pub fn push_back<'h>(

@@ -1,4 +1,4 @@
-//! What follows each item of a place in the list that it stands in.
+//! What follows each item of a place in the list that it is in.
 
 ghost use Rattle.std.specs.Prelude.{◌≡◌, ◌<◌, ◌≤◌, ℕ, All, IfOk, IfNone, IfSome};
 ghost use Rattle.sdd_domain.specs.Cells.{cell_number};
@@ -13,7 +13,7 @@ use sdd_domain::pointer::Ptr;
 use std::alloc::Global;
 
 /// A cell for each slot of a place: it owns what follows the item of that slot. All containers of the place use the same
-/// links, since an item stands in one of them at most. They must be consumed by `end`.
+/// links, since an item is in at most one of them. They must be consumed by `end`.
 pub struct Links<T> {
     row: Row<T>,
 }
@@ -97,7 +97,7 @@ impl<T: Holds> Row<T> {
     ghost use Rattle.sdd_domain.specs.Tokens.{place_of, home_of, cell_count};
     ghost use Rattle.shared_lists.specs.Lists.{IsCellAt, IsRowOf, row_count, IsAsBefore};
 
-    /// So many cells, which own nothing, and memory for their names.
+    /// A number of cells, which own nothing, and memory for their names.
     pub fn new(
         alloc: Global,
         domain: &Domain<T>,

@@ -1,4 +1,4 @@
-//! What the tag of a link tells of its entry.
+//! What the tag of a link says of its entry.
 
 ghost use Rattle.std.specs.Prelude.{◌≡◌, ◌<◌, ◌≤◌, ◌↔◌, IsTrue};
 ghost use Rattle.sdd_plain.specs.Epochs.{tag_number};

@@ -21,7 +21,7 @@ pub struct AtomicOwned<T> {
     pub(crate) cell: AtomicShared<T>,
 }
 
-/// An owner that is alone as one of any.
+/// The `Shared` inside an optional `Owned`.
 fn any<T>(owned: Option<Owned<T>>) -> Option<Shared<T>>
     ensures { result ≡ owner_in owned }
 {
@@ -31,7 +31,7 @@ fn any<T>(owned: Option<Owned<T>>) -> Option<Shared<T>>
     }
 }
 
-/// An owner that came out of a cell of such as are alone.
+/// Rewraps the owner of an `AtomicOwned`: it is the sole owner.
 fn alone<T>(owner: Option<Shared<T>>) -> Option<Owned<T>>
     ensures { owner_in result ≡ owner }
 {
@@ -65,7 +65,7 @@ impl<T: Holds> AtomicOwned<T> {
         }
     }
 
-    /// A cell with this owner, without a tag. The owner is back where there is no cell, which is a miss.
+    /// A cell with this owner, without a tag. Returns the owner if no cell is free, which is a miss.
     pub fn from(
         domain: &Domain<T>,
         owned: Owned<T>,
@@ -89,7 +89,7 @@ impl<T: Holds> AtomicOwned<T> {
         }
     }
 
-    /// A cell with the owner of a new item, without a tag. The item is back where there is no cell or no free slot, which is a
+    /// A cell with the owner of a new item, without a tag. Returns the item if no cell or no slot is free, which is a
     /// miss. Condition: it holds just the owners that are in the participant's hand.
     pub fn new(domain: &Domain<T>, item: T, local: &mut Local<T>) -> Result<AtomicOwned<T>, T>
         requires home { home_of local.old ≡ place_of domain.now }
@@ -174,7 +174,7 @@ impl<T: Holds> AtomicOwned<T> {
 
     /// Swaps what the cell owns and its tag for `new`, in one step, where it names the item of `current`, or nothing where
     /// that is to nothing, and has its tag: the owner that it had comes out, and with it what the cell names from then on.
-    /// Else the cell stays as it is: the owner is back, and with it the pointer that was found. It is one try: where other
+    /// Else the cell stays as it is, and the call returns the owner with the pointer that was found. It is one try: where other
     /// threads change the cell during the call, it may be refused though the cell was as `current` before and is so again.
     /// It takes no memory.
     pub fn compare_exchange<'g>(
@@ -235,8 +235,8 @@ impl<T: Holds> AtomicOwned<T> {
     }
 
     /// Sets the tag, in one step, where `f` answers true of the pointer that is found: whether it did. Where other threads
-    /// changed the cell since that pointer was loaded it tries again, and asks anew; after `2^64` times it gives up, and
-    /// tells that it didn't. What the cell owns stays.
+    /// changed the cell since that pointer was loaded it tries again, and asks anew; after `2^64` times it stops, and
+    /// answers false. What the cell owns stays.
     pub fn update_tag_if<'g, F: Fn(OwnedPtr<'g, T>) -> bool>(
         &self,
         domain: &Domain<T>,

@@ -20,7 +20,7 @@ impl<T: Holds> Owned<T> {
     ghost use Rattle.sdd_domain.specs.Tokens.{place_of, home_of, own_of, hand_of, born_of, waiting_of, misses_of, nest_of, nest_in, IsInNest, IsSameButHandAndMisses};
     ghost use Rattle.shared_owned.specs.Alone.{place_in, IsSoleOwnerOf, sole_slot, owner_of, pointer_slot, pointer_item};
 
-    /// Places an item in a free slot, and gives its owner. Where each slot was taken when it was tried, the item is back,
+    /// Places an item in a free slot, and gives its owner. If each slot was taken when it was tried, the item is returned,
     /// which is a miss of the participant. The item holds all owners that are in the participant's hand, and no other one.
     /// It takes no memory.
     pub fn new(domain: &Domain<T>, item: T, local: &mut Local<T>) -> Result<Owned<T>, T>
@@ -128,7 +128,7 @@ impl<T: Holds> Owned<T> {
         (Owned { owner }, item)
     }
 
-    /// The owner as one of several that there may be from now on.
+    /// Converts into a `Shared`, which can be cloned.
     pub fn into_shared(self) -> Shared<T>
         ensures { result ≡ owner_of self }
     {

@@ -65,7 +65,7 @@ impl<'g, T> OwnedPtr<'g, T> {
         self.of.tag()
     }
 
-    /// Gives it this tag in the place of its own. What it is to stays.
+    /// Replaces the tag; the pointee is unchanged.
     pub fn set_tag(&mut self, tag: Tag)
         ensures slot { pointer_slot self.new ≡ pointer_slot self.old }
         ensures item { pointer_item self.new ≡ pointer_item self.old }
@@ -74,7 +74,7 @@ impl<'g, T> OwnedPtr<'g, T> {
         self.of.set_tag(tag);
     }
 
-    /// Takes its tag away. What it is to stays.
+    /// Removes the tag; the pointee is unchanged.
     pub fn unset_tag(&mut self)
         ensures slot { pointer_slot self.new ≡ pointer_slot self.old }
         ensures item { pointer_item self.new ≡ pointer_item self.old }

@@ -1,4 +1,4 @@
-//! Items that are out as raw ones.
+//! Items that are handed out as raw pointers.
 
 ghost use Rattle.std.specs.Prelude.{◌≡◌, ◌<◌, ◌≤◌, ◌+◌, ◌↔◌, ℕ, All, Some, IfOk, IfErr, IfSome, IfNone, IsSome, length};
 ghost use Rattle.sdd_domain.specs.Cells.{cell_number};
@@ -19,7 +19,7 @@ use sdd_plain::tag::Tag;
 use std::alloc::Global;
 use thiserror::Error;
 
-/// Why no items can be out as raw ones.
+/// Why no items can be handed out as raw pointers.
 #[derive(Clone, Copy, PartialEq, Eq, Debug, Error)]
 pub enum RawRefused {
     /// There is no room for the names of cells.
@@ -81,8 +81,8 @@ impl<T: Holds> RawItems<T> {
         self.cells.get(slot)
     }
 
-    /// Lets an item be out as a raw one: a pointer to it, without a tag. The owner is back where the place has no such slot,
-    /// which is never so of an item of the same place.
+    /// Hands an item out as a raw one: a pointer to it, without a tag. Returns the owner if the place has no such slot, which
+    /// is never so of an item of the same place.
     pub fn into_raw(
         &self,
         domain: &Domain<T>,
@@ -180,7 +180,7 @@ impl<T: Holds> RawItems<T> {
         None
     }
 
-    /// Gives the cells back, and retires the items that are still out as raw ones.
+    /// Gives the cells back, and retires the items that are still handed out.
     pub fn end(self, domain: &Domain<T>, local: &mut Local<T>)
         requires home { home_of local.old ≡ place_of domain.now }
         requires raws { AreRawItemsOf self domain.now }

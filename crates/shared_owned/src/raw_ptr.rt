@@ -1,12 +1,12 @@
-//! Pointers to items that are out as raw ones.
+//! Pointers to items that are handed out as raw ones.
 
 ghost use Rattle.std.specs.Prelude.{◌≡◌, None, IsTrue, ◌↔◌};
 
 use sdd_plain::tag::Tag;
 use std::marker::PhantomData;
 
-/// A pointer to an item that is out as a raw one, or to nothing, with a tag. It is plain data: it tells a slot, and doesn't
-/// keep the item there. Pointers are equal where their slots and their tags are.
+/// A pointer to an item that is handed out as a raw one, or to nothing, with a tag. It is plain data: it names a slot, and
+/// doesn't keep the item there. Pointers are equal if their slots and their tags are.
 #[derive_where(Clone, Copy, PartialEq, Eq, Debug)]
 pub struct RawPtr<T> {
     pub(crate) slot: Option<u32>,
@@ -64,7 +64,7 @@ impl<T> RawPtr<T> {
         self.tag
     }
 
-    /// Gives it this tag in the place of its own. What it is to stays.
+    /// Replaces the tag; the pointee is unchanged.
     pub fn set_tag(&mut self, tag: Tag)
         ensures slot { raw_slot self.new ≡ raw_slot self.old }
         ensures tag { raw_tag self.new ≡ tag }
@@ -72,7 +72,7 @@ impl<T> RawPtr<T> {
         self.tag = tag;
     }
 
-    /// Takes its tag away. What it is to stays.
+    /// Removes the tag; the pointee is unchanged.
     pub fn unset_tag(&mut self)
         ensures slot { raw_slot self.new ≡ raw_slot self.old }
         ensures tag { raw_tag self.new ≡ Tag.None }

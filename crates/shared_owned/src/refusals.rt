@@ -33,7 +33,7 @@ fn is_refused(domain: &Domain<u64>, local: &mut Local<u64>) -> bool
     }
 }
 
-/// The value that comes back where a cell is made of it; else the cell is given back.
+/// The value that is returned where a cell is made of it; else the cell is given back.
 fn unmade(domain: &Domain<u64>, value: u64, local: &mut Local<u64>) -> Option<u64>
     requires home { (home_of local.old ≡ place_of domain.now) × (hand_of local.old ≡ []) }
     ensures same { IsAsBefore local.old local.new }
@@ -49,7 +49,7 @@ fn unmade(domain: &Domain<u64>, value: u64, local: &mut Local<u64>) -> Option<u6
 
 /// In a place of two slots and one cell, which is taken: whether a second one is refused; the value of the owner that comes
 /// back and is retired, and the value that does; what is placed in the slot that is free still. Where that cell was given
-/// back, and each slot is taken: the value that comes back, and whether a cell is refused then.
+/// back, and each slot is taken: the value that is returned, and whether a cell is refused then.
 #[test]
 fn a_cell_of_an_item_wants_a_cell_and_a_slot(rt: HostRuntime) -> Result<(), Fail> {
     let domain = Domain::new(rt.alloc(), sized(1, 2, 1))?;

@@ -107,10 +107,10 @@ fn taken<R: Abort>(
     }
 }
 
-/// A row: a step, and what it tells.
+/// A row: a step, and what it answers.
 pub type Row = (Step, Result<u64, OpenRefused>);
 
-/// Takes the steps of a table, in order: whether each tells what it is to.
+/// Takes the steps of a table, in order: whether each answers what it is to.
 pub fn all_taken<R: Abort>(
     rt: &R,
     alloc: Global,

@@ -1,6 +1,6 @@
 //! A place with versions of two segments, built by hand, and a cell that names one.
 //!
-//! Where memory is refused, what refused it is tried again, and `met` tells it.
+//! Where memory is refused, what refused it is tried again, and `met` says so.
 
 ghost use Rattle.std.specs.Prelude.{◌≡◌, ◌<◌, ◌∷◌, [], ◌≤◌, vec_capacity};
 ghost use Rattle.sdd_domain.specs.Cells.{cell_number};

@@ -33,7 +33,7 @@ enum Play {
     OfLoaded,
     /// A session reads its version, whatever is published.
     Beside,
-    /// A walk goes on beside a version that is published.
+    /// A walk continues beside a version that is published.
     Walked,
     /// Keys, neighbours and ranges are read; and the ends of a walk change places.
     Looks(Look),
@@ -45,7 +45,7 @@ enum Play {
     Threads,
 }
 
-/// Whether it goes as it is to, with a participant that reads and one that writes.
+/// Whether it takes the course that it should, with a participant that reads and one that writes.
 fn goes<R: Threads + Abort + Sync>(
     rt: &R,
     alloc: Global,
@@ -74,7 +74,7 @@ fn goes<R: Threads + Abort + Sync>(
     }
 }
 
-/// Plays it in a new place, with a cell that owns this at first: whether it goes as it is to.
+/// Plays it in a new place, with a cell that owns this at first: whether it takes the course that it should.
 fn plays<R: Threads + Abort + Sync>(rt: &R, alloc: Global, first: First, play: Play) -> bool {
     let mut met = false;
     let domain = place(rt, alloc, SEVERAL, &mut met);

@@ -78,7 +78,7 @@ fn is_read(receipt: &Receipt<u64, u64>) -> bool {
     receipt.number == 1 && receipt.reads.as_slice() == &[(Query::Get(2), Answer::Get(Some(20)))][..]
 }
 
-/// Whether a walk goes on behind a second version, and a range behind a third one, and neither was recorded.
+/// Whether a walk continues behind a second version, and a range behind a third one, and neither was recorded.
 pub fn walked<R: Abort>(
     rt: &R,
     alloc: Global,

@@ -19,7 +19,7 @@ use version_views::Nearby;
 
 const ROOM: &str = "room for pairs";
 
-/// What stands at a key or around it: the pairs that the ends of its cursor show.
+/// What is at a key or around it: the pairs that the ends of its cursor show.
 type Shown = (Option<(u64, u64)>, Option<(u64, u64)>);
 
 // The case and what its cursor shows.
@@ -77,7 +77,7 @@ const KEYS: [(u64, Option<u64>); 8] = [
     (u64::MAX, None),
 ];
 
-/// Whether the keys are looked up as they are to be by each call that does so, and the session tells its number and length.
+/// Whether the keys are looked up as they are to be by each call that does so, and the session has its number and length.
 fn are_looked_up(session: &Twos) -> bool {
     let mut steps = Steps::new();
     let mut right = session.number() == 1 && session.len() == 3;
@@ -145,7 +145,7 @@ fn are_walked(session: &Twos) -> bool {
     right
 }
 
-/// What a walk through three pairs of the value 2 tells whose ends change places twice.
+/// What a walk through three pairs of the value 2 answers whose ends change places twice.
 fn ends_change(session: &Twos) -> ([Option<(u64, u64)>; 6], [bool; 3]) {
     let mut walk = session.iter();
     let last = copied(walk.next_back());
@@ -211,7 +211,7 @@ pub fn are_right(
     right && receipt.number == 1 && receipt.reads.as_slice().is_empty()
 }
 
-/// Whether a session of the empty list tells that it has no pair.
+/// Whether a session of the empty list says that it has no pair.
 fn is_empty(session: &Twos) -> bool {
     let nothing = value(session, 1).is_none() && !session.contains(&1);
     session.number() == 0
@@ -221,7 +221,7 @@ fn is_empty(session: &Twos) -> bool {
         && session.iter().next().is_none()
 }
 
-/// Has a session read each query, and tells whether each answers what it is to, and is recorded by that; and whether the receipt
+/// Has a session read each query, and returns whether each answers what it is to, and is recorded by that; and whether the receipt
 /// has the first number all the time.
 fn records<R: Abort>(rt: &R, session: &mut Twos, rows: &[(Query<u64>, Answer<u64, u64>)]) -> bool
     ensures { session.new.nest ≡ session.old.nest }

@@ -12,13 +12,13 @@ use Rattle.shared_sessions.specs.declared.root.Root.{Root}
 abbrev pub root_number : {T : Type 0} → Root T → ℕ
 root_number r = cell_number r.cell.now
 
--- what was loaded is no version of this width; or it is one, and its number, which is told, is below the one asked for
+-- what was loaded is no version of this width; or it is one, and its number, which the refusal has, is below the one asked for
 abbrev pub RefusedFor : {K V : Type 0} → ℕ → ℕ → Option (Sight K V) → OpenRefused → Type 0
 RefusedFor s at_least version causes.Nested = ⊥
 RefusedFor s at_least version (causes.Earlier number) = HasWidth s version × (number ≡ number_in version) × (number < at_least)
 RefusedFor s at_least version causes.NoVersion = HasWidth s version → ⊥
 
--- a number that is told as an earlier one is below this
+-- a refusal as an earlier one has a number below this
 abbrev pub IsBelow : ℕ → OpenRefused → Type 0
 IsBelow at_least causes.Nested = Unit {0}
 IsBelow at_least (causes.Earlier number) = number < at_least

@@ -4,14 +4,7 @@
 //! reads (`serial_history`). It is opened by one load of the root; from then until it is closed nothing is loaded again, and
 //! no read asks whether the version is still there: what the guard loaded stays, whatever other threads publish meanwhile.
 //!
-//! ```text
-//! let root = Root::new(&cell);
-//! let mut session = SharedSession::<u64, u64, 64>::open(alloc, &domain, root, 0, &mut local)?;
-//! session.get(&1);                                    // the value, or none: nothing is recorded
-//! session.range(Bound::Included(&1), Bound::Unbounded);  // a cursor
-//! session.read(Query::Get(1))?;                       // the same answer, and the receipt has it
-//! let receipt = session.close(&domain, &mut local);   // for a commit, or an audit
-//! ```
+//! The crate's page shows one from its opening to its close, as a test runs it.
 #![tactic(auto)]
 
 mod opening;

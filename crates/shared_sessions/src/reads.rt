@@ -26,7 +26,7 @@ use version_views::{Nearby, VersionView, Walk};
 /// A cursor over the list of a session, within two bounds or without any.
 pub type SharedWalk<'a, K, V> = Walk<'a, K, V, Version<K, V>>;
 
-/// Where a key stands in the list of a session, with a cursor there.
+/// Where a key is in the list of a session, with a cursor there.
 pub type SharedNearby<'a, K, V> = Nearby<'a, K, V, Version<K, V>>;
 
 impl<K: Clone + Ord, V: Clone + Eq, const S: usize> SharedSession<K, V, S> {
@@ -75,7 +75,7 @@ impl<K: Clone + Ord, V: Clone + Eq, const S: usize> SharedSession<K, V, S> {
         self.view().len()
     }
 
-    /// Where the key stands in the list, with a cursor there (as `locate` of a `TreeIndex` gives it). The read isn't
+    /// Where the key is in the list, with a cursor there (as `locate` of a `TreeIndex` gives it). The read isn't
     /// recorded.
     pub fn locate(&self, key: &K) -> SharedNearby<'_, K, V>
         ensures { IsLocated K.cmp key.now self.now.list (as_proximity result) }

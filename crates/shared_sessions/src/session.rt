@@ -41,8 +41,8 @@ impl<K: Ord, V, const S: usize> Model for SharedSession<K, V, S> {
 }
 
 impl<K: Clone + Ord, V: Clone + Eq, const S: usize> SharedSession<K, V, S> {
-    /// A session of what was loaded under the guard, by one look at it. It is refused where that is no version of segments of
-    /// at most `S` pairs, and else where its number is below `at_least`; then the guard is back.
+    /// A session of what was loaded under the guard, by one look at it. It is refused if that is no version with segments of
+    /// at most `S` pairs, and else if its number is below `at_least`. A refusal returns the guard.
     pub fn of_loaded(
         guard: Guard,
         root: Loaded<Node<K, V>>,

@@ -16,7 +16,7 @@ fn the_empty_draft_takes_one_slot(rt: HostRuntime) -> Result<(), Fail> {
     Ok(())
 }
 
-/// Writes of the empty version, with what each is told.
+/// Writes of the empty version, with the reply to each.
 const WRITES: [(Write<u64, u64>, Reply); 15] = [
     (Write::Insert(1, 1), Reply::Inserted),
     (Write::Insert(2, 2), Reply::Inserted),
@@ -39,7 +39,7 @@ const WRITES: [(Write<u64, u64>, Reply); 15] = [
 ];
 
 /// What the writes make of the empty version: whether that has a key, how many slots the draft takes, and whether each write is
-/// told what it should be.
+/// answered as it should be.
 fn drafted(alloc: Global) -> Result<(bool, usize, bool), AllocError> {
     let mut writes = Vec::new(alloc);
     let mut wanted = Vec::new(alloc);

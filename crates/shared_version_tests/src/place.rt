@@ -129,7 +129,7 @@ pub(crate) fn opened<const S: usize>(
     }
 }
 
-/// Whether what the cell names is back where a reader of this width is made of it, and one of the other width is made then.
+/// Whether what the cell names is returned where a reader of this width is made of it, and one of the other width is made then.
 pub(crate) fn is_back<const S: usize, const T: usize>(
     domain: &Domain<Item>,
     local: &mut Local<Item>,

@@ -20,7 +20,7 @@ use std::process::Abort;
 use std::test::Fail;
 use version_views::Write;
 
-/// A place for two participants, one cell and so many items.
+/// A place for two participants, one cell and this many items.
 fn sized(slots: usize) -> Sizes
     requires { (1 ≤ slots) × (slots ≤ 1073741824) }
     ensures { result ≡ record { participants = 2; slots = slots; cells = 1; jobs = 0 } }
@@ -296,7 +296,7 @@ enum Told {
     Used(usize),
 }
 
-/// Makes a call, and tells whether it answers what is wanted.
+/// Makes a call, and returns whether it answers what is wanted.
 fn answers<R: Abort, const S: usize>(
     rt: &R,
     alloc: Global,
@@ -344,7 +344,7 @@ fn played<R: Abort, const S: usize>(
     right
 }
 
-/// Plays a table on the empty version of a new place with so many slots. Nothing is in use behind it.
+/// Plays a table on the empty version of a new place with this many slots. Nothing is in use behind it.
 fn on_a_place<R: Abort, const S: usize>(rt: &R, alloc: Global, slots: usize, rows: &[(Call, Told)])
     requires slots { (1 ≤ slots) × (slots ≤ 1073741824) }
     requires size { (1 ≤ S) × (S ≤ 225) }
@@ -445,7 +445,7 @@ fn segments_are_taken_over_after_refusals(rt: HostRuntime) {
     on_a_place::<_, 2>(&rt, rt.alloc(), 7, TAKING_OVER);
 }
 
-/// Plays a table on the version of a list, in a new place with so many slots; none of it where slots are too few for the list.
+/// Plays a table on the version of a list, in a new place with this many slots; none of it where slots are too few for the list.
 /// Nothing is in use behind it.
 fn on_a_list<R: Abort>(
     rt: &R,

@@ -42,7 +42,7 @@ module _ {K V : Type 0} where
   abbrev pub list_planned : Sight K V → SharedPlan K V → List (K × V)
   list_planned old p = pairs_in (blocks_planned old p)
 
-  -- a new segment, or one of so many that are there
+  -- a new segment, or one of this many that are there
   abbrev pub IsWithinVersion : ℕ → Part K V ℕ → Type 0
   IsWithinVersion n (parts.Taken place) = place < n
   IsWithinVersion n (parts.Made tree) = Unit {0}
@@ -62,7 +62,7 @@ module _ {K V : Type 0} where
     pub counted : p.length ≡ length (list_planned old p)
     pub there : All (IsThere old) p.parts
 
--- nothing is in it, and it has room for so many owners of each kind
+-- nothing is in it, and it has room for n owners of each kind
 pub record IsRoomFor {K V : Type 0} (n : ℕ) (room : Room K V) : Type 0 where
   pub no_owners : room.owners.items ≡ []
   pub none_to_keep : room.to_keep.items ≡ []

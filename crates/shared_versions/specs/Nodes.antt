@@ -1,4 +1,4 @@
--- what stands in a slot of a place that threads share
+-- what is in a slot of a place that threads share
 use Rattle.std.specs.declared.cmp.Ordering.{Ordering}
 use Rattle.std.specs.List.{All}
 use Rattle.std.specs.Mem.{manually_drop_value}

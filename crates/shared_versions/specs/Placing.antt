@@ -1,4 +1,4 @@
--- owners of what stands in a place
+-- owners of what is in a place
 use Rattle.std.specs.List.{All}
 use Rattle.std.specs.Mem.{manually_drop_value}
 use Rattle.std.specs.Option.{option_map}
@@ -86,7 +86,7 @@ module _ {K V : Type 0} where
   IsNewIn place (to_keep.New s) = IsSegmentOf place s
   IsNewIn place (to_keep.Old at) = Unit {0}
 
-  -- one that isn't is one of so many that are kept
+  -- one that isn't is one of this many that are kept
   abbrev pub IsWithinKept : ℕ → ToKeep K V → Type 0
   IsWithinKept n (to_keep.New s) = Unit {0}
   IsWithinKept n (to_keep.Old at) = at < n

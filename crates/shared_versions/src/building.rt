@@ -87,9 +87,9 @@ impl<K: Ord + Drop, V: Drop, const S: usize> Drop for Draft<K, V, S> {
     }
 }
 
-/// The version that writes make of an older one, under the next number, and what they are told; refused where memory is.
-/// Nothing is placed yet, and no word of the place is read. Segments that no write touches are taken over, so the older
-/// version has to be there when it is placed.
+/// The version that writes make of an older one, under the next number, and the replies to them. Fails only if an
+/// allocation fails. Nothing is placed yet, and no word of the place is read. Segments that no write touches are taken
+/// over, so the older version has to be there when it is placed.
 pub fn build<K: Clone + Ord + Drop, V: Clone + Drop, const S: usize>(
     alloc: Global,
     old: &Version<K, V>,
@@ -122,7 +122,7 @@ pub fn build<K: Clone + Ord + Drop, V: Clone + Drop, const S: usize>(
     ))
 }
 
-/// The version of clones of these pairs, whose keys rise, under a number; refused where memory is. Nothing is placed yet, and
+/// The version of clones of these pairs, whose keys rise, under a number. Fails only if an allocation fails. Nothing is placed yet, and
 /// no word of a place is read. It takes nothing over, so no older version has to be there when it is placed, and its segments are
 /// as few as can hold the pairs.
 pub fn build_list<K: Clone + Ord + Drop, V: Clone + Drop, const S: usize>(

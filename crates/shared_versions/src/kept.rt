@@ -46,7 +46,7 @@ pub(crate) fn clone_at<K: Ord + Drop, V: Drop>(
     other
 }
 
-/// Clones an owner of a segment. Its own is back alone where there can't be one more, which is a miss.
+/// Clones an owner of a segment. Only the given one is returned if there can't be one more, which is a miss.
 fn clone_segment<K: Ord + Drop, V: Drop>(
     domain: &Domain<Node<K, V>>,
     owner: Shared<Node<K, V>>,

@@ -1,16 +1,31 @@
 //! Versions of an ordered list of pairs in a place that threads share.
 //!
-//! What stands in a slot is a [`Node`]: a version, a segment of versions, or what is left of a version that is reclaimed. A
+//! What is in a slot is a [`Node`]: a version, a segment of versions, or what is left of a version that is reclaimed. A
 //! version owns its segments by [`Held`](sdd_domain::held::Held), and is whole by its type: who has a node that is a
 //! [`Version`] reads it without a look at the place. A [`Reader`] keeps what was loaded from a cell, once it was found to be a
 //! version, and reads it under the guard.
 //!
+//! <!-- crates/shared_version_tests/src/sessions.rt read -->
 //! ```text
-//! let reader = Reader::<u64, u64, 64>::open(&guard, loaded)?;    // back where it is no version
-//! let view = reader.view(&guard);
-//! view.get(&key);                                                // one search of the directory, one of a tree
-//! view.walk(lower, upper);                                       // a cursor over the pairs within two bounds
+//! /// How many pairs a session of this width reads in the cell's version; none where it is of another width.
+//! fn read<const S: usize>(
+//!     domain: &Domain<Item>,
+//!     local: &mut Local<Item>,
+//!     cell: &AtomicShared<Item>,
+//! ) -> Option<usize>
+//!     requires home { (home_of local.old ≡ place_of domain.now) × (hand_of local.old ≡ []) }
+//!     requires closed { (own_of local.old).nesting ≡ 0 }
+//!     requires inside { cell_number cell.now < cell_count domain.now }
+//!     ensures same { IsSame local.old local.new }
+//!     ensures closed { (own_of local.new).nesting ≡ 0 }
+//! {
+//!     let session = opened::<S>(domain, local, cell)?;
+//!     let pairs = session.view().len();
+//!     close(domain, session.into_guard(), local);
+//!     Some(pairs)
+//! }
 //! ```
+//! <!-- end -->
 #![tactic(auto)]
 
 mod building;

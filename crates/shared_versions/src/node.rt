@@ -1,4 +1,4 @@
-//! What stands in a slot of a place that threads share.
+//! What is in a slot of a place that threads share.
 
 ghost use Rattle.std.specs.Prelude.{◌≡◌, ◌≤◌, ◌++◌, [], Some, map, option_copied, reverse};
 ghost use Rattle.std.specs.Option.{option_to_list};
@@ -41,7 +41,7 @@ impl<K: Ord, V> Model for Version<K, V> {
     ghost size_decreases = { λ v h. version_falls K.Ord K.PartialEq K.PartialOrd v h.segments };
 }
 
-/// What stands in a slot: a version, a segment of versions, or the owners that are left of a version that is reclaimed.
+/// What is in a slot: a version, a segment of versions, or the owners that are left of a version that is reclaimed.
 #[cycle(nodes)]
 pub enum Node<K: Ord, V> {
     Version(Version<K, V>),
@@ -49,7 +49,7 @@ pub enum Node<K: Ord, V> {
     Rest(Rest<K, V>),
 }
 
-/// Owners of segments that a version had, which are yet to be given up.
+/// Owners of segments that a version had, which are yet to be released.
 ///
 /// Contracts see their slots and rounds, in order.
 #[cycle(nodes)]

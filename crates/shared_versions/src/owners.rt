@@ -12,8 +12,8 @@ use sdd_domain::holds::Holds;
 use sdd_domain::local::Local;
 use sdd_domain::shared::Shared;
 
-/// Places an item, and gives two owners of it. The item is back, and what it holds in hand, where no slot was free; nothing
-/// is where it couldn't have a second owner: then it was placed and released. Both are one miss.
+/// Places an item, and gives two owners of it. If no slot was free, it returns the item, and what that holds is in
+/// hand. If the item couldn't have a second owner, it was placed and released, and nothing is returned. Both are one miss.
 pub(crate) fn place_two<T: Holds>(
     domain: &Domain<T>,
     item: T,

@@ -10,7 +10,7 @@ use sdd_domain::held::Held;
 use sdd_domain::shared::Shared;
 use std::alloc::{AllocError, Global};
 
-/// Room for the owners of so many segments: for one of each and what is to be kept of it, until their version is placed; for
+/// Room for the owners of a number of segments: for one of each and what is to be kept of it, until their version is placed; for
 /// those that the version holds, and those that the writer keeps. It must be consumed by `end` if nothing is placed.
 pub(crate) struct Room<K: Ord, V> {
     pub(crate) owners: Vec<Shared<Node<K, V>>>,
@@ -32,7 +32,7 @@ impl<K: Ord, V> Room<K, V> {
         }
     }
 
-    /// Room for the owners of so many segments. Where memory is refused there is none.
+    /// Room for the owners of `segments` segments. Fails only if an allocation fails.
     pub(crate) fn new(alloc: Global, segments: usize) -> Result<Self, AllocError>
         ensures { IfOk result (IsRoomFor segments) }
     {

@@ -34,7 +34,7 @@ impl<K: Ord, V, const S: usize> Model for Session<K, V, S> {
 }
 
 impl<K: Ord, V, const S: usize> Session<K, V, S> {
-    /// A session of what was loaded under the guard, by one look at it; both are back where it is no version whose segments
+    /// A session of what was loaded under the guard, by one look at it; both are returned if it is no version whose segments
     /// have at most `S` pairs.
     pub fn open(guard: Guard, root: Loaded<Node<K, V>>) -> Result<Self, (Guard, Loaded<Node<K, V>>)>
         requires { IsUnder root guard }

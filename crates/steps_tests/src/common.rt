@@ -97,7 +97,7 @@ pub(crate) fn after<R: Abort>(rt: &R, alloc: Global, state: &State, one: Move) -
     apply(alloc, state, step).expect(rt, "memory")
 }
 
-/// Takes the moves of a list, as far as they are enabled, and tells whether all are.
+/// Takes the moves of a list, as far as they are enabled, and returns whether all are.
 pub(crate) fn takes<R: Abort>(rt: &R, alloc: Global, state: &mut State, moves: &[Move]) -> bool {
     for one in moves {
         match after(rt, alloc, state, *one) {

@@ -488,7 +488,7 @@ fn any_move(dice: &mut Dice, items: usize) -> Move {
     }
 }
 
-// How many of so many random steps were taken, with the promise looked at after each of these, and how many items
+// How many of this many random steps were taken, with the promise looked at after each of these, and how many items
 // were reclaimed.
 fn random_steps<R: Abort>(rt: &R, alloc: Global, seed: u64, n: u32) -> (u32, usize) {
     let mut dice = Dice { seed };

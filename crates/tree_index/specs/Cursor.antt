@@ -1,4 +1,4 @@
--- A cursor over a list: bounds, and two ends, of which one goes forward and the other backward.
+-- A cursor over a list: bounds, and two ends, of which one moves forward and the other backward.
 use Rattle.std.specs.Prelude.{◌≡◌, ℕ, ◌+◌, ◌-◌, Bool, true, false, cond, nat_lt, List, [], drop, length, slice_get, Option, Some, None, refl}
 use Rattle.std.specs.Option.{is_some, option_map}
 use Rattle.std.specs.Coded.{Coded, code_by, coded×, coded_bool, coded_ℕ, coded_list, coded_option}
@@ -22,7 +22,7 @@ pub record Cursor (K V : Type 0) : Type 0 where
 abbrev pub whole : {K V : Type 0} → List (K × V) → End ℕ → End ℕ → Cursor K V
 whole pairs forward backward = record { pairs = pairs; lower = Unbounded; upper = Unbounded; forward = forward; backward = backward }
 
--- a lies before b, as far as both stand at places
+-- a lies before b, provided that both are at places
 abbrev pub lies_before : End ℕ → End ℕ → Bool
 lies_before a Unopened = true
 lies_before Unopened b = true
@@ -35,13 +35,13 @@ pair_at pairs (At p) = slice_get pairs p
 pair_at pairs Done = None
 
 module _ {K V : Type 0} (cmp : K → K → Ordering) where
-  -- where the forward end goes: first to the first place within the lower bound, then to the next place, and past the last one it is done
+  -- where the forward end moves: first to the first place within the lower bound, then to the next place, and past the last one it is done
   abbrev pub forth : Bound K → List (K × V) → End ℕ → End ℕ
   forth lower pairs Unopened = cond (nat_lt (before_start cmp lower pairs) (length pairs)) (At (before_start cmp lower pairs)) Unopened
   forth lower pairs (At p) = cond (nat_lt (p + 1) (length pairs)) (At (p + 1)) Done
   forth lower pairs Done = Done
 
-  -- where the backward end goes: the mirror of it
+  -- where the backward end moves: the mirror of it
   abbrev pub back : Bound K → List (K × V) → End ℕ → End ℕ
   back upper pairs Unopened = cond (nat_lt 0 (up_to_end cmp upper pairs)) (At (up_to_end cmp upper pairs - 1)) Unopened
   back upper pairs (At p) = cond (nat_lt 0 p) (At (p - 1)) Done
@@ -101,7 +101,7 @@ module _ {K V : Type 0} where
   abbrev pub unread : Cursor K V → List (K × V)
   unread c = pairs_from c.pairs c.forward
 
-  -- where an end goes that passes so many pairs, and the cursor whose forward end does
+  -- where an end is after it passed this many pairs, and the cursor whose forward end did
   abbrev pub passed_by : ℕ → List (K × V) → End ℕ → End ℕ
   passed_by count pairs Unopened = Unopened
   passed_by count pairs (At p) = cond (nat_lt (p + count) (length pairs)) (At (p + count)) Done

@@ -12,7 +12,7 @@ use Rattle.tree_nodes.specs.Walk.{position, IsPosition}
 use Rattle.tree_index.specs.Cursor.{Cursor, forth, back, lies_before, kept_below}
 
 module _ {K V : Type 0} where
-  -- an end that stands somewhere stands at a pair
+  -- an end that is at a place is at a pair
   abbrev pub IsEnd : Arenas K V → End (Position K V) → Type 0
   IsEnd a Unopened = Unit {0}
   IsEnd a (At s) = IsPosition a s
@@ -28,7 +28,7 @@ module _ {K V : Type 0} where
     pub forward : IsEnd e.arenas.now e.forward
     pub backward : IsEnd e.arenas.now e.backward
 
-  -- where the forward end goes, from a lower bound if it stands nowhere yet; and the backward one, from an upper bound
+  -- where the forward end moves, from a lower bound if it isn't set yet; and the backward one, from an upper bound
   abbrev pub forth_of : (K → K → Ordering) → Bound K → Ends K V → End ℕ
   forth_of cmp lower e = forth cmp lower (pairs_of e.arenas.now) (end_position e.arenas.now e.forward)
 

@@ -10,13 +10,13 @@ use Rattle.tree_index.specs.Cursor.{deref_pair, before_start, up_to_end}
 use Rattle.tree_nodes.specs.SplitPoints.{key_at}
 use Rattle.tree_index.specs.declared.leaf.leaf_position.LeafPosition.{LeafPosition}
 
--- a list stands as a whole within another one
+-- a list is a contiguous part of another one
 pub record IsPart {X : Type 0} (part whole : List X) : Type 0 where
   pub fore : List X
   pub rear : List X
   pub all : whole ≡ fore ++ (part ++ rear)
 
--- the pairs by rising keys; the key of the pair that the leaf lost last; and the rank at which it stands: the first pair has the rank 1, and 0 is the start
+-- the pairs in ascending order; the key of the pair that the leaf lost last; and the cursor's rank: the first pair has the rank 1, and 0 is the start
 pub record LeafCursor (K V : Type 0) : Type 0 where
   pub pairs : List (K × V)
   pub gone : Option K
@@ -72,11 +72,11 @@ module _ {K V : Type 0} where
   abbrev pub rank_below : LeafCursor K V → Option ℕ
   rank_below c = cond (nat_lt 0 (pairs_below c)) (Some (pairs_below c)) None
 
-  -- a cursor goes to the rank that it seeks and gives its pair, or stays where there is none
+  -- a cursor moves to the rank that it seeks and gives its pair, or stays if there is none
   abbrev pub MovesTo : (LeafCursor K V → Option ℕ) → LeafCursor K V → Option (Bor K × Bor V) → LeafCursor K V → Type 0
   MovesTo seek c answer d = MatchOption (seek c) ((answer ≡ None) × (d ≡ c)) (λ n. (deref_pair answer ≡ ranked n c.pairs) × (d ≡ record c { rank = n }))
 
-  -- a cursor stands at the first pair of its leaf above a key; at the last one below it
+  -- a cursor is at the first pair of its leaf above a key; at the last one below it
   abbrev pub IsFirstAbove : (K → K → Ordering) → K → LeafCursor K V → Type 0
   IsFirstAbove cmp key c = c.rank ≡ before_start cmp (Excluded key) c.pairs + 1
 

@@ -1,4 +1,4 @@
--- A cursor that is moved forward so many times at most.
+-- A cursor that is moved forward a limited number of times.
 use Rattle.std.specs.Prelude.{◌≡◌, ◌<◌, ◌+◌, refl, ℕ, Option, None}
 use Rattle.std.specs.Borrow.{Bor}
 use Rattle.std.specs.Coded.{Coded, code_by, coded×, coded_ℕ}

@@ -22,7 +22,7 @@ module _ {K V : Type 0} where
   RefusedForMemory (Duplicate k v) = ⊥
   RefusedForMemory (Memory k v) = Unit {0}
 
-  -- the pair that comes back
+  -- the pair that is returned
   abbrev pub refused_pair : InsertRefused K V → K × V
   refused_pair (Duplicate k v) = (k, v)
   refused_pair (Memory k v) = (k, v)

@@ -11,7 +11,7 @@ use std::alloc::{AllocError, Global};
 
 impl<K: Ord, V> TreeIndex<K, V> {
     /// A tree with clones of all pairs, by one pass over them, leaf by leaf, into room that was made ahead. Its
-    /// leaves are full but for the last, so the depth is at most 1 up to 240 pairs. Where memory is refused there is
+    /// leaves are full but for the last, so the depth is at most 1 up to 240 pairs. If an allocation fails there is
     /// none, and what was cloned is dropped.
     pub fn clone(&self, alloc: Global) -> Result<TreeIndex<K, V>, AllocError>
     where
@@ -26,8 +26,8 @@ impl<K: Ord, V> TreeIndex<K, V> {
             arenas: self.arenas.copy(alloc)?,
         })
     }
-    /// Puts clones of so many pairs of another tree behind all others, whose keys are lesser: that of a cursor's forward end
-    /// and those behind it, which the cursor passes. Each pair takes one place at most. Where memory is refused, no pair of
+    /// Appends clones of `count` pairs of another tree, whose keys are greater than all here: the pair at a cursor's forward
+    /// end and those after it, which the cursor passes. Each pair takes at most one place. If an allocation fails, no pair of
     /// this tree is left, and the cursor stays.
     pub fn push_run(&mut self, source: &mut Iter<'_, K, V>, count: usize) -> Result<(), AllocError>
     where

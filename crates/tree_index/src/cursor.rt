@@ -18,7 +18,7 @@ use std::alloc::AllocError;
 use std::ops::Bound;
 use tree_nodes::{Arenas, Position};
 
-/// Where an end of a cursor stands: nowhere yet, at a place, or past all of them for good.
+/// The position of an end of a cursor: not yet set, at a place, or past all of them for good.
 #[derive(Clone, Copy)]
 pub(crate) enum End<S> {
     Unopened,
@@ -110,7 +110,7 @@ impl<'t, K: Ord, V> Ends<'t, K, V> {
         }
     }
 
-    /// Puts clones of so many pairs, from that of the forward end on, behind all those of a tree, and goes past them.
+    /// Appends clones of `count` pairs, from that of the forward end on, to a tree, and moves past them.
     #[inline(always)]
     pub(crate) fn push_run(
         &mut self,
@@ -192,7 +192,7 @@ impl<'t, K: Ord, V> Ends<'t, K, V> {
         }
     }
 
-    /// Where the forward end goes and the pair there, if it stays in its leaf.
+    /// Where the forward end moves, and the pair there, if it stays in its leaf.
     #[inline(always)]
     fn beside(&self) -> Option<(Position<'t, K, V>, (&'t K, &'t V))>
         requires { IsReady K.cmp self.now }
@@ -206,7 +206,7 @@ impl<'t, K: Ord, V> Ends<'t, K, V> {
         }
     }
 
-    /// Where the forward end goes.
+    /// Where the forward end moves.
     #[inline(always)]
     fn forth(&self, lower: Bound<&'t K>) -> End<Position<'t, K, V>>
         requires { IsReady K.cmp self.now }
@@ -226,7 +226,7 @@ impl<'t, K: Ord, V> Ends<'t, K, V> {
         }
     }
 
-    /// Where the backward end goes.
+    /// Where the backward end moves.
     #[inline(always)]
     fn back(&self, upper: Bound<&'t K>) -> End<Position<'t, K, V>>
         requires { IsReady K.cmp self.now }
@@ -269,7 +269,7 @@ fn given<'t, K: Ord, V>(
     }
 }
 
-/// Whether a place lies before a backward end, as far as that stands at a pair.
+/// Whether a place lies before a backward end, provided that this is at a pair.
 #[inline(always)]
 fn precedes<'t, K: Ord, V>(
     arenas: &'t Arenas<K, V>,
@@ -309,7 +309,7 @@ fn comes_first<'t, K: Ord, V>(
     own.0.cmp(other.pair().0).is_lt()
 }
 
-/// Whether one end lies before another, as far as both stand at pairs.
+/// Whether one end lies before another, provided that both are at pairs.
 #[inline(always)]
 fn lies_before<K: Ord, V>(
     arenas: &Arenas<K, V>,

@@ -31,9 +31,9 @@ use tree_nodes::{Arenas, Node};
 
 /// An ordered index: a B+ tree with at most fifteen pairs in a leaf and sixteen children in a node.
 ///
-/// Leaves and nodes stand in two arenas and name each other by numbers. A look-up follows one path and
-/// clones nothing; an insertion touches one path and clones one key where a leaf is split; a leaf that is
-/// emptied is given back, unless it is the last; reads and removals take no memory.
+/// Leaves and nodes are in two arenas and name each other by numbers. A look-up follows one path and
+/// clones nothing. An insertion touches one path, and clones one key where a leaf is split. A leaf that is
+/// emptied is freed, unless it is the last. Reads and removals take no memory.
 #[derive(Drop)]
 pub struct TreeIndex<K: Ord, V> {
     pub(crate) arenas: Arenas<K, V>,
@@ -55,7 +55,7 @@ impl<K: Ord, V> Model for TreeIndex<K, V> {
     ghost invariant = { λ t. IsSound K.cmp t.arenas };
 }
 
-/// Why a pair wasn't inserted. It comes back.
+/// Why a pair wasn't inserted, with the pair.
 #[derive(Debug, Drop, Error)]
 pub enum InsertRefused<K, V> {
     /// A pair has the key already.
@@ -91,7 +91,7 @@ impl<K: Ord, V> TreeIndex<K, V> {
         }
     }
 
-    /// A tree without pairs, with room for so many that come by rising keys. Where memory is refused there is none.
+    /// A tree without pairs, with room for `pairs` pairs that are inserted in ascending order. Fails only if an allocation fails.
     pub fn with_capacity(alloc: Global, pairs: usize) -> Result<Self, AllocError>
     where
         K: Drop,
@@ -143,7 +143,7 @@ impl<K: Ord, V> TreeIndex<K, V> {
         self.arenas.len() == 0
     }
 
-    /// Inserts a pair whose key isn't there. A refused pair comes back, and the tree stays as it was: as a
+    /// Inserts a pair whose key isn't there. A refused pair is returned, and the tree is as it was: as a
     /// duplicate if and only if a pair has the key, also where there is no memory for one more.
     ///
     /// Where its leaf has no room, one key is cloned and room is taken for the leaves and nodes of one
@@ -171,7 +171,7 @@ impl<K: Ord, V> TreeIndex<K, V> {
     }
 
     /// Puts a pair in, over the one that has its key, if there is one: that takes no memory, and drops what
-    /// was there. Where memory is refused the pair comes back, and the tree stays as it was.
+    /// was there. If an allocation fails, the pair is returned, and the tree is as it was.
     pub fn upsert_sync(&mut self, key: K, val: V) -> Result<(), (K, V)>
     where
         K: Clone + Drop,
@@ -189,11 +189,11 @@ impl<K: Ord, V> TreeIndex<K, V> {
         }
     }
 
-    /// Puts a pair behind all others, whose keys are lesser, without a search. Where memory is refused the
-    /// pair comes back, and the tree stays as it was.
+    /// Appends a pair whose key is greater than all others, without a search. If an allocation fails, the
+    /// pair is returned, and the tree is as it was.
     ///
-    /// It stands in the last leaf, or where that is full in a new one. A tree of `usize::MAX` pairs takes
-    /// no more: that is answered as memory.
+    /// The pair is put into the last leaf, or into a new one if that is full. A tree of `usize::MAX` pairs
+    /// takes no more: it refuses the pair as for want of memory.
     #[inline]
     pub fn push_last(&mut self, key: K, val: V) -> Result<(), (K, V)>
     where
@@ -338,7 +338,7 @@ impl<K: Ord, V> TreeIndex<K, V> {
         self.arenas.root_node()
     }
 
-    /// Where a key stands: at its pair, or between its neighbours, with a cursor there. It goes down once.
+    /// Where a key is: at its pair, or between its neighbours, with a cursor there. It searches one path.
     pub fn locate(&self, key: &K) -> Proximity<'_, K, V>
         ensures { IsLocated K.cmp key.now self.now.pairs result }
     {

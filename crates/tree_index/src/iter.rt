@@ -12,18 +12,18 @@ use crate::take::Take;
 use std::marker::Model;
 use std::ops::Bound;
 
-/// Goes through all pairs of a tree: by rising keys from its forward end, by falling keys from its
+/// A cursor over all pairs of a tree: in ascending order from its forward end, in descending order from its
 /// backward end. (`scc`'s `tree_index::Iter`.)
 ///
-/// An end is unopened, stands at a pair, or is done. The ends don't pass one another, and an end that
-/// went past the last pair gives none for good. A step visits the leaf of its pair and those emptied
+/// An end is unopened, at a pair, or done. The ends don't pass one another, and an end that
+/// moved past the last pair gives none for good. A step visits the leaf of its pair and those emptied
 /// leaves that it passes over, and takes no memory.
 #[derive(Drop)]
 pub struct Iter<'t, K: Ord, V> {
     pub(crate) ends: Ends<'t, K, V>,
 }
 
-/// Invariant: specs/Ends.antt, IsReady: both ends stand at places of a sound tree.
+/// Invariant: specs/Ends.antt, IsReady: both ends are at places of a sound tree.
 impl<'t, K: Ord, V> Model for Iter<'t, K, V> {
     ghost use Rattle.std.specs.declared.ops.Bound.TheVariants.{Unbounded};
     ghost use Rattle.tree_index.specs.Cursor.{Cursor, cursor_code};
@@ -39,7 +39,7 @@ impl<'t, K: Ord, V> Model for Iter<'t, K, V> {
 }
 
 impl<'t, K: Ord, V> Iter<'t, K, V> {
-    /// The pair of the forward end, if it stands at one.
+    /// The pair at the forward end, if it is at one.
     #[inline(always)]
     pub fn get(&self) -> Option<(&'t K, &'t V)>
         ensures { deref_pair result ≡ shown_forth K.cmp self.now }
@@ -57,7 +57,7 @@ impl<'t, K: Ord, V> Iter<'t, K, V> {
         self.ends.run(upto)
     }
 
-    /// The pair of the backward end, if it stands at one.
+    /// The pair at the backward end, if it is at one.
     pub fn get_back(&self) -> Option<(&'t K, &'t V)>
         ensures { deref_pair result ≡ shown_back K.cmp self.now }
     {
@@ -73,7 +73,7 @@ impl<'t, K: Ord, V> Iter<'t, K, V> {
         self.ends.flip(Bound::Unbounded, Bound::Unbounded)
     }
 
-    /// At most so many of the pairs that the forward end gives.
+    /// At most `count` of the pairs that the forward end gives.
     #[inline(always)]
     pub fn take(self, count: usize) -> Take<'t, K, V>
         ensures { result ≡ record { cursor = self.entry; left = count } }

@@ -1,13 +1,26 @@
 //! Leaves of a tree, and cursors over the pairs of one.
 //!
+//! <!-- crates/tree_tests/src/tree/leaf.rt add started -->
+//! ```text
+//! /// Adds a pair whose key isn't there, and returns whether the leaf took it.
+//! fn add(leaf: &mut Leaf<u64, u64>, key: u64, val: u64) -> bool {
+//!     match leaf.array.insert::<false>(key, val) {
+//!         InsertResult::Success => true,
+//!         _ => false,
+//!     }
+//! }
+//!
+//! /// The pair that a jump of a rising cursor gives, where nothing lies before it in its leaf.
+//! fn started<'l>(rising: &mut Iter<'l, u64, u64>, tree: &'l Tree) -> Seen {
+//!     let seen = read(rising.jump(tree));
+//!     if rising.clone().rev().next().is_none() {
+//!         seen
+//!     } else {
+//!         None
+//!     }
+//! }
 //! ```
-//! let mut leaf: Leaf<u64, &str> = Leaf::new();
-//! leaf.array.insert::<false>(2, "two");
-//! leaf.array.insert::<false>(1, "one");
-//! let mut pairs = leaf::Iter::new(&leaf);
-//! pairs.next(); // Some((&1, &"one"))
-//! pairs.max_key(); // Some(&2)
-//! ```
+//! <!-- end -->
 
 mod iter;
 mod jump;

@@ -1,22 +1,35 @@
-//! An ordered index: a B+ tree whose leaves and nodes stand in two arenas.
+//! An ordered index: a B+ tree whose leaves and nodes are in two arenas.
 //!
-//! [`TreeIndex`] is one list of pairs, strictly ascending by key, to every contract; under it stand
+//! Contracts see a [`TreeIndex`] as one list of pairs, strictly ascending by key. Inside, it has
 //! leaves of at most fifteen pairs and nodes of at most sixteen children (`leaf_array::Array`). A
 //! look-up follows one path and clones nothing. An insertion that finds its leaf full makes room
-//! first: it packs the leaf or splits it, and the full nodes above it, and needs memory for that
-//! before anything is changed; so a refused one leaves the tree as it was. A cursor goes along the
+//! first: it packs the leaf or splits it, and the full nodes above it. It allocates the memory for that
+//! before anything is changed, so a refused one leaves the tree as it was. A cursor walks along the
 //! leaves, each of which names its neighbours. A leaf that loses its last pair leaves the tree, with the
 //! nodes that have it alone, and its place is free for the next one. Reads, cursors, removals and
 //! `clear` take no memory.
 //!
+//! <!-- crates/word_count/src/main.rt count_word show_from -->
+//! ```text
+//! // Counts one more of a word.
+//! fn count_word(alloc: Global, counts: &mut Counts, word: &str) -> Result<(), AllocError> {
+//!     let key = Text::new(alloc, word)?;
+//!     let count = counts.peek(&key).copied().unwrap_or(0).saturating_add(1);
+//!     match counts.upsert_sync(key, count) {
+//!         Ok(()) => Ok(()),
+//!         Err(_) => Err(AllocError),
+//!     }
+//! }
+//!
+//! // Prints the words from one on.
+//! fn show_from<'a, R: Print>(rt: &R, counts: &'a Counts, from: &'a Text) -> io::Result<()> {
+//!     for (word, count) in counts.range(Bound::Included(from), Bound::Unbounded) {
+//!         println!(rt; "{word} {count}")?;
+//!     }
+//!     Ok(())
+//! }
 //! ```
-//! let mut tree = TreeIndex::new(alloc);
-//! tree.insert_sync(2, "two")?;
-//! tree.upsert_sync(1, "one")?;
-//! tree.peek(&1); // Some(&"one")
-//! tree.iter().next_back(); // Some((&2, &"two"))
-//! tree.remove_sync(&2); // true
-//! ```
+//! <!-- end -->
 #![tactic(auto)]
 
 mod copy;

@@ -1,4 +1,4 @@
-//! Where a key stands among the pairs of a tree.
+//! Where a key is among the pairs of a tree.
 
 ghost use Rattle.std.specs.Prelude.{◌≡◌, ◌<◌, length, slice_get};
 ghost use Rattle.tree_nodes.specs.SplitPoints.{is_keyed};
@@ -17,20 +17,20 @@ use tree_nodes::{Arenas, Position};
 /// (`scc`'s `tree_index::Proximity`.)
 #[derive(Drop)]
 pub enum Proximity<'t, K: Ord, V> {
-    /// A pair has the key: the forward end stands at it.
+    /// A pair has the key: the forward end is at it.
     Exact(Iter<'t, K, V>),
-    /// None has it: the forward end stands at the nearest smaller pair, the backward end at the nearest
+    /// None has it: the forward end is at the nearest smaller pair, the backward end at the nearest
     /// larger one.
     Between(Iter<'t, K, V>),
-    /// All pairs are smaller: the backward end stands at the last one.
+    /// All pairs are smaller: the backward end is at the last one.
     Smaller(Iter<'t, K, V>),
-    /// All pairs are larger: the forward end stands at the first one.
+    /// All pairs are larger: the forward end is at the first one.
     Larger(Iter<'t, K, V>),
     /// There are no pairs.
     Empty,
 }
 
-/// Where a key stands. It goes down once.
+/// Where a key is. It searches one path.
 pub(crate) fn locate<'t, K: Ord, V>(arenas: &'t Arenas<K, V>, key: &K) -> Proximity<'t, K, V>
     requires { IsSound K.cmp arenas.now }
     ensures { IsLocated K.cmp key.now (pairs_of arenas.now) result }
@@ -49,7 +49,7 @@ pub(crate) fn locate<'t, K: Ord, V>(arenas: &'t Arenas<K, V>, key: &K) -> Proxim
     }
 }
 
-/// Where a key stands, at a pair whose key isn't less or before it.
+/// Where a key is: at a pair whose key isn't less, or before it.
 fn locate_before<'t, K: Ord, V>(
     arenas: &'t Arenas<K, V>,
     key: &K,

@@ -8,7 +8,7 @@ use crate::take::Take;
 use std::marker::Model;
 use std::ops::Bound;
 
-/// Goes through the pairs of a tree within two bounds, as [`Iter`](crate::Iter) does through all.
+/// A cursor over the pairs of a tree within two bounds, as [`Iter`](crate::Iter) is one over all.
 /// (`scc`'s `tree_index::Range`.)
 ///
 /// The forward end starts at the first pair within the lower bound and gives pairs as long as they lie
@@ -20,7 +20,7 @@ pub struct Range<'t, K: Ord, V> {
     pub(crate) upper: Bound<&'t K>,
 }
 
-/// Invariant: specs/Ends.antt, IsReady: both ends stand at places of a sound tree.
+/// Invariant: specs/Ends.antt, IsReady: both ends are at places of a sound tree.
 impl<'t, K: Ord, V> Model for Range<'t, K, V> {
     ghost use Rattle.leaf_array.specs.Lookups.{deref_bound};
     ghost use Rattle.tree_index.specs.Cursor.{Cursor, cursor_code};
@@ -36,14 +36,14 @@ impl<'t, K: Ord, V> Model for Range<'t, K, V> {
 }
 
 impl<'t, K: Ord, V> Range<'t, K, V> {
-    /// The pair of the forward end, if it stands at one within the upper bound.
+    /// The pair at the forward end, if it is at one within the upper bound.
     pub fn get(&self) -> Option<(&'t K, &'t V)>
         ensures { deref_pair result ≡ shown_forth K.cmp self.now }
     {
         self.ends.get(self.upper)
     }
 
-    /// The pair of the backward end, if it stands at one within the lower bound.
+    /// The pair at the backward end, if it is at one within the lower bound.
     pub fn get_back(&self) -> Option<(&'t K, &'t V)>
         ensures { deref_pair result ≡ shown_back K.cmp self.now }
     {
@@ -59,7 +59,7 @@ impl<'t, K: Ord, V> Range<'t, K, V> {
         self.ends.flip(self.lower, self.upper)
     }
 
-    /// At most so many of the pairs that the forward end gives.
+    /// At most `count` of the pairs that the forward end gives.
     #[inline(always)]
     pub fn take(self, count: usize) -> Take<'t, K, V>
         ensures { result ≡ record { cursor = self.entry; left = count } }

@@ -5,8 +5,8 @@ ghost use Rattle.std.specs.Prelude.{◌≡◌};
 use crate::range::Range;
 use std::marker::Model;
 
-/// Goes through a cursor's pairs as long as a count lasts: what [`Range::take`] and
-/// [`Iter::take`](crate::Iter::take) give.
+/// An iterator over at most a number of a cursor's pairs: what [`Range::take`] and
+/// [`Iter::take`](crate::Iter::take) return.
 ///
 /// It is the standard library's `Take` for these cursors alone: a step is compiled into its caller, whatever
 /// the number of callers, where a step of the other is a call once a program has several.
@@ -27,7 +27,7 @@ impl<'t, K: Ord, V> Model for Take<'t, K, V> {
 }
 
 impl<'t, K: Ord, V> Take<'t, K, V> {
-    /// So many pairs of a cursor.
+    /// At most `left` pairs of a cursor.
     #[inline(always)]
     pub(crate) fn new(range: Range<'t, K, V>, left: usize) -> Self
         ensures { result ≡ record { cursor = range.entry; left = left } }
@@ -46,7 +46,7 @@ impl<'t, K: Ord, V> Iterator for Take<'t, K, V> {
 
     ghost remaining = { λ s. at_most s.left };
 
-    /// Moves the forward end of the cursor as its own `next` does, unless so many calls have done that already.
+    /// Moves the forward end of the cursor as its own `next` does, unless the count is used up.
     #[inline(always)]
     fn next(&mut self) -> Option<(&'t K, &'t V)> {
         if self.left == 0 {

@@ -22,7 +22,7 @@ abbrev pub IsLinked : Links → Option ℕ → List ℕ → Option ℕ → Type 
 IsLinked f before [] behind = Unit {0}
 IsLinked f before (n ∷ ns) behind = (f n ≡ Some (before, first_or behind ns)) × IsLinked f (Some n) ns behind
 
--- how often a number stands in a list
+-- how often a number is in a list
 abbrev pub times : ℕ → List ℕ → ℕ
 times n [] = 0
 times n (m ∷ ms) = cond (m == n) 1 0 + times n ms
@@ -35,6 +35,6 @@ is_named (Some m) n = m == n
 abbrev pub linked_in : ℕ → Option ℕ → ℕ → Links → Links
 linked_in fresh before behind f n = option_map (λ l. (cond (n == behind) (Some fresh) l.0, cond (is_named before n) (Some fresh) l.1)) (f n)
 
--- the links once what stood between two has left
+-- the links once what was between two has left
 abbrev pub linked_out : Option ℕ → Option ℕ → Links → Links
 linked_out before behind f n = option_map (λ l. (cond (is_named behind n) before l.0, cond (is_named before n) behind l.1)) (f n)

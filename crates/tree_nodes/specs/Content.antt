@@ -35,7 +35,7 @@ module _ {K V : Type 0} where
     pub flat : a.height ≡ 0
     pub empty : (at : ℕ) → get a.leaves at ≡ None
 
-  -- nothing is planted, or a tree of at least one node stands
+  -- nothing is planted, or there is a tree of at least one node
   pub record IsSound (cmp : K → K → Ordering) (a : Arenas K V) : Type 0 where
     pub stands : HasNoTree a ⊎ (a.height ≢ 0) × Stands cmp (content_of a) a.height a.root
     pub linked : a.height ≢ 0 → IsLinked (leaf_links a.leaves) None (leaves_of a) None

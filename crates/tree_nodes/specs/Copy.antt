@@ -17,7 +17,7 @@ module _ {K V : Type 0} where
   IsPositionOrEnd a None = Unit {0}
   IsPositionOrEnd a (Some s) = IsPosition a s
 
-  -- a tree has the pairs of a list, and behind them those of a source from one place up to another, with so many left of a
+  -- a tree has the pairs of a list, and behind them those of a source from one place up to another, with this many left of a
   -- count; for each of them it has taken one of its own places at most
   pub record IsExtended (cmp : K → K → Ordering) (source : Arenas K V) (base : List (K × V)) (start count room : ℕ) (tree : Arenas K V) (next : Option (Position K V)) (left : ℕ) : Type 0 where
     pub sound : IsSound cmp tree

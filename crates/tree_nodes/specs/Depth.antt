@@ -20,7 +20,7 @@ leaf_room None = 0
 leaf_room (Some l) = 15 - l.array.used
 
 module _ {K V : Type 0} (cmp : K → K → Ordering) where
-  -- no separator is above all pairs, so that a key above all pairs goes to the last child
+  -- no separator is above all pairs, so that a key above all pairs belongs to the last child
   abbrev pub is_reached : List (K × V) → List (K × ℕ) → Bool
   is_reached pairs [] = true
   is_reached pairs (e ∷ es) = list_any (λ p. is_le (cmp e.0 p.0)) pairs && is_reached pairs es

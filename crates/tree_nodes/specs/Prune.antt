@@ -15,7 +15,7 @@ use Rattle.tree_nodes.specs.Content.{content_of, pairs_of, leaves_of, leaf_on_wa
 use Rattle.tree_nodes.specs.Walk.{pairs_in_leaf}
 
 module _ {K V : Type 0} where
-  -- so many nodes with one child each lead from a number to a leaf
+  -- this many nodes with one child each lead from a number to a leaf
   abbrev pub IsSingle : ArenaContent K V → ℕ → ℕ → ℕ → Type 0
   IsSingle a zero at leaf = at ≡ leaf
   IsSingle a (suc height) at leaf = (n : Cells K ℕ × ℕ) × (a.node at ≡ Some n) × (n.0.pairs ≡ []) × IsSingle a height n.1 leaf
@@ -31,7 +31,7 @@ module _ {K V : Type 0} where
     pub child : f.child ≡ child_for cmp key node.children.pairs node.last
     pub single : IsSingle (content_of a) f.height f.child (leaf_on_way cmp key a)
 
-  -- a leaf, and the nodes from a number down to it, don't stand in the tree
+  -- a leaf, and the nodes from a number down to it, aren't in the tree
   pub record IsCutOff (a : Arenas K V) (height at leaf : ℕ) : Type 0 where
     pub planted : a.height ≢ 0
     pub single : IsSingle (content_of a) height at leaf

@@ -20,7 +20,7 @@ pub record LastLeafHasRoom {K V : Type 0} (a : Arenas K V) (n : ℕ) : Type 0 wh
   pub some : 0 < length leaf.array.pairs
   pub room : leaf.array.used < 15
 
--- the last leaf: it has pairs, and takes so many more at once, which can be counted; if there are any, all of its used places have pairs
+-- the last leaf: it has pairs, and takes this many more at once, which can be counted; if there are any, all of its used places have pairs
 pub record LastLeafTakes {K V : Type 0} (a : Arenas K V) (n room : ℕ) : Type 0 where
   pub own : IsOwnLeaf a (Some n)
   pub fore : List ℕ

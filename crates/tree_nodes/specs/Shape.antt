@@ -94,7 +94,7 @@ module _ {K V : Type 0} where
   leaves_under a zero at = at ∷ []
   leaves_under a (suc height) at = node_joined (leaves_under a height) (a.node at)
 
-  -- how often a leaf, and how often a node, stands under a number at this height
+  -- how often a leaf, and how often a node, is under a number at this height
   abbrev pub leaf_times : ArenaContent K V → ℕ → ℕ → ℕ → ℕ
   leaf_times a n zero at = cond (at == n) 1 0
   leaf_times a n (suc height) at = node_sum (leaf_times a n height) (a.node at)
@@ -104,7 +104,7 @@ module _ {K V : Type 0} where
   node_times a n (suc height) at = cond (at == n) 1 0 + node_sum (node_times a n height) (a.node at)
 
   module _ (cmp : K → K → Ordering) where
-    -- the number that so many steps down lead to, on the way to a key
+    -- the number that this many steps down lead to, on the way to a key
     abbrev pub way : ArenaContent K V → K → ℕ → ℕ → ℕ
     way a key zero at = at
     way a key (suc steps) at = way a key steps (child_in cmp key at (a.node at))
@@ -120,7 +120,7 @@ module _ {K V : Type 0} where
     IsTree a zero at low high = (c : Cells K V) × (a.leaf at ≡ Some c) × IsLeaf low high c
     IsTree a (suc height) at low high = (n : Cells K ℕ × ℕ) × (a.node at ≡ Some n) × IsNode n.0 × AreBetween cmp (IsTree a height) n.0.pairs n.1 low high
 
-    -- a tree in which each leaf and each node stands once
+    -- a tree that has each leaf and each node once
     pub record Stands (a : ArenaContent K V) (height root : ℕ) : Type 0 where
       pub tree : IsTree a height root None None
       pub leaf_once : (n : ℕ) → leaf_times a n height root ≤ 1

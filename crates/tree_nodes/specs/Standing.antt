@@ -1,4 +1,4 @@
--- A number in the arenas of a tree at which a tree stands.
+-- The number of a subtree in the arenas of a tree.
 use Rattle.std.specs.Prelude.{◌≡◌, refl, ℕ, List, ◌++◌, Option}
 use Rattle.std.specs.Coded.{Coded, code_by, coded×, coded_ℕ, coded_list}
 use Rattle.std.specs.declared.cmp.Ordering.{Ordering}
@@ -15,7 +15,7 @@ pub record Nested (K V : Type 0) : Type 0 where
 abbrev pub nested_code : {K V : Type 0} → Coded K → Coded V → Coded (Nested K V)
 nested_code {K} {V} k v = code_by (List (K × V) × ℕ) (coded× (coded_list (coded× k v)) coded_ℕ) (λ n. (n.pairs, n.height)) (λ p. record { pairs = p.0; height = p.1 }) (λ _. refl)
 
--- a list stands as a whole within another one, between lesser keys than this one and greater ones
+-- a list is a contiguous part of another one, between lesser keys than this one and greater ones
 pub record IsAround {K V : Type 0} (cmp : K → K → Ordering) (key : K) (part whole : List (K × V)) : Type 0 where
   pub fore : List (K × V)
   pub rear : List (K × V)
@@ -28,7 +28,7 @@ module _ {K V : Type 0} where
   abbrev pub standing_pairs : Standing K V → List (K × V)
   standing_pairs s = pairs_under (content_of s.arenas.now) s.height s.at
 
-  -- a tree stands there, within some bounds
+  -- there is a subtree, within some bounds
   pub record IsStanding (cmp : K → K → Ordering) (s : Standing K V) : Type 0 where
     pub sound : IsSound cmp s.arenas.now
     pub low : Option K

@@ -7,7 +7,7 @@ use Rattle.tree_nodes.specs.Shape.{AllKeys, joined_over, leaf_pairs}
 use Rattle.tree_nodes.specs.Chain.{times, first_or}
 use Rattle.tree_nodes.specs.Content.{content_of, pairs_of, leaves_of}
 
--- how many pairs stand in the leaves before one
+-- how many pairs are in the leaves before one
 abbrev pub pairs_before : {X : Type 0} → (ℕ → List X) → ℕ → List ℕ → ℕ
 pairs_before f n [] = 0
 pairs_before f n (m ∷ ms) = cond (m == n) 0 (length (f m) + pairs_before f n ms)

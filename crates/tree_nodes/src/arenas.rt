@@ -48,7 +48,7 @@ impl<K: Ord, V> Arenas<K, V> {
         }
     }
 
-    /// The same with room for so many pairs that come by rising keys: fifteen to a leaf, and where these are
+    /// The same with room for `pairs` pairs that are inserted in ascending order: fifteen to a leaf, and where these are
     /// more than a node has, eight children to a node, and places for a split.
     pub fn with_capacity(alloc: Global, pairs: usize) -> Result<Self, AllocError>
     where
@@ -86,7 +86,7 @@ impl<K: Ord, V> Arenas<K, V> {
         self.len
     }
 
-    /// The number of what stands at a height on the way to a key: a node, or at the height 0 a leaf.
+    /// The number of the node at a height on the way to a key, or at the height 0 of the leaf.
     #[inline(always)]
     pub(crate) fn node_at(&self, left: usize, key: &K) -> usize
         requires sound { IsSound K.cmp self.now }
@@ -341,7 +341,7 @@ impl<K: Ord, V> Arenas<K, V> {
         answer
     }
 
-    /// The same, but that the leaf stays: it is told where it has no pair left.
+    /// The same, but that the leaf stays: its number is returned if it has no pair left.
     #[inline(always)]
     fn take_if<F: FnOnce(&V) -> bool>(&mut self, key: &K, condition: F) -> (bool, Option<usize>)
     where

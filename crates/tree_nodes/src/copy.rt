@@ -33,8 +33,8 @@ impl<K: Ord, V> Arenas<K, V> {
         Ok(copy)
     }
 
-    /// Puts clones of so many pairs of another tree, from a place on, behind all others, whose keys are lesser. It gives the
-    /// place of the first one that is left over. Where memory is refused, no pair is left.
+    /// Appends clones of `count` pairs of another tree, from a place on, whose keys are greater than all here. It gives the
+    /// place of the first one that is left over. If an allocation fails, no pair is left.
     pub fn push_run<'t>(
         &mut self,
         source: &'t Arenas<K, V>,
@@ -68,7 +68,7 @@ impl<K: Ord, V> Arenas<K, V> {
         }
     }
 
-    /// The same, but that nothing is said of what is left where memory is refused.
+    /// The same, but that nothing is said of what is left if an allocation fails.
     fn extend<'t>(
         &mut self,
         source: &'t Arenas<K, V>,
@@ -103,7 +103,7 @@ impl<K: Ord, V> Arenas<K, V> {
         Ok(next)
     }
 
-    /// Puts clones of so many pairs of another tree, from a place on, behind those of the last leaf, as long as that has
+    /// Appends clones of at most `count` pairs of another tree, from a place on, to the last leaf, as long as that has
     /// room. It gives the place of the first one that is left over, and how many are left.
     fn fill<'t>(
         &mut self,
@@ -140,7 +140,7 @@ impl<K: Ord, V> Arenas<K, V> {
         Ok((next, left))
     }
 
-    /// Puts clones of so many pairs of another tree's leaf, from a place on, behind those of the last leaf, which takes them.
+    /// Appends clones of `count` pairs of another tree's leaf, from a place on, to the last leaf, which takes them.
     #[inline]
     fn extend_at(
         &mut self,

@@ -93,8 +93,8 @@ impl<K: Ord, V> Leaf<K, V> {
         let _ = self.array.len();
     }
 
-    /// Puts clones of so many pairs of another leaf, from a place on, behind all others, whose keys are lesser. Nothing that
-    /// was removed or replaced is kept.
+    /// Appends clones of `count` pairs of another leaf, from a place on, whose keys are greater than all here. This leaf keeps
+    /// none that was removed or replaced.
     #[inline]
     pub(crate) fn extend(
         &mut self,
@@ -279,7 +279,7 @@ impl<K: Ord, V> Leaf<K, V> {
         }
     }
 
-    /// Moves the pairs up to the cut to a leaf of their own, which stands before this one, whose number is given.
+    /// Moves the pairs up to the cut to a leaf of their own, before this one, whose number is given.
     pub(crate) fn split(&mut self, whole: bool, own: usize) -> Leaf<K, V>
     where
         K: Drop,

@@ -6,13 +6,6 @@
 //! and the full nodes above it, and needs memory for that before anything is changed. A leaf that loses
 //! its last pair leaves the tree, with the nodes that have it alone. The crate above makes one value of
 //! it, whose arenas are always sound.
-//!
-//! ```
-//! let mut arenas = Arenas::new(alloc);
-//! arenas.put::<false>(2, "two"); // InsertResult::Success
-//! arenas.search_entry(&2); // Some((&2, &"two"))
-//! arenas.remove_if(&2, |_| true); // true
-//! ```
 #![tactic(auto)]
 
 mod append;

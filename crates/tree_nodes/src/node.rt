@@ -1,12 +1,20 @@
-//! The inner nodes of the tree: as they stand in their arena, and as a tree lends them.
+//! The inner nodes of the tree: as they are in their arena, and as a tree lends them.
 //!
-//! ```
-//! // of a tree with the pairs (1, "one") and (2, "two")
-//! if let Some(root) = tree.root() {
-//!     root.read_entry(&2, |_, name| *name); // Some("two")
-//!     root.read_entry(&3, |_, name| *name); // None
+//! <!-- crates/tree_tests/src/tree.rt leaf_at -->
+//! ```text
+//! /// The leaf of a tree on the way to a key, from the root down: a child has one node less down to a leaf, so
+//! /// the way ends, at a node over leaves.
+//! fn leaf_at<'t>(tree: &'t TreeIndex<u64, u64>, key: u64) -> Option<&'t Leaf<u64, u64>> {
+//!     let mut node = tree.root()?;
+//!     'down: loop {
+//!         node = match node {
+//!             Node::Leaf(last) => return Some(last.leaf(&key)),
+//!             Node::Internal(inner) => inner.child(&key),
+//!         };
+//!     }
 //! }
 //! ```
+//! <!-- end -->
 
 ghost use Rattle.std.specs.Prelude.{◌≡◌, ◌≢◌, ◌+◌, ◌-◌, ◌<◌, ◌≤◌, ◌==◌, ◌++◌, ◌∷◌, ◌↔◌, IsTrue, IsSome, IfSome, Some, None, [], true, false, length, take, slice_get};
 ghost use Rattle.std.specs.List.{remove};
@@ -43,7 +51,7 @@ pub enum Node<'t, K: Ord, V> {
 }
 
 impl<'t, K: Ord, V> Node<'t, K, V> {
-    /// The node that stands at a number.
+    /// The node at a number.
     pub(crate) fn over(standing: Standing<'t, K, V>) -> Self
         requires stands { IsStanding K.cmp standing }
         requires node { standing.height ≢ 0 }

@@ -11,7 +11,7 @@ use crate::arenas::Arenas;
 use leaf_array::InsertResult;
 
 impl<K: Ord, V> Arenas<K, V> {
-    /// Puts a pair behind all others, whose keys are lesser. It is full where memory is refused, or no more
+    /// Appends a pair whose key is greater than all others. It is full if an allocation fails, or if no more
     /// pairs can be counted.
     #[inline]
     pub fn push(&mut self, key: K, val: V) -> InsertResult<K, V>

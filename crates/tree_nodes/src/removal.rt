@@ -14,7 +14,7 @@ use crate::prune::Fork;
 use std::ops::Bound;
 
 impl<K: Ord, V> Arenas<K, V> {
-    /// Removes the pairs whose keys lie within two bounds. It goes down once, and then along the leaves: one
+    /// Removes the pairs whose keys lie within two bounds. It searches one path, and walks along the leaves: one
     /// that has no others leaves the tree as it is, unless there is no other leaf.
     pub fn remove_range(&mut self, lower: Bound<&K>, upper: Bound<&K>)
     where

@@ -83,7 +83,7 @@ impl<K: Ord, V> Arenas<K, V> {
         Ok(leaf)
     }
 
-    /// Whether the leaf on the way to a key has so many pairs that it is to be split.
+    /// Whether the leaf on the way to a key has enough pairs to be split.
     fn is_crowded(&self, at: usize, key: &K) -> bool
         requires sound { IsSound K.cmp self.now }
         requires planted { self.now.height ≢ 0 }

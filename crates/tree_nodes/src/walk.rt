@@ -34,7 +34,7 @@ impl<'t, K: Ord, V> Position<'t, K, V> {
         self.leaf.pair(self.place)
     }
 
-    /// The place behind so many pairs of the same leaf. It may be behind the last one.
+    /// The place `count` pairs further in the same leaf. It may be behind the last one.
     #[inline(always)]
     pub(crate) fn moved(&self, count: usize) -> Position<'t, K, V>
         requires { self.now.place + count ≤ length self.now.leaf.now.array.pairs }

@@ -1,6 +1,6 @@
 //! Tests of `leaf_array` and `tree_index`, by a module for each thing tested.
 //!
-//! They stand in a crate of their own, so that what they test isn't proved once more with them.
+//! They are in a crate of their own, so that what they test isn't proved once more with them.
 #![tactic(auto)]
 
 #[cfg(test)]

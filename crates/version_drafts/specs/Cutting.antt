@@ -16,7 +16,7 @@ use Rattle.version_drafts.specs.declared.segments.Part.TheVariants as parts
 use Rattle.version_drafts.specs.declared.segments.Row.{Row}
 use Rattle.version_drafts.specs.declared.segments.SegmentBuilder.{SegmentBuilder}
 
--- whatever block stands at a place
+-- whatever block is at a place
 abbrev pub OfBlock : {X : Type 0} → List (List X) → ℕ → (List X → Type 0) → Type 0
 OfBlock blocks place P = (b : List _) → Some b ≡ slice_get blocks place → P b
 
@@ -114,24 +114,24 @@ module _ {K V N : Type 0} where
       pub are : map named names ≡ between from upto blocks
       pub behind : items' ≡ items ++ map parts.Taken names
 
-  -- a segment of so many pairs fits into one with what is last
+  -- a segment of this many pairs fits into one with what is last
   abbrev pub Joins : ℕ → ℕ → SegmentBuilder K V N → Type 0
   Joins s n c = ((length c.tail.pairs ≡ 0) × (0 < c.row.last) × (c.row.last + n ≤ s)) ⊎ ((0 < length c.tail.pairs) × (length c.tail.pairs + n ≤ s))
 
-  -- no more than was read was given: from so many pairs and changes that were left to so many
+  -- no more than was read was given, from one number of pairs and changes that were left to another
   pub record GivesNoMoreThanRead (s left left' : ℕ) (c c' : SegmentBuilder K V N) : Type 0 where
     pub spent : room_spent s c' + left' ≤ room_spent s c + left
     pub some : 0 < length c.tail.pairs → 0 < length c'.tail.pairs
     pub none : length c'.tail.pairs ≡ 0 → made_in c'.row.parts.items ≡ made_in c.row.parts.items
 
-  -- with so many edits left, no more trees were made than two for each that was passed, and one for each turn between pairs
+  -- with this many edits left, no more trees were made than two for each that was passed, and one for each turn between pairs
   -- that are gone and others: one less, where the next segment fits into one with the last one, or pairs before it are gone
   pub record IsThrifty (s budget : ℕ) (test : K → Bool) (last : Bool) (rest : List (List (K × V))) (left : ℕ) (c : SegmentBuilder K V N) : Type 0 where
     pub all : trees c + 2 * left + turn_count test last (pairs_in rest) ≤ budget
     pub spare : length c.tail.pairs ≡ 0 → 0 < c.row.last → (b : List (K × V)) → slice_get rest 0 ≡ Some b → c.row.last + length b ≤ s → trees c + 1 + 2 * left + turn_count test last (pairs_in rest) ≤ budget
     pub behind : last ≡ true → length c.tail.pairs ≡ 0 → trees c + 1 + 2 * left + turn_count test last (pairs_in rest) ≤ budget
 
-  -- whatever the budget is, it is kept to, from one place of the blocks with so many edits left to another
+  -- whatever the budget is, it is kept to, from one place of the blocks with this many edits left to another
   abbrev pub StaysThrifty : ℕ → (K → Bool) → List (List (K × V)) → ℕ → ℕ → SegmentBuilder K V N → ℕ → ℕ → SegmentBuilder K V N → Type 0
   StaysThrifty s test blocks place left c place' left' c' = (budget : ℕ) (last : Bool) → IsThrifty s budget test last (drop place blocks) left c → (last' : Bool) × IsThrifty s budget test last' (drop place' blocks) left' c'
 

@@ -136,7 +136,7 @@ fn note<'w, K: Clone + Ord + Drop, V>(
     }
 }
 
-/// Removes the pairs whose keys lie within two bounds from the list that changes make of a version: the edits of such keys
+/// Removes the pairs whose keys lie within two bounds from the list that changes make of a version: the edits of these keys
 /// are forgotten, and the range is noted. No pair of the version is read.
 fn remove_range<K: Clone + Ord + Drop, V: Drop, N, O: BaseVersion<K, V, N>>(
     changes: &mut Changes<'_, K, V>,

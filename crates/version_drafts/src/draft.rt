@@ -50,7 +50,7 @@ pub trait BaseVersion<K: Ord, V, N> {
         ensures { result ≡ has_key K.cmp key.now (pairs_in (blocks self.now)) };
 }
 
-/// The segments of the list that writes leave of an older one, and what they are told; refused where memory is. A
+/// The segments of the list that writes leave of an older one, and the replies. Fails only if an allocation fails. A
 /// segment has 1 to `S` pairs, and two neighbours together more than `S`. Segments that no write touches are taken over.
 /// Nothing of the older version changes.
 pub fn drafted<

@@ -75,7 +75,7 @@ fn pass<K: Clone + Ord + Drop, V: Clone + Drop, N: Drop, O: BaseVersion<K, V, N>
     ensures list { IfOk result (λ next. KeepsListFrom (O.named old.now) K.cmp gone.now (O.blocks old.now) place changes.old out.old next changes.new out.new) }
     ensures thrifty { IfOk result (λ next. StaysThrifty S (is_gone K.cmp gone.now) (O.blocks old.now) place (length changes.old) out.old next (length changes.new) out.new) }
 {
-    // how many there are tells the proof that a place behind this one can be named
+    // how many there are shows the proof that a place behind this one can be named
     let _count = old.count();
     let next = place + 1;
     if covers::<K, V, N, O>(gone, old, place) {
@@ -178,7 +178,7 @@ fn reaches<K: Ord, V, N, O: BaseVersion<K, V, N>, const S: usize>(
     }
 }
 
-/// Whether a segment of so many pairs fits into one with what comes before it.
+/// Whether a segment of `size` pairs fits into one with what comes before it.
 fn joins<K: Ord, V, N, const S: usize>(out: &SegmentBuilder<K, V, N>, size: usize) -> bool
     ensures { IsTrue result ↔ Joins S size out.now }
 {

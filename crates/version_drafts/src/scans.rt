@@ -20,7 +20,7 @@ pub(crate) struct ChangeScan<'t, K: Ord, V> {
     cursor: Iter<'t, K, V>,
 }
 
-/// Invariant: specs/ChangeScans.antt of `version_views`, IsReading: the cursor goes over all pairs of the tree, and has
+/// Invariant: specs/ChangeScans.antt of `version_views`, IsReading: the cursor walks over all pairs of the tree, and has
 /// begun if there are some.
 impl<'t, K: Ord, V> Model for ChangeScan<'t, K, V> {
     ghost use Rattle.std.specs.Prelude.{List};
@@ -84,7 +84,7 @@ impl<'t, K: Ord, V> ChangeScan<'t, K, V> {
         self.cursor.run(upto)
     }
 
-    /// Puts clones of so many of the first pairs that are left behind those of a segment, and passes them.
+    /// Appends clones of the first `count` pairs that are left to a segment, and passes them.
     #[inline(always)]
     pub(crate) fn push_run(
         &mut self,

@@ -88,7 +88,7 @@ pub(crate) struct SegmentBuilder<K: Ord, V, N> {
     pub(crate) until: usize,
 }
 
-/// A builder that was given no pair, with room for all segments that changes of so many keys and ranges can leave.
+/// A builder that was given no pair, with room for all segments that changes of that many keys and ranges can leave.
 pub(crate) fn begun<K: Ord + Drop, V: Drop, N: Drop, O: BaseVersion<K, V, N>, const S: usize>(
     alloc: Global,
     old: &O,
@@ -116,7 +116,7 @@ pub(crate) fn begun<K: Ord + Drop, V: Drop, N: Drop, O: BaseVersion<K, V, N>, co
     })
 }
 
-/// How many segments of up to `s` pairs so many changes can leave of so many segments: two more for each change, and since
+/// How many segments of up to `s` pairs `named` changes can leave of `count`: two more for each change, and since
 /// two neighbours hold more than `s` pairs, no more than all pairs together fill.
 fn most_segments(count: usize, named: usize, s: usize) -> usize
     requires { s ≤ 225 }
@@ -126,7 +126,7 @@ fn most_segments(count: usize, named: usize, s: usize) -> usize
     count.saturating_add(touched).min(filled.saturating_add(2))
 }
 
-/// Tells that about so many pairs come next, so that a tree has room for them from its beginning on.
+/// Says about how many pairs come next, so that a tree has room for them from its beginning on.
 pub(crate) fn expect<K: Ord + Drop, V: Drop, N, const S: usize>(
     out: &mut SegmentBuilder<K, V, N>,
     pairs: usize,
@@ -355,7 +355,7 @@ fn join<K: Clone + Ord + Drop, V: Clone + Drop, N: Drop, O: BaseVersion<K, V, N>
     Ok(())
 }
 
-/// Puts the open tree behind the segments that are done, and goes on with another one.
+/// Puts the open tree behind the segments that are done, and begins another one.
 fn close<K: Clone + Ord + Drop, V: Drop, N: Drop>(
     out: &mut SegmentBuilder<K, V, N>,
     next: Segment<K, V>,
@@ -379,7 +379,7 @@ fn close<K: Clone + Ord + Drop, V: Drop, N: Drop>(
     Ok(())
 }
 
-/// A part with a tree that was made.
+/// Wraps a new segment as a part.
 fn made<K: Ord + Drop, V: Drop, N>(
     alloc: Global,
     tree: Segment<K, V>,
@@ -423,7 +423,7 @@ fn append<K: Clone + Ord + Drop, V: Clone + Drop>(
     Ok(())
 }
 
-/// A segment of one pair, with room for so many.
+/// A segment of one pair, with room for `room` pairs.
 fn single<K: Clone + Ord + Drop, V: Drop>(
     alloc: Global,
     room: usize,

@@ -257,7 +257,7 @@ fn random_writes_answer_as_on_plain_lists(rt: HostRuntime) -> Result<(), Fail> {
     Ok(())
 }
 
-// Writes on a list: what they are told, the pairs that they leave, and how many segments of one pair they make.
+// Writes on a list: the replies to them, the pairs that they leave, and how many segments of one pair they make.
 type Row = (
     &'static [Write<u64, u64>],
     &'static [Reply],

@@ -151,7 +151,7 @@ fn started<'t>(tree: &'t TreeIndex<u64, u64>) -> Iter<'t, u64, u64>
     cursor
 }
 
-// Puts clones of all pairs of a tree, along a cursor at its first one, into an empty segment, and tells whether it did.
+// Puts clones of all pairs of a tree, along a cursor at its first one, into an empty segment, and returns whether it did.
 fn push_run(
     segment: &mut Segment<u64, u64>,
     cursor: &mut Iter<'_, u64, u64>,
@@ -167,7 +167,7 @@ fn push_run(
 }
 
 // Whether memory was refused to an empty segment that takes the pairs of a tree as a run, and whether it has them then: where
-// it was refused, no pair was left in it, the cursor stood at the first one, and a second try took all.
+// it was refused, no pair was left in it, the cursor was at the first one, and a second try took all.
 fn runs(alloc: Global) -> Result<(bool, bool), AllocError> {
     let tree = tree_up_to(alloc, 100)?;
     if tree.len() > 225 {

@@ -118,7 +118,7 @@ impl Ord for CountedKey {
     }
 }
 
-// A place with a version of so many pairs, and the empty one.
+// A place with a version of this many pairs, and the empty one.
 struct Held<const S: usize> {
     w: World<Item<CountedKey, u64, S>, NoJob>,
     none: Shared<Item<CountedKey, u64, S>>,

@@ -24,7 +24,7 @@ use std::process::Abort;
 // Items of versions with two pairs in a segment.
 type Two = Item<u64, u64, 2>;
 
-// A place for one participant and one root, with so many slots.
+// A place for one participant and one root, with this many slots.
 fn sizes(slots: usize) -> Sizes
     ensures { result ≡ record { participants = 1; slots = slots; cells = 1; jobs = 0 } }
 {

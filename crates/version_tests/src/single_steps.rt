@@ -437,7 +437,7 @@ fn end_reading(w: &mut World<Two, NoJob>, reading: WorldGuard)
     guard::close(w, reading);
 }
 
-// The number of the version that stands there, and how many segments it has.
+// The number of the version that is there, and how many segments it has.
 fn read(w: &World<Two, NoJob>, at: &Ptr<'static, Two>) -> Option<(u64, usize)> {
     if !w.is_readable(at) {
         return None;

@@ -124,7 +124,7 @@ fn made<const S: usize>(ends: &mut LocalWalk<'_, u64, u64, S>, call: Call) -> To
     }
 }
 
-// Makes the calls of a table, and tells how many answer what is wanted before the first that doesn't.
+// Makes the calls of a table, and returns how many answer what is wanted before the first that doesn't.
 fn played<const S: usize>(start: LocalWalk<'_, u64, u64, S>, rows: &[(Call, Told)]) -> usize {
     let mut ends = start;
     let mut right = 0usize;
@@ -425,7 +425,7 @@ impl<'l> Plain<'l> {
     }
 }
 
-// One call on a walk and on the plain machine, and whether both answer the same and stand at the same pairs then.
+// One call on a walk and on the plain machine, and whether both answer the same and are at the same pairs then.
 fn step<const S: usize>(
     ends: &mut LocalWalk<'_, u64, u64, S>,
     plain: &mut Plain<'_>,
@@ -524,7 +524,7 @@ fn random_steps_answer_as_the_plain_machine(rt: HostRuntime) {
     }
 }
 
-// Where the ends of the plain machine stand around a key.
+// Where the ends of the plain machine are around a key.
 fn plain_ends(pairs: &[(u64, u64)], key: u64) -> (Place, Place) {
     let mut smaller = Place::Unopened;
     for (place, pair) in pairs.iter().enumerate() {

@@ -35,11 +35,11 @@ further n (At p) = At (n + p)
 further n Done = Done
 
 module _ {K V : Type 0} where
-  -- how many pairs stand in the blocks before one
+  -- how many pairs are in the blocks before one
   abbrev pub pairs_before_block : List (List (K × V)) → ℕ → ℕ
   pairs_before_block blocks n = length (pairs_in (take n blocks))
 
-  -- the forward end of a cursor over a block stands at one of its pairs; so does the backward end
+  -- the forward end of a cursor over a block is at one of its pairs; so is the backward end
   pub record IsFore (blocks : List (List (K × V))) (s : Position K V) : Type 0 where
     pub place : ℕ
     pub here : slice_get blocks s.segment ≡ Some s.cursor.pairs
@@ -52,7 +52,7 @@ module _ {K V : Type 0} where
     pub within : place < length s.cursor.pairs
     pub is : s.cursor ≡ whole s.cursor.pairs s.cursor.forward (At place)
 
-  -- an end of a walk that stands somewhere stands at a pair
+  -- an end of a walk that is at a position is at a pair
   abbrev pub StandsFore : List (List (K × V)) → CursorEnd K V → Type 0
   StandsFore blocks cursor_ends.Unopened = Unit {0}
   StandsFore blocks (cursor_ends.At s) = IsFore blocks s
@@ -74,7 +74,7 @@ module _ {K V : Type 0} where
   IsRearAlone (cursor_ends.At s) = s.cursor.forward ≡ Unopened
   IsRearAlone cursor_ends.Done = Unit {0}
 
-  -- where it stands among the pairs of all blocks
+  -- its position among the pairs of all blocks
   abbrev pub fore_place : List (List (K × V)) → CursorEnd K V → End ℕ
   fore_place blocks cursor_ends.Unopened = Unopened
   fore_place blocks (cursor_ends.At s) = further (pairs_before_block blocks s.segment) s.cursor.forward
@@ -85,7 +85,7 @@ module _ {K V : Type 0} where
   rear_place blocks (cursor_ends.At s) = further (pairs_before_block blocks s.segment) s.cursor.backward
   rear_place blocks cursor_ends.Done = Done
 
-  -- its forward end stands behind n pairs, alone; its backward end stands at the last of n pairs, alone
+  -- its forward end is behind n pairs, alone; its backward end is at the last of n pairs, alone
   pub record IsForeAt (blocks : List (List (K × V))) (n : ℕ) (s : Position K V) : Type 0 where
     pub stands : IsFore blocks s
     pub alone : s.cursor.backward ≡ Unopened
@@ -97,7 +97,7 @@ module _ {K V : Type 0} where
     pub some : 0 < n
     pub place : further (pairs_before_block blocks s.segment) s.cursor.backward ≡ At (n - 1)
 
-  -- the pair stands at this place of the blocks
+  -- the pair is at this place of the blocks
   abbrev pub IsPairAt : List (List (K × V)) → ℕ → Bor K × Bor V → Type 0
   IsPairAt blocks n pair = slice_get (pairs_in blocks) n ≡ Some (pair.0.now, pair.1.now)
 
@@ -105,7 +105,7 @@ module _ {K V : Type 0} where
   abbrev pub CountsInto : List (List (K × V)) → ℕ → (List (K × V) → ℕ) → Type 0
   CountsInto blocks place count = (b : List (K × V)) → slice_get blocks place ≡ Some b → count (pairs_in blocks) ≡ pairs_before_block blocks place + count b
 
-  -- a position whose forward end stands behind n pairs, with the pair there; whose backward end stands at the last of n
+  -- a position whose forward end is behind n pairs, with the pair there; whose backward end is at the last of n
   -- pairs, with that one
   abbrev pub FoundFore : List (List (K × V)) → ℕ → Position K V × (Bor K × Bor V) → Type 0
   FoundFore blocks n found = IsForeAt blocks n found.0 × IsPairAt blocks n found.1

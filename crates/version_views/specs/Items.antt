@@ -11,7 +11,7 @@ use Rattle.version_views.specs.declared.item.Item.TheVariants as items
 abbrev pub segment_owners : {K O : Type 0} → Directory K O → List O
 segment_owners d = d.segments.items
 
--- their slots, where it stands in a place of one thread
+-- their slots, in a place of one thread
 abbrev pub slots_of : {K : Type 0} → Directory K Kept → List ℕ
 slots_of d = map kept_slot (segment_owners d)
 

@@ -1,4 +1,4 @@
--- Where a key stands in a version, as it stands in a tree.
+-- Where a key is in a version, in the words of a tree.
 use Rattle.tree_index.specs.declared.proximity.Proximity.{Proximity}
 use Rattle.tree_index.specs.declared.proximity.Proximity.TheVariants as trees
 use Rattle.version_views.specs.declared.nearby.Nearby.{Nearby}

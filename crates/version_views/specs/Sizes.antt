@@ -1,7 +1,7 @@
 -- How large a store may be made.
 use Rattle.std.specs.Prelude.{ℕ, ◌+◌, ◌*◌, ◌/◌, ◌≤◌, ◌<◌, ◌^◌}
 
--- so many places for readers, so many slots, and at most s pairs in a segment
+-- the places for readers, the slots, and the most pairs in a segment, s
 pub record IsStoreSized (readers slots s : ℕ) : Type 0 where
   pub readers_fit : readers < 2 ^ 30
   pub some_slot : 1 ≤ slots

@@ -21,7 +21,7 @@ module _ {K V : Type 0} {s : ℕ} where
   IsSegment (Some (items.Directory d)) = ⊥
   IsSegment (Some (items.Segment t)) = Unit {0}
 
-  -- the segments of a directory, where these items stand in the slots
+  -- the segments of a directory, where these items are in the slots
   abbrev pub blocks_of : (ℕ → Option (Item K V s)) → Directory K Kept → List (List (K × V))
   blocks_of at d = map (λ i. segment_pairs (at i)) (slots_of d)
 

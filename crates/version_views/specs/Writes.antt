@@ -1,4 +1,4 @@
--- Writes of a list of pairs: the list that each leaves, and what it is told.
+-- Writes of a list of pairs: the list that each leaves, and the reply to it.
 use Rattle.std.specs.Prelude.{cond, not, List, [], ◌∷◌}
 use Rattle.std.specs.declared.cmp.Ordering.{Ordering}
 use Rattle.std.specs.declared.ops.Bound.{Bound}
@@ -24,7 +24,7 @@ module _ {K V : Type 0} (cmp : K → K → Ordering) where
   after_write (writes.RemoveRange lower upper) pairs = pairs_outside lower upper pairs
   after_write writes.Clear pairs = []
 
-  -- what a write is told
+  -- the reply to a write
   abbrev pub reply_to : Write K V → List (K × V) → Reply
   reply_to (writes.Insert key value) pairs = cond (has_key cmp key pairs) replies.Duplicate replies.Inserted
   reply_to (writes.Upsert key value) pairs = replies.Upserted
@@ -37,7 +37,7 @@ module _ {K V : Type 0} (cmp : K → K → Ordering) where
   after_writes [] pairs = pairs
   after_writes (w ∷ ws) pairs = after_writes ws (after_write w pairs)
 
-  -- what they are told
+  -- the replies to writes
   abbrev pub replies_to : List (Write K V) → List (K × V) → List Reply
   replies_to [] pairs = []
   replies_to (w ∷ ws) pairs = reply_to w pairs ∷ replies_to ws (after_write w pairs)

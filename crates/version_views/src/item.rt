@@ -9,7 +9,7 @@ use sdd_table::holds::{Held, Holds};
 use sdd_table::owner::Kept;
 use tree_index::TreeIndex;
 
-/// What stands in a slot: a version, or a segment of versions.
+/// What is in a slot: a version, or a segment of versions.
 pub enum Item<K: Ord, V, const S: usize> {
     Directory(Directory<K, Kept>),
     Segment(Segment<K, V>),

@@ -13,5 +13,5 @@ pub type LocalView<'a, K, V, const S: usize> = VersionView<'a, K, V, Table<Item<
 /// A cursor over the list of a version in a place of one thread.
 pub type LocalWalk<'a, K, V, const S: usize> = Walk<'a, K, V, Table<Item<K, V, S>, NoJob>>;
 
-/// Where a key stands in a version in a place of one thread, with a cursor there.
+/// Where a key is in a version in a place of one thread, with a cursor there.
 pub type LocalNearby<'a, K, V, const S: usize> = Nearby<'a, K, V, Table<Item<K, V, S>, NoJob>>;

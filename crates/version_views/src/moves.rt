@@ -46,7 +46,7 @@ impl<'a, K: Ord, V, W: Trees<K, V>> VersionView<'a, K, V, W> {
     }
 
     /// Moves a forward end to the first pair of the segment behind one, and gives that pair.
-    // A function of its own, so that its rooms aren't cleared by steps within a segment. What is out of line gets a copy of
+    // A function of its own, so that steps within a segment don't clear its stack slots. What is out of line gets a copy of
     // the version: a walk of which nobody else has the address can stay in registers.
     #[inline(always)]
     fn onward(&self, end: &mut CursorEnd<'a, K, V>, segment: usize) -> Option<(&'a K, &'a V)>

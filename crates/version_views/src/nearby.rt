@@ -1,4 +1,4 @@
-//! Where a key stands in a version.
+//! Where a key is in a version.
 
 ghost use Rattle.std.specs.Prelude.{◌≡◌, ◌+◌};
 ghost use Rattle.tree_index.specs.Cursor.{whole};
@@ -17,20 +17,20 @@ use tree_index::Proximity;
 /// What [`locate`](VersionView::locate) finds around a key, with a walk there.
 #[derive(Drop)]
 pub enum Nearby<'a, K: Ord, V, W: Trees<K, V>> {
-    /// A pair has the key: the forward end stands at it.
+    /// A pair has the key: the forward end is at it.
     Exact(Walk<'a, K, V, W>),
-    /// None has it: the forward end stands at the nearest smaller pair, the backward end at the nearest larger one.
+    /// None has it: the forward end is at the nearest smaller pair, the backward end at the nearest larger one.
     Between(Walk<'a, K, V, W>),
-    /// All pairs are smaller: the backward end stands at the last one.
+    /// All pairs are smaller: the backward end is at the last one.
     Smaller(Walk<'a, K, V, W>),
-    /// All pairs are larger: the forward end stands at the first one.
+    /// All pairs are larger: the forward end is at the first one.
     Larger(Walk<'a, K, V, W>),
     /// There are no pairs.
     Empty,
 }
 
 impl<'a, K: Ord, V, W: Trees<K, V>> VersionView<'a, K, V, W> {
-    /// Where a key stands among the pairs: at its pair, or between its neighbours, with a walk there. It is one search of
+    /// Where a key is among the pairs: at its pair, or between its neighbours, with a walk there. It takes one search of
     /// the directory and one of a tree.
     pub fn locate(&self, key: &K) -> Nearby<'a, K, V, W>
         ensures { IsLocated K.cmp key.now (pairs_in self.now) (as_proximity result) }
@@ -59,7 +59,7 @@ impl<'a, K: Ord, V, W: Trees<K, V>> VersionView<'a, K, V, W> {
         }
     }
 
-    /// Where a key stands that is less than the first pair of a segment, and greater than those before it.
+    /// Where a key is that is less than the first pair of a segment, and greater than those before it.
     fn before_first(&self, first: Position<'a, K, V>) -> Nearby<'a, K, V, W>
         requires rising { AreRising K.cmp self.now }
         requires first { IsForeAt self.now (pairs_before_block self.now first.segment) first }
@@ -74,7 +74,7 @@ impl<'a, K: Ord, V, W: Trees<K, V>> VersionView<'a, K, V, W> {
         }
     }
 
-    /// Where a key stands that is greater than the last pair of a segment, and less than those behind it.
+    /// Where a key is that is greater than the last pair of a segment, and less than those behind it.
     fn behind_last(&self, last: Position<'a, K, V>) -> Nearby<'a, K, V, W>
         requires rising { AreRising K.cmp self.now }
         requires last { IsRearAt self.now (pairs_before_block self.now (last.segment + 1)) last }
@@ -89,7 +89,7 @@ impl<'a, K: Ord, V, W: Trees<K, V>> VersionView<'a, K, V, W> {
         }
     }
 
-    /// A walk without bounds whose ends stand there.
+    /// A walk without bounds whose ends are there.
     fn walk_at(
         &self,
         forward: CursorEnd<'a, K, V>,

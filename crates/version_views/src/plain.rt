@@ -12,7 +12,7 @@ use leaf_array::plain;
 use std::alloc::{AllocError, Global};
 use std::ops::Bound;
 
-/// The list after the writes, and what they are told.
+/// The list after the writes, and the replies to them.
 pub fn applied<K: Clone + Ord, V: Clone>(
     alloc: Global,
     pairs: &[(K, V)],

@@ -13,7 +13,7 @@ pub(crate) struct Position<'a, K: Ord, V> {
     pub(crate) cursor: Iter<'a, K, V>,
 }
 
-/// Where an end of a walk stands: nowhere yet, at a pair, or past all of them for good.
+/// The position of an end of a walk: not yet set, at a pair, or past all of them for good.
 ///
 /// The forward end of a walk is the forward end of its cursor, and the backward end the backward one.
 #[derive(Drop)]

@@ -10,14 +10,15 @@ use std::alloc::{AllocError, Global};
 use std::marker::Model;
 use tree_index::{Iter, TreeIndex};
 
-/// A tree of at most 225 pairs that came by rising keys: at most one node stands above its leaves, so a look-up
+/// A tree of at most 225 pairs that were inserted in ascending order: at most one node is above its leaves, so a look-up
 /// makes at most thirty comparisons.
 #[derive(Drop)]
 pub struct Segment<K: Ord, V> {
     tree: TreeIndex<K, V>,
 }
 
-/// Invariant: specs/Segments.antt, IsRisen: the tree has places left for as many pairs as 240 exceed those that it has.
+/// Invariant: specs/Segments.antt, IsRisen: the tree can take `240 - len` more ascending pairs before its depth
+/// exceeds 1.
 impl<K: Ord, V> Model for Segment<K, V> {
     ghost use Rattle.tree_index.specs.Tree.{Tree, tree_code};
     ghost use Rattle.version_views.specs.Segments.{IsRisen};
@@ -41,7 +42,7 @@ impl<K: Ord, V> Segment<K, V> {
         }
     }
 
-    /// A segment without pairs, with room for so many. Where memory is refused there is none.
+    /// A segment without pairs, with room for `pairs` of them. Fails only if an allocation fails.
     pub fn with_capacity(alloc: Global, pairs: usize) -> Result<Self, AllocError>
     where
         K: Drop,
@@ -53,7 +54,7 @@ impl<K: Ord, V> Segment<K, V> {
         })
     }
 
-    /// A segment with clones of a tree's pairs, by one pass over them. Where memory is refused there is none.
+    /// A segment with clones of a tree's pairs, by one pass over them. Fails only if an allocation fails.
     pub fn copied(alloc: Global, tree: &TreeIndex<K, V>) -> Result<Self, AllocError>
     where
         K: Clone + Drop,
@@ -68,8 +69,8 @@ impl<K: Ord, V> Segment<K, V> {
         })
     }
 
-    /// Puts a pair behind all others, whose keys are lesser. Where memory is refused the pair comes back, and the
-    /// segment stays as it was. Condition: there are fewer than 225 pairs.
+    /// Appends a pair whose key is greater than all others. If an allocation fails, the pair is returned, and the
+    /// segment is as it was. Condition: there are fewer than 225 pairs.
     #[inline]
     pub fn push(&mut self, key: K, value: V) -> Result<(), (K, V)>
     where
@@ -85,8 +86,8 @@ impl<K: Ord, V> Segment<K, V> {
         self.tree.push_last(key, value)
     }
 
-    /// Puts clones of so many pairs of a tree behind all others, whose keys are lesser: that of a cursor's forward end and
-    /// those behind it, which the cursor passes. Where memory is refused, the segment has no pair left, and the cursor stays.
+    /// Appends clones of `count` pairs of a tree, whose keys are greater than all here: the pair at a cursor's forward end
+    /// and those after it, which the cursor passes. If an allocation fails, the segment has no pair left, and the cursor stays.
     /// Condition: there is room for them below 226 pairs.
     pub fn push_run(&mut self, source: &mut Iter<'_, K, V>, count: usize) -> Result<(), AllocError>
     where

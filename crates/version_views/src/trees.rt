@@ -26,7 +26,7 @@ pub trait Trees<K: Ord, V> {
         ensures flat { result.now.depth ≤ 1 };
 }
 
-/// The table of a place of one thread lends what stands in the slot of an owner.
+/// The table of a place of one thread lends what is in the slot of an owner.
 impl<K: Ord, V, const S: usize> Trees<K, V> for Table<Item<K, V, S>, NoJob> {
     ghost use Rattle.sdd_table.specs.State.{value_at};
     ghost use Rattle.sdd_table.specs.Tokens.{kept_slot};

@@ -175,8 +175,8 @@ pub fn place_of<K: Ord>(separators: &[K], key: &K) -> usize
 
 /// The same, by comparisons that are counted, each of which halves what is left.
 ///
-/// What a comparison tells is added up and not branched on: it goes either way as often, so that a processor would guess
-/// wrong at every other step.
+/// The result of a comparison is added up and not branched on: either result is as likely, so a processor would
+/// mispredict every other branch.
 fn place_of_counted<K: Ord>(separators: &[K], key: &K, steps: &mut Steps) -> usize
     ensures place { IsPlaceOf K.cmp key.now separators.now result }
     ensures cost { 2 ^ (steps.new.count - steps.old.count) ≤ 2 * length separators.now + 1 }
@@ -193,7 +193,7 @@ fn place_of_counted<K: Ord>(separators: &[K], key: &K, steps: &mut Steps) -> usi
     low
 }
 
-/// How many separators are passed: so many and the one behind them, or none.
+/// How many separators are passed: `half` and the one behind them, or none.
 #[inline]
 fn count_past(half: usize, is_past: bool) -> usize
     requires { half < 2 ^ 63 }

@@ -11,12 +11,12 @@ use std::marker::Model;
 use std::mem;
 use std::ops::Bound;
 
-/// Goes through the pairs of a version within two bounds: by rising keys from its forward end, by falling keys from its
-/// backward end.
+/// A cursor over the pairs of a version within two bounds: in ascending order from its forward end, in descending order
+/// from its backward end.
 ///
-/// An end is unopened, stands at a pair, or is done. The forward end starts at the first pair within the lower bound and
+/// An end is unopened, at a pair, or done. The forward end starts at the first pair within the lower bound and
 /// gives pairs as long as they lie within the upper one; the backward end is its mirror. The ends don't pass one another,
-/// and an end that went past the last pair gives none for good. Reversed bounds contain no pair. A step takes no memory;
+/// and an end that moved past the last pair gives none for good. Reversed bounds contain no pair. A step takes no memory;
 /// the first one of an end searches the directory and a segment.
 #[derive(Drop)]
 pub struct Walk<'a, K: Ord, V, W: Trees<K, V>> {
@@ -27,7 +27,7 @@ pub struct Walk<'a, K: Ord, V, W: Trees<K, V>> {
     pub(crate) backward: CursorEnd<'a, K, V>,
 }
 
-/// Invariant: specs/CursorEnds.antt, IsWalking: each open end stands at a pair of the version, alone in its segment's
+/// Invariant: specs/CursorEnds.antt, IsWalking: each open end is at a pair of the version, alone in its segment's
 /// cursor where the other end isn't open.
 impl<'a, K: Ord, V, W: Trees<K, V>> Model for Walk<'a, K, V, W> {
     ghost use Rattle.std.specs.Range.Bound.{bound_map};
@@ -45,7 +45,7 @@ impl<'a, K: Ord, V, W: Trees<K, V>> Model for Walk<'a, K, V, W> {
 }
 
 impl<'a, K: Ord, V, W: Trees<K, V>> Walk<'a, K, V, W> {
-    /// The pair of the forward end, if it stands at one within the upper bound.
+    /// The pair at the forward end, if it is at one within the upper bound.
     pub fn get(&self) -> Option<(&'a K, &'a V)>
         ensures { deref_pair result ≡ shown_forth K.cmp self.now }
     {
@@ -58,7 +58,7 @@ impl<'a, K: Ord, V, W: Trees<K, V>> Walk<'a, K, V, W> {
         }
     }
 
-    /// The pair of the backward end, if it stands at one within the lower bound.
+    /// The pair at the backward end, if it is at one within the lower bound.
     pub fn get_back(&self) -> Option<(&'a K, &'a V)>
         ensures { deref_pair result ≡ shown_back K.cmp self.now }
     {

@@ -1,4 +1,4 @@
-//! Changes of a list of pairs, and what they are told.
+//! Changes of a list of pairs, and the replies to them.
 
 use std::ops::Bound;
 use thiserror::Error;
@@ -18,7 +18,7 @@ pub enum Write<K, V> {
     Clear,
 }
 
-/// What a [`Write`] is told.
+/// The reply to a [`Write`].
 #[derive(Clone, Copy, Debug, PartialEq, Eq)]
 pub enum Reply {
     /// The pair was added.

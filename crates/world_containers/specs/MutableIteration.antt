@@ -37,7 +37,7 @@ module _ {T W : Type 0} where
   abbrev pub walk_name : IterMut T W → GName
   walk_name i = i.place.ghost_name
 
-  -- the cells of the bag along which it goes
+  -- the cells of the bag that it walks along
   abbrev pub walk_bag : IterMut T W → List ℕ
   walk_bag i = map shared_cell i.cells.now.items
 

@@ -19,7 +19,7 @@ pub struct IntoIter<T, const ARRAY_LEN: usize> {
     pub(crate) bag: Bag<T, ARRAY_LEN>,
 }
 
-/// An entry along a walk that lends values: the cell that keeps it, and where the walk stands behind it.
+/// An entry along a walk that lends values: the cell that keeps it, and the position of the walk behind it.
 #[derive(Drop)]
 pub struct Stop<T> {
     pub(crate) here: Link<LinkedEntry<T>>,

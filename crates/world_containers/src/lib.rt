@@ -1,6 +1,6 @@
 //! Linked lists, queues, stacks and bags of items of a place, each value in an entry of its own.
 //!
-//! The calls over a place of one thread stand in [`world`]: `Type::call` of a container is `world::type::call`, with the
+//! The calls over a place of one thread are in [`world`]: `Type::call` of a container is `world::type::call`, with the
 //! world first. Clauses see a list as its [`Entry`](linked_entry::LinkedEntry)s in order, each with its slot, the cell
 //! of its link and its tag; the list that a user sees is what isn't deleted of these. A clause is stated for every list
 //! that hangs there, so that it says the same of any list of entries before a call.

@@ -12,8 +12,9 @@ use crate::slots::Slots;
 pub(crate) trait Extend<K: Clone + Drop, V: Clone + Drop> {
     ghost places: { Self → List (Place K V) };
 
-    /// Puts clones of so many pairs of other places, from one on, into the empty places from `skip` on, which get the slots
-    /// of their bitmap places, counted from `bitmap`, and no gaps. It says how many: fewer where memory is refused.
+    /// Puts clones of `count` pairs of other places, from the one at `from` on, into the empty places from `skip` on. These
+    /// get the slots of their bitmap places, counted from `bitmap`, and no gaps. Answers how many: fewer if an allocation
+    /// fails.
     fn extend(
         &mut self,
         skip: usize,
@@ -89,7 +90,7 @@ impl<K: Clone + Drop, V: Clone + Drop, R: Extend<K, V>> Extend<K, V> for Link<K,
     }
 }
 
-/// A clone of a live place, with the slot of a bitmap place and no gap. Where memory is refused there is none.
+/// A clone of a live place, with the slot of a bitmap place and no gap. None if an allocation fails.
 #[inline(always)]
 fn cloned<K: Clone + Drop, V: Clone + Drop>(
     source: &Slots<K, V>,

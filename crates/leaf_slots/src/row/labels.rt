@@ -22,7 +22,7 @@ pub(crate) trait Labels<K, V> {
         requires { low + top (places self.now) ≤ 15 }
         ensures { result ≡ last_below rank (labels_above low (places self.now)) };
 
-    /// How many live places at the front stand before the one with this slot, counted from `at`.
+    /// How many live places at the front come before the one with this slot, counted from `at`.
     fn position(&self, slot: u8, at: usize) -> usize
         requires { at + length (places self.now) ≤ 15 }
         ensures { result ≡ at + stands slot (places self.now) };

@@ -7,12 +7,12 @@ ghost use Rattle.leaf_slots.specs.Places.{repacked, IsTailed};
 use crate::place::renumber;
 use crate::row::{Last, Link};
 
-/// A row whose pairs can be let go.
+/// A row whose pairs can be dropped.
 pub(crate) trait Renumber<K: Drop, V: Drop> {
     ghost places: { Self → List (Place K V) };
 
     /// Drops the dead pairs, and gives the live ones the slots of the bitmap places from `from` on, without gaps.
-    /// It goes no further than to the first empty place.
+    /// It stops at the first empty place.
     fn renumber(&mut self, from: u8)
         requires within { from + length (places self.old) ≤ 15 }
         requires tailed { IsTailed (places self.old) }

@@ -38,12 +38,12 @@ pub struct BaseRefused<K, V> {
 }
 
 impl<K: Clone + Ord, V: Clone + Eq, const S: usize> LocalIndex<K, V, S> {
-    /// An index whose base is this list, under this number: no transaction, no session, so many places for sessions, and so
-    /// many slots. Its last number is `2^64 - 1`. So an index goes on, in another process too, where [`base`](Self::base) was
-    /// read of an older one.
+    /// An index whose base is this list, under this number, without transactions or sessions. It has `places` places for
+    /// sessions and `slots` slots, and its last number is `2^64 - 1`. So an index continues, in another process too, from
+    /// what [`base`](Self::base) of an older one returned.
     ///
-    /// The causes are decided in this order, and the pairs come back with each: `NotAscending`, before any memory is asked
-    /// for; `Memory`; `NoSlot`, only where there are fewer than `2 * (n / (S + 1)) + 2` slots, for `n` pairs.
+    /// The causes are decided in this order, and each returns the pairs: `NotAscending`, before any memory is requested;
+    /// `Memory`; `NoSlot`, only where there are fewer than `2 * (n / (S + 1)) + 2` slots, for `n` pairs.
     pub fn from_base(
         alloc: Global,
         number: u64,

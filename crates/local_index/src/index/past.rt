@@ -1,4 +1,4 @@
-//! What came before the present list: it is cut off by checkpoints, lent as a feed, and gone back to.
+//! What came before the present list: it is cut off by checkpoints, lent as a feed, and rebuilt.
 
 ghost use Rattle.std.specs.Prelude.{◌≡◌, ◌≤◌, ◌+◌, ◌*◌, ◌<◌, IfErr, IfOk, OnErr, OnOk, length};
 ghost use Rattle.leaf_array.specs.Pairs.{IsAscending};
@@ -21,7 +21,7 @@ pub enum PastRefused {
     #[error(transparent)]
     Outside(#[from] SinceRefused),
     /// A growth or a clone was refused.
-    #[error("memory was refused")]
+    #[error("memory was refused; the index is as it was")]
     Memory,
 }
 
@@ -67,7 +67,7 @@ impl<K: Clone + Ord, V: Clone + Eq, const S: usize> LocalIndex<K, V, S> {
 
     /// A [`commit`](Self::commit), behind which the history is cut by [`keep_last`](Self::keep_last): a policy of
     /// checkpoints, by which an index takes memory for its list and some `2 * count + 1` transactions, however long it is
-    /// in use. Where memory is refused for the cut, the commit stands, and the next one tries again.
+    /// in use. If an allocation fails for the cut, the commit is still accepted, and the next one tries again.
     pub fn commit_keeping(
         &mut self,
         receipt: &Receipt<K, V>,
@@ -100,7 +100,7 @@ impl<K: Clone + Ord, V: Clone + Eq, const S: usize> LocalIndex<K, V, S> {
     /// The transactions behind a number, in order: those that lead from its list to the present one, with their writes and
     /// replies. What they read, contracts alone see. It takes no memory.
     ///
-    /// It is refused as `TooOld` where the number is below the base's, since some of them are gone, and as `Ahead` where it is
+    /// It is refused as `TooOld` where the number is below the base's, since some of them were dropped, and as `Ahead` where it is
     /// above the present one. Whoever keeps a copy of the list asks for what came since, by the number of its copy.
     pub fn since(&self, number: u64) -> Result<&[Transaction<K, V>], SinceRefused>
         ensures told { IfOk result (λ rest. rest.now ≡ history_behind self.now.base self.now.history number) }

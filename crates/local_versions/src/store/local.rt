@@ -29,14 +29,17 @@ use sdd_world::world::{World, atomic_shared, guard};
 use std::alloc::{AllocError, Global};
 use std::marker::Model;
 use std::mem;
+use thiserror::Error;
 use version_views::{Directory, Item, LocalView, Reply, Write, WriteRefused};
 
 /// Why no store was made of a version.
-#[derive(Clone, Copy, Debug, PartialEq, Eq)]
+#[derive(Clone, Copy, Debug, PartialEq, Eq, Error)]
 pub enum StoreRefused {
     /// The memory of the store was refused.
+    #[error("memory was refused; there is no store")]
     Memory,
     /// The version takes more slots than the store was to have.
+    #[error("the version takes more slots; there is no store")]
     NoSlot,
 }
 
@@ -70,7 +73,7 @@ impl<K: Ord, V, const S: usize> Model for LocalStore<K, V, S> {
 }
 
 impl<K: Clone + Ord, V: Clone, const S: usize> LocalStore<K, V, S> {
-    /// The empty list, with number 0, and so many places for readers. Fails only if an allocation fails.
+    /// The empty list, with number 0, and `readers` places for readers. Fails only if an allocation fails.
     pub fn new(alloc: Global, readers: usize, slots: usize) -> Result<Self, AllocError>
         requires { IsStoreSized readers slots S }
         ensures { IfOk result (λ s. s ≡ record { present = no_version; readers = replicate readers None; slots = slots; used = 1; raises = 0 }) }
@@ -78,8 +81,8 @@ impl<K: Clone + Ord, V: Clone, const S: usize> LocalStore<K, V, S> {
         LocalStore::begun(alloc, readers, slots, Built::empty(alloc))
     }
 
-    /// A store of a version that takes nothing over, and so many places for readers. It is refused as `NoSlot` where the
-    /// version takes more slots, before any memory is asked for, and as `Memory` where memory is refused.
+    /// A store of a version that takes nothing over, and `readers` places for readers. It is refused as `NoSlot` if the
+    /// version takes more slots, before any memory is requested, and as `Memory` if an allocation fails.
     pub fn holding(
         alloc: Global,
         readers: usize,
@@ -100,7 +103,7 @@ impl<K: Clone + Ord, V: Clone, const S: usize> LocalStore<K, V, S> {
         }
     }
 
-    // A store of a version that takes nothing over, where there are so many slots as it takes.
+    // A store of a version that takes nothing over, where there are as many slots as it takes.
     fn begun(
         alloc: Global,
         readers: usize,
@@ -152,7 +155,7 @@ impl<K: Clone + Ord, V: Clone, const S: usize> LocalStore<K, V, S> {
         are_free(&self.readers)
     }
 
-    /// A reader gets the present version, at a place that had none; refused where each has one. It takes no memory.
+    /// A reader gets the present version, at a place that had none; none is opened if each has one. It takes no memory.
     pub fn open(&mut self) -> Option<usize>
         ensures free { IfSome result (λ place. slice_get self.old.readers place ≡ Some None) }
         ensures opened { IfSome result (λ place. self.new ≡ record self.old { readers = slice_set self.old.readers place (Some self.old.present) }) }
@@ -174,7 +177,7 @@ impl<K: Clone + Ord, V: Clone, const S: usize> LocalStore<K, V, S> {
         Some(place)
     }
 
-    /// The reader of a place goes.
+    /// Closes the reader at a place.
     pub fn close(&mut self, place: usize)
         requires { (v : Version K V) × (slice_get self.old.readers place ≡ Some (Some v)) }
         ensures { self.new ≡ record self.old { readers = slice_set self.old.readers place None } }
@@ -219,10 +222,10 @@ impl<K: Clone + Ord, V: Clone, const S: usize> LocalStore<K, V, S> {
     }
 
     /// Makes the writes on the present version, in order: the version that they leave is the present one afterwards, under
-    /// the next number, and what each write was told is answered. It is built beside the place first, then placed whole,
+    /// the next number, and the reply to each write is returned. It is built beside the place first, then placed whole,
     /// and then named by the root; where one of these is refused, nothing has changed.
     ///
-    /// `NoSlot` is answered only where fewer slots are free than a version of so many pairs may take, and, for `w` writes,
+    /// `NoSlot` is answered only if fewer slots are free than a version of that many pairs may take, and, for `w` writes,
     /// fewer than `2 * w + 1`: segments that no write touches are taken over.
     pub fn write(
         &mut self,
@@ -327,7 +330,7 @@ impl<K: Clone + Ord, V: Clone, const S: usize> LocalStore<K, V, S> {
         self.readers[place].is_some()
     }
 
-    // The reader of a place goes, if it has one.
+    // Ends the reader at a place, if there is one.
     fn free_place(&mut self, place: usize)
         requires { place < length self.old.readers }
         ensures { self.new ≡ record self.old { readers = slice_set self.old.readers place None } }

@@ -75,7 +75,7 @@ pub(crate) fn are_free<K: Ord, V, const S: usize>(readers: &[Option<Opened<K, V,
     true
 }
 
-/// So many places without readers, where room was made.
+/// Places without readers, as many as room was made for.
 pub(crate) fn free_all<K: Ord, V, const S: usize>(
     readers: &mut Vec<Option<Opened<K, V, S>>>,
     free: &mut Vec<usize>,

@@ -11,10 +11,10 @@ use sdd_world::world::{World, guard};
 use version_views::Item;
 
 /// How many accelerated guards of the writer reclaim a version that nobody has, and its segments: four for each level.
-/// That so many suffice is the law [`passes_leave_one`](crate::passes_leave_one).
+/// That eight suffice is the law [`passes_leave_one`](crate::passes_leave_one).
 pub(crate) const PASSES: usize = 8;
 
-/// Opens and closes so many accelerated guards of the writer of a store.
+/// Opens and closes a number of accelerated guards of the writer of a store.
 pub(crate) fn run_passes<K: Ord + Drop, V: Drop, const S: usize>(
     w: &mut World<Item<K, V, S>, NoJob>,
     writer: usize,

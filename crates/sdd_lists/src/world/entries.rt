@@ -18,7 +18,7 @@ use sdd_world::status::{Cell, Status};
 use sdd_world::tag::Tag;
 use sdd_world::world::{World, atomic_shared, shared};
 
-/// An entry of `value` that is clear and has no next one, if and only if a cell is free; else `value` comes back.
+/// An entry of `value` that is clear and has no next one, if and only if a cell is free; else `value` is returned.
 pub(crate) fn link<T, J: Deferred>(
     w: &mut World<LinkedEntry<T>, J>,
     value: T,

@@ -18,7 +18,7 @@ use sdd_world::status::{Cell, Status};
 use sdd_world::tag::Tag;
 use sdd_world::world::World;
 
-/// An entry of `value` that is clear and has no next one, if and only if a cell is free; else `value` comes back.
+/// An entry of `value` that is clear and has no next one, if and only if a cell is free; else `value` is returned.
 pub fn new<T, J: Deferred>(w: &mut World<LinkedEntry<T>, J>, value: T) -> Result<LinkedEntry<T>, T>
     ensures made { IfOk result (λ e. MakesEntry w.old w.new e value) }
     ensures refused { IfErr result (λ v. (v ≡ value) × (w.new ≡ w.old) × NoCellFree w.old) }
@@ -52,7 +52,7 @@ pub fn clone<T: Clone, J: Deferred>(
 }
 
 /// Makes an item of a clear entry of `value`, which is in no list and has one owner, if and only if a slot and a cell
-/// are free; else `value` comes back and nothing changes.
+/// are free; else `value` is returned and nothing changes.
 pub fn place<T, J: Deferred>(
     w: &mut World<LinkedEntry<T>, J>,
     value: T,

@@ -157,7 +157,7 @@ fn mark_of(mark: bool) -> Tag
 }
 
 /// Puts `entry` behind the entry that `at` names, which is marked by that if `mark` is true and clear otherwise, and gives
-/// a pointer to it with the same tag. Where the entry that `at` names is deleted, `entry` comes back and nothing has
+/// a pointer to it with the same tag. If the entry that `at` names is deleted, `entry` is returned and nothing has
 /// changed. Conditions: `entry` is clear, has no next one, is in no list and isn't the one that `at` names.
 pub fn push_back<L: LinkedList, J: Deferred>(
     w: &mut World<L, J>,

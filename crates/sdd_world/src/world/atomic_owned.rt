@@ -20,7 +20,7 @@ use sdd_table::{reclaim, tokens};
 use std::marker::PhantomData;
 
 /// Makes an item of `value` and a cell that keeps it, without a tag, if and only if a slot and a cell are free; else
-/// `value` comes back.
+/// returns `value`.
 pub fn new<T, J: Deferred>(w: &mut World<T, J>, value: T) -> Result<AtomicOwned<T>, T>
     ensures free { IfOk result (λ c. IsFreeCell w.old (owned_cell c)) }
     ensures made { IfOk result (λ c. (i : ℕ) × IsFree w.old i × (w.new ≡ with_cell (owned_cell c) (Cell.OfOwned (Some i) Tag.None) (placed i value Status.Owned w.old))) }
@@ -40,7 +40,7 @@ pub fn new<T, J: Deferred>(w: &mut World<T, J>, value: T) -> Result<AtomicOwned<
     }
 }
 
-/// A cell that keeps owned, without a tag, if and only if a cell is free; else owned comes back.
+/// A cell that keeps `owned`, without a tag, if and only if a cell is free; else `owned` is returned.
 #[tactic(auto, using(crate::proofs::FrameLemmas::owned_cell_used))]
 pub fn from<T, J: Deferred>(
     w: &mut World<T, J>,
@@ -179,7 +179,7 @@ pub fn update_tag_if<T, J: Deferred, P: Found<T>, F: FnOnce(P) -> bool>(
 }
 
 /// Puts another item and tag into the cell if item and tag are both those of `current`, and gives the old owner and
-/// the new pointer; else the new owner comes back, with the pointer found.
+/// the new pointer; else returns the new owner, with the pointer found.
 pub fn compare_exchange<T, J: Deferred>(
     w: &mut World<T, J>,
     cell: &AtomicOwned<T>,

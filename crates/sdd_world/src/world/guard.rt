@@ -78,8 +78,8 @@ pub fn set_has_garbage<T, J: Deferred>(w: &mut World<T, J>, guard: &WorldGuard)
     w.table.set_local(guard.participant, local);
 }
 
-/// Keeps `job` until it is reclaimed as an item is that participant retires now, and then runs it once; where every
-/// job place has one that waits, it comes back.
+/// Keeps `job` until it is reclaimed as an item is that participant retires now, and then runs it once; if every
+/// job place has one that waits, `job` is returned.
 pub fn defer_execute<T, J: Deferred>(
     w: &mut World<T, J>,
     guard: &WorldGuard,

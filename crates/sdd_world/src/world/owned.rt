@@ -22,7 +22,7 @@ use crate::world::World;
 use sdd_table::{reclaim, tokens};
 use std::marker::PhantomData;
 
-/// Makes an item of `value`, if and only if a slot is free; else `value` comes back.
+/// Makes an item of `value`, if and only if a slot is free; else returns `value`.
 pub fn new<T, J: Deferred>(w: &mut World<T, J>, value: T) -> Result<Owned<T>, T>
     ensures placed { IfOk result (λ o. IsFree w.old (owned_slot o) × (w.new ≡ placed (owned_slot o) value Status.Owned w.old)) }
     ensures refused { IfErr result (λ v. (v ≡ value) × (w.new ≡ w.old) × NoneFree w.old) }
@@ -65,12 +65,6 @@ pub fn as_ref<'w, T, J: Deferred>(w: &'w World<T, J>, owned: &Owned<T>) -> &'w T
 /// unsafe, and asks of its caller that nobody reads.
 ///
 /// `W` is `World<T>`: the place is named by what it does, since a clause on a borrow can't name the type of a `World`.
-///
-/// ```
-/// if let Ok(value) = world::owned::get_mut(&mut w, &owned) {
-///     *value = 7;
-/// }
-/// ```
 pub fn get_mut<'w, T, W: ExclusiveAccess<T>>(
     w: &'w mut W,
     owned: &Owned<T>,
@@ -151,8 +145,9 @@ pub fn from_raw<T, J: Deferred>(w: &mut World<T, J>, ptr: RawPtr<T>) -> Option<O
     }
 }
 
-/// Ends the item now, without waiting for anybody, and with it what it alone held; what others own of that stays, and
-/// what waits waits on. It is handed back while a guard of any participant is open, and then nothing has changed. Rust's
+/// Drops the item now, without waiting for anybody, and with it what it alone held. What others own of that stays, and
+/// garbage that already waits is left alone. The owner is returned while a guard of any participant is open, and then
+/// nothing has changed. Rust's
 /// `Owned::drop_in_place` is unsafe, and retires what the item held.
 pub fn drop_in_place<T: Holds, J: Deferred>(
     w: &mut World<T, J>,

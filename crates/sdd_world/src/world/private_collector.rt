@@ -41,7 +41,7 @@ pub fn new<T, J: Deferred>(
 
 /// Reclaims what waits in the collector since three raises, by the participant of `guard`, and then retires an item into
 /// it. Where the collector has no room left, which it has for all items of its place, the item is retired to that
-/// participant. Owners are counted, so what is reclaimed gives up no owner of that item.
+/// participant. Owners are counted, so what is reclaimed releases no owner of that item.
 pub fn collect_owned<T: Holds, J: Deferred>(
     w: &mut World<T, J>,
     collector: &mut PrivateCollector<T>,
@@ -90,7 +90,7 @@ pub fn collect_shared<T: Holds, J: Deferred>(
     reclaim::leave_shared(&mut w.table, p, &mut collector.waiting, slot)
 }
 
-/// Ends the collector: what waits in it goes to the current bag of participant `p`.
+/// Ends the collector: what waits in it is moved to the current bag of participant `p`.
 pub fn hand_over<T, J: Deferred>(w: &mut World<T, J>, collector: PrivateCollector<T>, p: usize)
     requires { p < length w.old.participants }
     ensures handed { w.new ≡ handed_over p (waiting_in collector) w.old }

@@ -23,7 +23,7 @@ use crate::world::{World, ptr};
 use sdd_table::{reclaim, tokens};
 use std::marker::PhantomData;
 
-/// Makes an item of `value` with one owner, if and only if a slot is free; else `value` comes back.
+/// Makes an item of `value` with one owner, if and only if a slot is free; else returns `value`.
 pub fn new<T, J: Deferred>(w: &mut World<T, J>, value: T) -> Result<Shared<T>, T>
     ensures placed { IfOk result (λ s. IsFree w.old (shared_slot s) × (w.new ≡ placed (shared_slot s) value (Status.Shared 1) w.old)) }
     ensures refused { IfErr result (λ v. (v ≡ value) × (w.new ≡ w.old) × NoneFree w.old) }
@@ -214,7 +214,7 @@ pub fn get_guarded_ref<'w, T, J: Deferred>(
     w.table.value(tokens::slot_of_shared(shared))
 }
 
-/// One more owner of the item that `at` names, as `ptr::get_shared`; where there is none, `at` comes back.
+/// One more owner of the item that `at` names, as `ptr::get_shared`; if there is none, `at` is returned.
 pub fn try_from<T, J: Deferred>(
     w: &mut World<T, J>,
     at: Ptr<'static, T>,

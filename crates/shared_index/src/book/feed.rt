@@ -13,17 +13,17 @@ use std::alloc::{AllocError, Global};
 use thiserror::Error;
 use version_views::Write;
 
-/// Why an index that threads share doesn't tell the transactions behind a number. The causes are decided in this order.
+/// Why an index that threads share doesn't return the transactions after a number. The causes are decided in this order.
 #[derive(Clone, Copy, Debug, PartialEq, Eq, Error)]
 pub enum FeedRefused {
-    /// The number is below that of the base, which this is: some of them are gone.
-    #[error("the history begins at number {0}")]
+    /// The number is below that of the base, which this is: some of them were dropped.
+    #[error("the history begins at number {0}; the index is as it was")]
     TooOld(u64),
     /// The number is above the present one, which this is.
-    #[error("the present number is {0}")]
+    #[error("the present number is {0}; the index is as it was")]
     Ahead(u64),
     /// A growth or a clone was refused.
-    #[error("memory was refused")]
+    #[error("memory was refused; the index is as it was")]
     Memory,
 }
 
@@ -32,7 +32,7 @@ impl<L: Naming, K: Clone + Ord, V: Clone + Eq, const S: usize> Book<L, K, V, S> 
     /// and replies. What they read, contracts alone see.
     ///
     /// The causes are decided in this order: `TooOld`, with the base's number, where that is above the one asked for, since some
-    /// of them are gone; `Ahead`, with the present number, where that is below it; `Memory`. The first two take none.
+    /// of them were dropped; `Ahead`, with the present number, where that is below it; `Memory`. The first two take none.
     pub fn since(&self, number: u64) -> Result<Vec<Transaction<K, V>>, FeedRefused>
         requires keys { ClonesAreSame K.is_clone }
         requires values { ClonesAreSame V.is_clone }

@@ -59,14 +59,14 @@ pub struct SharedBaseRefused<K, V> {
 
 impl<L: Naming, K: Clone + Ord, V: Clone + Eq, const S: usize> Book<L, K, V, S> {
     /// A book whose base is this list, without transactions; a cell that names its version; and as many shares as the ledger has
-    /// parts, at least one. Its last number is `2^64 - 1`. So an index goes on, in another process too, where
-    /// [`base`](Self::base) was read of an older one.
+    /// parts, at least one. Its last number is `2^64 - 1`. So an index continues, in another process too, from
+    /// what [`base`](Self::base) of an older one returned.
     ///
     /// The first share begins at the number of the list, which it counts for the commits before it, and the others at 0: so
     /// the counts of all shares sum to the number, as those of a book that began empty do.
     ///
-    /// The causes are decided in this order, and the participant, the blank ledger and the pairs come back with each:
-    /// `NotAscending`, before any memory is asked for; `Memory`, before anything is placed; `NoSlot`, where the participant
+    /// The causes are decided in this order, and each returns the participant, the blank ledger and the pairs:
+    /// `NotAscending`, before any memory is requested; `Memory`, before anything is placed; `NoSlot`, where the participant
     /// missed a slot or a cell, once, and what was placed until then waits to be reclaimed.
     pub fn from_base(
         alloc: Global,
@@ -136,7 +136,7 @@ impl<L: Naming, K: Clone + Ord, V: Clone + Eq, const S: usize> Book<L, K, V, S> 
         ensures rising { IfOk result (λ list. IsAscending K.cmp list.pairs.items) }
         ensures last { IfOk result (λ list. list.number ≤ L.last) }
     {
-        // what is asked here tells the proof that the number is at most the last one
+        // what is asked here shows the proof that the number is at most the last one
         let _number = self.number();
         let (number, pairs) = self.history.base();
         let pairs = copied(self.alloc, pairs)?;
@@ -147,9 +147,9 @@ impl<L: Naming, K: Clone + Ord, V: Clone + Eq, const S: usize> Book<L, K, V, S> 
 /// The version of a list in a place, a cell that names it, and room for shares.
 type Begun<L, K, V, const S: usize> = (Present<K, V, S>, AtomicShared<Node<K, V>>, Vec<Share<L>>);
 
-/// Places the version of clones of these pairs, whose keys rise, has a cell of its own name it, and makes room for so many
-/// shares. Refused for want of memory, nothing was placed; else the participant missed a slot or a cell, once, and what was
-/// placed waits to be reclaimed.
+/// Places the version of clones of these pairs, whose keys ascend, has a cell of its own name it, and makes room for
+/// `shares` shares. Where memory is refused, nothing was placed. Else the participant missed a slot or a cell, once, and
+/// what was placed waits to be reclaimed.
 fn begun<L: Naming, K: Clone + Ord, V: Clone, const S: usize>(
     alloc: Global,
     domain: &Domain<Node<K, V>>,

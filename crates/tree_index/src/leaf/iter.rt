@@ -10,20 +10,12 @@ use crate::leaf::{LeafPosition, RevIter, ranked};
 use std::marker::Model;
 use tree_nodes::Leaf;
 
-/// Goes through the pairs of a leaf by rising keys. (`scc`'s `tree_index::leaf::Iter`.)
+/// A cursor over the pairs of a leaf, in ascending order. (`scc`'s `tree_index::leaf::Iter`.)
 ///
-/// It stands at the start, before all pairs, or at a pair; past the last one it gives none and stays
+/// It is at the start, before all pairs, or at a pair. Past the last one it gives none and stays
 /// where it is.
 ///
-/// ```
-/// // of the keys 1 and 2
-/// let mut pairs = Iter::new(&leaf);
-/// pairs.get(); // None
-/// pairs.next(); // Some((&1, ..))
-/// pairs.next(); // Some((&2, ..))
-/// pairs.next(); // None
-/// pairs.get(); // Some((&2, ..))
-/// ```
+/// Of the keys 1 and 2, `next` gives 1, then 2, then none. `get` gives none before the first `next`, and 2 at the end.
 #[derive(Drop)]
 pub struct Iter<'l, K: Ord, V> {
     pub(crate) at: LeafPosition<'l, K, V>,
@@ -49,14 +41,14 @@ impl<'l, K: Ord, V> Iter<'l, K, V> {
         }
     }
 
-    /// The pair at which it stands; none at the start.
+    /// The pair that it is at; none at the start.
     pub fn get(&self) -> Option<(&'l K, &'l V)>
         ensures { deref_pair result ≡ ranked self.now.rank self.now.pairs }
     {
         self.at.pair()
     }
 
-    /// The greatest key of the leaf, wherever it stands; none where the leaf has no pair.
+    /// The greatest key of the leaf, wherever the cursor is; none if the leaf has no pair.
     pub fn max_key(&self) -> Option<&'l K>
         ensures { option_copied result ≡ key_at self.now.pairs (length self.now.pairs - 1) }
     {
@@ -66,14 +58,14 @@ impl<'l, K: Ord, V> Iter<'l, K, V> {
         }
     }
 
-    /// Goes to the first pair of the next leaf of the tree that has one, and gives it. Where there is none
+    /// Moves to the first pair of the next leaf of the tree that has one, and gives it. If there is none,
     /// it stays.
     ///
     /// The tree, which is the one that the leaf is of, is searched for the first pair whose key is greater than
     /// all of the leaf's; where the leaf lost its pairs, greater than the key of the one that it lost last. A
     /// leaf that has none, and keeps none that it lost, leads nowhere.
     ///
-    /// Where it goes, it comes to the first pair of the new leaf above that key: of all its pairs the first, where the old
+    /// If it moves, then to the first pair of the new leaf above that key: the first of all its pairs, if the old
     /// leaf is one of the tree.
     pub fn jump(&mut self, tree: &'l TreeIndex<K, V>) -> Option<(&'l K, &'l V)>
         ensures next { MatchOption (key_behind self.old) (result ≡ None) (λ k. deref_pair result ≡ next_greater K.cmp k tree.now.pairs) }
@@ -91,21 +83,21 @@ impl<'l, K: Ord, V> Iter<'l, K, V> {
         }
     }
 
-    /// Goes back to the start.
+    /// Moves to the start.
     pub fn rewind(&mut self)
         ensures { self.new ≡ record self.old { rank = 0 } }
     {
         self.at.rank = 0;
     }
 
-    /// Turns round: a cursor that stands where it stands and goes by falling keys.
+    /// The cursor in the other direction: at the same pair, in descending order.
     pub fn rev(self) -> RevIter<'l, K, V>
         ensures { result ≡ self.entry }
     {
         RevIter { at: self.at }
     }
 
-    /// Another cursor that stands where it stands.
+    /// Another cursor at the same pair.
     pub fn clone(&self) -> Self
         ensures { result ≡ self.now }
     {

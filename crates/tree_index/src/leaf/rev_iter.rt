@@ -10,17 +10,12 @@ use crate::leaf::{Iter, LeafPosition, ranked};
 use std::marker::Model;
 use tree_nodes::Leaf;
 
-/// Goes through the pairs of a leaf by falling keys. (`scc`'s `tree_index::leaf::RevIter`.)
+/// A cursor over the pairs of a leaf, in descending order. (`scc`'s `tree_index::leaf::RevIter`.)
 ///
-/// It stands at the start, behind all pairs, or at a pair; past the first one it gives none and stays
+/// It is at the start, behind all pairs, or at a pair. Past the first one it gives none and stays
 /// where it is.
 ///
-/// ```
-/// // of the keys 1 and 2
-/// let mut pairs = RevIter::new(&leaf);
-/// pairs.next(); // Some((&2, ..))
-/// pairs.rev().get(); // Some((&2, ..))
-/// ```
+/// Of the keys 1 and 2, the first `next` gives 2. Turned by `rev`, the cursor is still at 2.
 #[derive(Drop)]
 pub struct RevIter<'l, K: Ord, V> {
     pub(crate) at: LeafPosition<'l, K, V>,
@@ -46,14 +41,14 @@ impl<'l, K: Ord, V> RevIter<'l, K, V> {
         }
     }
 
-    /// The pair at which it stands; none at the start.
+    /// The pair that it is at; none at the start.
     pub fn get(&self) -> Option<(&'l K, &'l V)>
         ensures { deref_pair result ≡ ranked self.now.rank self.now.pairs }
     {
         self.at.pair()
     }
 
-    /// The least key of the leaf, wherever it stands; none where the leaf has no pair.
+    /// The least key of the leaf, wherever the cursor is; none if the leaf has no pair.
     pub fn min_key(&self) -> Option<&'l K>
         ensures { option_copied result ≡ key_at self.now.pairs 0 }
     {
@@ -63,14 +58,14 @@ impl<'l, K: Ord, V> RevIter<'l, K, V> {
         }
     }
 
-    /// Goes to the last pair of the next leaf before it in the tree that has one, and gives it. Where there
-    /// is none it stays.
+    /// Moves to the last pair of the nearest leaf before it in the tree that has one, and gives it. If there
+    /// is none, it stays.
     ///
     /// The tree, which is the one that the leaf is of, is searched for the last pair whose key is less than
     /// all of the leaf's; where the leaf lost its pairs, less than the key of the one that it lost last. A
     /// leaf that has none, and keeps none that it lost, leads nowhere.
     ///
-    /// Where it goes, it comes to the last pair of the new leaf below that key: of all its pairs the last, where the old
+    /// If it moves, then to the last pair of the new leaf below that key: the last of all its pairs, if the old
     /// leaf is one of the tree.
     pub fn jump(&mut self, tree: &'l TreeIndex<K, V>) -> Option<(&'l K, &'l V)>
         ensures next { MatchOption (key_before self.old) (result ≡ None) (λ k. deref_pair result ≡ next_lesser K.cmp k tree.now.pairs) }
@@ -88,21 +83,21 @@ impl<'l, K: Ord, V> RevIter<'l, K, V> {
         }
     }
 
-    /// Goes back to the start.
+    /// Moves to the start.
     pub fn rewind(&mut self)
         ensures { self.new ≡ record self.old { rank = 0 } }
     {
         self.at.rank = 0;
     }
 
-    /// Turns round: a cursor that stands where it stands and goes by rising keys.
+    /// The cursor in the other direction: at the same pair, in ascending order.
     pub fn rev(self) -> Iter<'l, K, V>
         ensures { result ≡ self.entry }
     {
         Iter { at: self.at }
     }
 
-    /// Another cursor that stands where it stands.
+    /// Another cursor at the same pair.
     pub fn clone(&self) -> Self
         ensures { result ≡ self.now }
     {

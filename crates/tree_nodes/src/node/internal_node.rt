@@ -18,7 +18,7 @@ pub struct InternalNode<'t, K: Ord, V> {
     pub(crate) standing: Standing<'t, K, V>,
 }
 
-/// Invariant: specs/Standing.antt, IsStanding: the node stands in a sound tree; its children are nodes.
+/// Invariant: specs/Standing.antt, IsStanding: the node is in a sound tree; its children are nodes.
 impl<'t, K: Ord, V> Model for InternalNode<'t, K, V> {
     ghost use Rattle.std.specs.Prelude.{◌<◌};
     ghost use Rattle.tree_nodes.specs.Standing.{standing_pairs, IsStanding, Nested, nested_code};

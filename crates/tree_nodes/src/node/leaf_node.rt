@@ -19,7 +19,7 @@ pub struct LeafNode<'t, K: Ord, V> {
     pub(crate) standing: Standing<'t, K, V>,
 }
 
-/// Invariant: specs/Standing.antt, IsStanding: the node stands in a sound tree; its children are leaves.
+/// Invariant: specs/Standing.antt, IsStanding: the node is in a sound tree; its children are leaves.
 impl<'t, K: Ord, V> Model for LeafNode<'t, K, V> {
     ghost use Rattle.std.specs.Prelude.{List, ◌≡◌};
     ghost use Rattle.std.specs.Coded.{coded×, coded_list};

@@ -1,4 +1,4 @@
-//! A number in the arenas at which a tree stands, which the kinds of nodes share.
+//! The number of a subtree in the arenas, which the kinds of nodes share.
 
 ghost use Rattle.std.specs.Prelude.{◌≡◌, ◌≢◌, ◌+◌, IfSome, Some, None};
 ghost use Rattle.std.specs.BTreeMap.{is_at};

@@ -69,7 +69,7 @@ fn inserted(told: InsertResult<u64, u64>) -> Told {
     }
 }
 
-/// Inserts a new pair by the place and word that a dry run gives, and tells its slot.
+/// Inserts a new pair by the place and word that a dry run gives, and returns its slot.
 fn insert_by_slot(array: &mut Array<u64, u64>, key: u64, val: u64) -> Told {
     if array.used() == 15 {
         return Told::Is(false);
@@ -197,7 +197,7 @@ pub(super) fn make(array: &mut Array<u64, u64>, call: Call) -> Told {
     }
 }
 
-/// Makes the calls of a table, in order, and tells the place of the first that is answered otherwise.
+/// Makes the calls of a table, in order, and returns the place of the first that is answered otherwise.
 pub(super) fn first_other(array: &mut Array<u64, u64>, rows: &[(Call, Told)]) -> Option<usize> {
     for at in 0..rows.len() {
         let (call, wanted) = rows[at];

@@ -168,7 +168,7 @@ pub(super) const BURIED: Table = (
     ],
 );
 
-/// Makes room in a full array, if it has any, and tells whether it takes a pair then.
+/// Makes room in a full array, if it has any, and returns whether it takes a pair then.
 fn takes_one(array: &mut Array<u64, u64>) -> bool {
     if array.is_full() {
         array.pack();
@@ -188,7 +188,7 @@ fn answers(array: &mut Array<u64, u64>, write: Write, there: bool) -> bool {
     }
 }
 
-/// Makes a write in an array and in a plain list. Tells whether the array answers as the list says; one that is full is
+/// Makes a write in an array and in a plain list. Returns whether the array answers as the list says; one that is full is
 /// packed, and takes no pair if it is full then.
 fn act(
     alloc: Global,
@@ -219,7 +219,7 @@ fn is_listed(array: &Array<u64, u64>, list: &[(u64, u64)], key: u64) -> bool {
     same && found && array.len() == list.len()
 }
 
-/// Whether so many random calls are answered alike, and leave the same pairs each.
+/// Whether this many random calls are answered alike, and leave the same pairs each.
 fn go_alike(alloc: Global, calls: u32) -> Result<bool, AllocError> {
     let mut array: Array<u64, u64> = Array::new();
     let mut list: Vec<(u64, u64)> = Vec::new(alloc);

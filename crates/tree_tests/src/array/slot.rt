@@ -34,7 +34,7 @@ pub(super) fn put_at(array: &mut Array<u64, u64>, key: u64, val: u64, place: u8)
     array.insert_unchecked(key, val, place, 0)
 }
 
-/// A dry run says where a pair goes.
+/// A dry run says where a pair would be put.
 pub(super) const DRY_RUNS: Table = (
     &[],
     &[

@@ -33,7 +33,7 @@ fn repeats(array: &mut Texts, text: &'static str) -> Option<bool> {
     }
 }
 
-/// What a removal of a text tells, if this is its value.
+/// The answer to a removal of a text, if this is its value.
 fn remove(array: &mut Texts, text: &'static str, wanted: &'static str) -> RemoveResult {
     array.remove_if(&text, |value| *value == wanted)
 }
@@ -73,7 +73,7 @@ fn falling(array: &Texts) -> u64 {
     slots
 }
 
-/// Whether a full array gives a pair back, and keeps what a removal isn't told to take.
+/// Whether a full array gives a pair back, and keeps what a removal isn't to take.
 fn is_full(array: &mut Texts) -> bool {
     let back = repeats(array, "13") == Some(false);
     let spared = remove(array, "0", "1") == RemoveResult::Fail;

@@ -9,7 +9,7 @@ use crate::numbers::lacks_three;
 use leaf_array::{Array, RemoveResult};
 
 /// Deals the pairs below 20 to `low` at their place, and the others to `high` four places lower. Gives
-/// what the preparation was told, and how many pairs found no place.
+/// what the preparation was called with, and how many pairs found no place.
 fn deal(
     array: &mut Array<u64, u64>,
     low: &mut Array<u64, u64>,
@@ -138,7 +138,7 @@ fn a_refused_preparation_distributes_nothing(rt: HostRuntime) {
 }
 
 // The conditions and functions of this test and the next may be called at numbers up to 5 alone, so each call
-// stands because it calls them where it says, and nowhere else.
+// is proved because it calls them where it says, and nowhere else.
 #[test]
 fn what_may_be_called_at_few_values_serves(rt: HostRuntime) {
     let mut frozen: Array<u64, u64> = Array::new_frozen();

@@ -72,7 +72,7 @@ pub(super) enum Call {
     /// Whether each of these pairs is there, and whether the key of none of them is there.
     Holds(Pairs, u64, u64),
     Lacks(Pairs, u64, u64),
-    /// Runs of many calls, which tell whether all was as it has to be.
+    /// Runs of many calls, which return whether all was as it has to be.
     TakeStirred,
     LoseAThird,
     UpsertStirred,
@@ -90,7 +90,7 @@ pub(super) enum Call {
     Depth,
     /// Whether the tree has more levels than this.
     IsDeeper(usize),
-    /// Whether there are so many leaves at most, none with a number above the first of the two.
+    /// Whether there are this many leaves at most, none with a number above the first of the two.
     HasFewLeaves(usize, usize),
     /// Whether the leaf of a key has fifteen pairs in fifteen places, and has lost none.
     HasFullLeaf(u64),
@@ -232,7 +232,7 @@ pub(super) fn equal(one: &Tree, other: &Tree) -> Told {
     Told::Is(same)
 }
 
-/// Fills two trees with the keys below 100, rising and falling, and tells whether they are equal at the end alone.
+/// Fills two trees with the keys below 100, rising and falling, and returns whether they are equal at the end alone.
 fn fill_both(rising: &mut Tree, falling: &mut Tree) -> bool {
     let mut as_said = true;
     for key in 0..100u64 {
@@ -268,7 +268,7 @@ fn make_of_two(alloc: Global, tree: &mut Tree, other: &mut Tree, call: Call) -> 
     }
 }
 
-/// Makes the calls of a table on two new trees, in order, and tells the place of the first that is answered otherwise.
+/// Makes the calls of a table on two new trees, in order, and returns the place of the first that is answered otherwise.
 pub(super) fn first_other(alloc: Global, rows: &[(Call, Told)]) -> Option<usize> {
     let mut tree = empty(alloc);
     let mut other = empty(alloc);
@@ -281,7 +281,7 @@ pub(super) fn first_other(alloc: Global, rows: &[(Call, Told)]) -> Option<usize>
     None
 }
 
-/// Inserts the pairs of the numbers from one on up to below another, and tells whether each was taken.
+/// Inserts the pairs of the numbers from one on up to below another, and returns whether each was taken.
 fn take(tree: &mut Tree, pairs: Pairs, first: u64, last: u64) -> bool {
     let mut taken = true;
     for number in first..last {
@@ -291,7 +291,7 @@ fn take(tree: &mut Tree, pairs: Pairs, first: u64, last: u64) -> bool {
     taken
 }
 
-/// Inserts these pairs, and tells whether each was taken, is there then, and left as many levels at least as there were.
+/// Inserts these pairs, and returns whether each was taken, is there then, and left as many levels at least as there were.
 pub(super) fn fill(tree: &mut Tree, pairs: Pairs, first: u64, last: u64) -> bool {
     let mut taken = true;
     for number in first..last {
@@ -304,7 +304,7 @@ pub(super) fn fill(tree: &mut Tree, pairs: Pairs, first: u64, last: u64) -> bool
     taken
 }
 
-/// Upserts these pairs, and tells whether each was taken, and is there then.
+/// Upserts these pairs, and returns whether each was taken, and is there then.
 pub(super) fn upsert_all(tree: &mut Tree, pairs: Pairs, first: u64, last: u64) -> bool {
     let mut taken = true;
     for number in first..last {
@@ -315,7 +315,7 @@ pub(super) fn upsert_all(tree: &mut Tree, pairs: Pairs, first: u64, last: u64) -
     taken
 }
 
-/// Removes these pairs, and tells whether each was there.
+/// Removes these pairs, and returns whether each was there.
 pub(super) fn lose(tree: &mut Tree, pairs: Pairs, first: u64, last: u64) -> bool {
     let mut there = true;
     for number in first..last {

@@ -17,7 +17,7 @@ use tree_index::{Iter, Proximity, Range};
 enum Step {
     Next,
     NextBack,
-    /// Told as (0, 0) where it turned.
+    /// Shown as (0, 0) where it turned.
     Flip,
     Get,
     GetBack,
@@ -49,7 +49,7 @@ fn take_within(range: &mut Range<'_, u64, u64>, step: Step) -> Seen {
     }
 }
 
-/// Takes the steps of a table, in order, and tells the place of the first that tells something else.
+/// Takes the steps of a table, in order, and returns the place of the first that gives something else.
 fn first_other_step(iter: &mut Iter<'_, u64, u64>, rows: &[(Step, Seen)]) -> Option<usize> {
     for at in 0..rows.len() {
         let (one, wanted) = rows[at];
@@ -97,7 +97,7 @@ const THREE: &[(u64, u64)] = &[(1, 2), (2, 2), (3, 2)];
 
 const FOUR: &[(u64, u64)] = &[(1, 2), (2, 2), (3, 2), (4, 2)];
 
-/// The place of the first step along a cursor over these pairs that tells something else.
+/// The place of the first step along a cursor over these pairs that gives something else.
 fn first_other_along(alloc: Global, pairs: &[(u64, u64)], rows: &[(Step, Seen)]) -> Option<usize> {
     first_other_step(&mut tree_of(alloc, pairs).iter(), rows)
 }
@@ -130,7 +130,7 @@ const AT_ITS_END: &[(Step, Seen)] = &[
     (GetBack, Some((4, 6))),
 ];
 
-/// The first step of each of these that tells something else.
+/// The first step of each of these that gives something else.
 fn within_and_beyond(tree: &Tree) -> [Option<usize>; 3] {
     let mut range = tree.range(Bound::Included(&3), Bound::Included(&4));
     let within = first_other_within(&mut range, &WITHIN);
@@ -321,7 +321,7 @@ impl<'l> Plain<'l> {
     }
 }
 
-/// One call on a range and on the plain machine, and a look at both ends: whether they tell the same.
+/// One call on a range and on the plain machine, and a look at both ends: whether they give the same.
 fn is_alike(range: &mut Range<'_, u64, u64>, plain: &mut Plain<'_>, kind: u64) -> bool {
     let one = match kind {
         0 | 1 | 2 => Next,
@@ -413,7 +413,7 @@ fn random_steps_answer_as_the_plain_machine(rt: HostRuntime) {
     }
 }
 
-/// Where a key stands: 0 at its pair, 1 between two, 2 behind all, 3 before all, 4 in a tree without pairs; and
+/// Where a key is: 0 at its pair, 1 between two, 2 behind all, 3 before all, 4 in a tree without pairs; and
 /// the pairs at the forward and the backward end, of a pair that is there the first alone.
 fn stands(tree: &Tree, key: u64) -> (u8, Seen, Seen) {
     let (kind, iter) = match tree.locate(&key) {
@@ -440,7 +440,7 @@ const PLACES: &[(u64, (u8, Seen, Seen))] = &[
     (0, (3, Some((1, 1)), None)),
 ];
 
-/// The place of the first row whose key stands somewhere else.
+/// The place of the first row whose key is somewhere else.
 fn first_other_place(tree: &Tree) -> Option<usize> {
     for at in 0..PLACES.len() {
         let (key, place) = PLACES[at];
@@ -451,7 +451,7 @@ fn first_other_place(tree: &Tree) -> Option<usize> {
     None
 }
 
-/// What the steps of a cursor tell that stands between two pairs.
+/// What the steps of a cursor give that is between two pairs.
 fn between(tree: &Tree, key: u64) -> [Seen; 4] {
     match tree.locate(&key) {
         Proximity::Between(mut iter) => [

@@ -1,5 +1,5 @@
 //! Each call of a tree of numbers that tests make by itself, once: the proof of a call of generic code takes seconds
-//! wherever it stands, so tests call these functions.
+//! wherever it is, so tests call these functions.
 
 ghost use Rattle.std.specs.Prelude.{◌≡◌, ◌++◌, ◌∷◌, [], IfOk, OnErr, OnOk};
 ghost use Rattle.std.specs.Bool.{OnFalse};
@@ -50,17 +50,17 @@ pub(super) fn has(tree: &Tree, key: u64) -> bool {
     tree.contains(&key)
 }
 
-/// Inserts a pair, and tells whether it was taken.
+/// Inserts a pair, and returns whether it was taken.
 pub(super) fn insert(tree: &mut Tree, key: u64, val: u64) -> bool {
     tree.insert_sync(key, val).is_ok()
 }
 
-/// Upserts a pair, and tells whether it was taken.
+/// Upserts a pair, and returns whether it was taken.
 pub(super) fn upsert(tree: &mut Tree, key: u64, val: u64) -> bool {
     tree.upsert_sync(key, val).is_ok()
 }
 
-/// A tree with room for so many pairs, if there is memory.
+/// A tree with room for this many pairs, if there is memory.
 pub(super) fn roomy(alloc: Global, pairs: usize) -> Result<Tree, AllocError>
     ensures { IfOk result (λ tree. tree.pairs ≡ []) }
 {
@@ -85,7 +85,7 @@ pub(super) fn started<'t>(tree: &'t Tree) -> Iter<'t, u64, u64>
     cursor
 }
 
-/// Puts clones of all pairs of another tree, along a cursor at its first one, into an empty one, and tells whether it did.
+/// Puts clones of all pairs of another tree, along a cursor at its first one, into an empty one, and returns whether it did.
 pub(super) fn push_run(tree: &mut Tree, cursor: &mut Iter<'_, u64, u64>, source: &Tree) -> bool
     requires empty { tree.old.pairs ≡ [] }
     requires first { unread cursor.old ≡ source.now.pairs }
@@ -114,7 +114,7 @@ pub(super) fn push_runs(
     tree.push_run(cursor, len - few).is_ok()
 }
 
-/// Removes a key, and tells whether it was there.
+/// Removes a key, and returns whether it was there.
 pub(super) fn remove(tree: &mut Tree, key: u64) -> bool {
     tree.remove_sync(&key)
 }

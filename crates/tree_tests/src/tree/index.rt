@@ -55,7 +55,7 @@ pub(super) const REPLACED: [(Call, Told); 8] = [
     (Len, Number(1)),
 ];
 
-/// Upserts the keys below 15 in fifty rounds but the first, and tells whether each was taken.
+/// Upserts the keys below 15 in fifty rounds but the first, and returns whether each was taken.
 pub(super) fn upsert_in_rounds(tree: &mut Tree) -> bool {
     let mut taken = true;
     for round in 1..50u64 {
@@ -105,7 +105,7 @@ pub(super) const ASKED: [(Call, Told); 12] = [
     (IsEmpty, Is(true)),
 ];
 
-/// Inserts 6000 keys in no order, each with its complement, and tells whether each was taken.
+/// Inserts 6000 keys in no order, each with its complement, and returns whether each was taken.
 pub(super) fn take_stirred(tree: &mut Tree) -> bool {
     let mut key = 1u64;
     let mut taken = true;
@@ -222,7 +222,7 @@ pub(super) const CLONED_IN_NO_ORDER: [(Call, Told); 5] = [
     (Count, Number(499)),
 ];
 
-// These functions and `lacks_three` may be called at values up to 5 alone, so each call stands because it calls them on the
+// These functions and `lacks_three` may be called at values up to 5 alone, so each call is proved because it calls them on the
 // pair that is there, and on no other.
 
 fn left(_key: &u64, val: &u64) -> u64
@@ -245,7 +245,7 @@ fn calls_none(alloc: Global) -> bool {
     peeked && read && !tree.remove_if_sync(&1, lacks_three)
 }
 
-/// What functions tell of the value 3, which is spared by one condition and removed by another.
+/// What functions say of the value 3, which is spared by one condition and removed by another.
 fn of_three(alloc: Global) -> (Option<u64>, Option<u64>, bool, bool) {
     let mut tree = empty(alloc);
     match tree.insert_sync(1, 3) {
@@ -299,7 +299,7 @@ fn are_alike(tree: &Tree, map: &BTreeMap<u64, u64>) -> bool {
     alike
 }
 
-/// Whether so many random calls are answered alike, and leave the same.
+/// Whether this many random calls are answered alike, and leave the same.
 fn go_alike(alloc: Global, calls: u32) -> Result<bool, AllocError> {
     let mut tree = empty(alloc);
     let mut map = BTreeMap::new(alloc);
@@ -348,7 +348,7 @@ const BELOW_701: Pairs = Pairs {
     val_shift: 0,
 };
 
-/// Whether a clone of a tree of so many pairs, of which a third is gone, goes on by itself; and how many are left in
+/// Whether a clone of a tree of this many pairs, of which a third is gone, continues by itself; and how many are left in
 /// the tree then.
 fn left_after(alloc: Global, count: u64) -> Result<(bool, usize), AllocError> {
     let mut tree = empty(alloc);

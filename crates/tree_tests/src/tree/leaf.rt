@@ -8,7 +8,7 @@ use leaf_array::{InsertResult, RemoveResult};
 use std::alloc::{AllocError, Global};
 use tree_index::leaf::{Iter, Leaf, RevIter};
 
-/// Adds a pair whose key isn't there, and tells whether the leaf took it.
+/// Adds a pair whose key isn't there, and returns whether the leaf took it.
 fn add(leaf: &mut Leaf<u64, u64>, key: u64, val: u64) -> bool {
     match leaf.array.insert::<false>(key, val) {
         InsertResult::Success => true,
@@ -16,7 +16,7 @@ fn add(leaf: &mut Leaf<u64, u64>, key: u64, val: u64) -> bool {
     }
 }
 
-/// Removes the pair with this key, and tells whether it was there.
+/// Removes the pair with this key, and returns whether it was there.
 fn drop_key(leaf: &mut Leaf<u64, u64>, key: u64) -> bool {
     match leaf.array.remove_if(&key, always) {
         RemoveResult::Success | RemoveResult::Retired => true,
@@ -52,7 +52,7 @@ fn alone(key: Option<&u64>) -> Seen {
     }
 }
 
-/// The pair that a jump of a rising cursor tells, where nothing lies before it in its leaf.
+/// The pair that a jump of a rising cursor gives, where nothing lies before it in its leaf.
 fn started<'l>(rising: &mut Iter<'l, u64, u64>, tree: &'l Tree) -> Seen {
     let seen = read(rising.jump(tree));
     if rising.clone().rev().next().is_none() {
@@ -122,7 +122,7 @@ fn take<'l>(cursor: Cursor<'l>, tree: &'l Tree, step: Step) -> (Cursor<'l>, Seen
     }
 }
 
-/// Takes the steps of a table, and tells whether each tells what it has to.
+/// Takes the steps of a table, and returns whether each answers what it has to.
 fn goes<'l>(cursor: Cursor<'l>, tree: &'l Tree, rows: &[(Step, Seen)]) -> (Cursor<'l>, bool) {
     let mut here = cursor;
     let mut as_said = true;
@@ -137,7 +137,7 @@ fn goes<'l>(cursor: Cursor<'l>, tree: &'l Tree, rows: &[(Step, Seen)]) -> (Curso
 /// A call of a leaf of no tree, so that there are no links, and the steps of new cursors over it, which jump into a tree.
 #[derive(Clone, Copy)]
 enum Call {
-    /// A pair comes, goes, or all that went are forgotten.
+    /// A pair is added or removed, or all that were removed are forgotten.
     Add(u64, u64),
     Drop(u64),
     Pack,
@@ -150,7 +150,7 @@ enum Call {
     Part,
 }
 
-/// Makes a call of a leaf, and tells whether all was as it has to be.
+/// Makes a call of a leaf, and returns whether all was as it has to be.
 fn make(leaf: &mut Leaf<u64, u64>, tree: &Tree, call: Call) -> bool {
     match call {
         Call::Add(key, val) => add(leaf, key, val),
@@ -294,7 +294,7 @@ const TENS: Pairs = Pairs {
     val_shift: 0,
 };
 
-/// Makes the calls of a table on a new leaf, in order, and tells the place of the first that doesn't go as it has to.
+/// Makes the calls of a table on a new leaf, in order, and returns the place of the first that doesn't go as it has to.
 fn first_other(tree: &Tree, calls: &[Call]) -> Option<usize> {
     let mut leaf: Leaf<u64, u64> = Leaf::new();
     for at in 0..calls.len() {
@@ -356,7 +356,7 @@ fn keys_of(alloc: Global, mask: u64) -> Result<Vec<u64>, AllocError> {
     Ok(keys)
 }
 
-/// Whether a cursor over a leaf of random keys goes along a list of them.
+/// Whether a cursor over a leaf of random keys walks along a list of them.
 fn goes_along_some(alloc: Global, seed: &mut u64) -> Result<bool, AllocError> {
     let mask = drawn(seed);
     let keys = keys_of(alloc, mask)?;
@@ -373,8 +373,8 @@ fn cursors_go_along_a_plain_list_of_keys(rt: HostRuntime) {
     }
 }
 
-/// The place that a step goes to in a list of so many keys, from a place of which 0 is before all: back, or
-/// forth. One that stands at the end stays.
+/// The place that a step goes to in a list of this many keys, from a place of which 0 is before all: back, or
+/// forth. One that is at the end stays.
 fn moved(place: usize, count: usize, falls: bool) -> usize {
     if falls {
         let start = if place == 0 {
@@ -404,8 +404,8 @@ fn falls<'l>(rising: Iter<'l, u64, u64>) -> (Iter<'l, u64, u64>, Seen) {
     (falling.rev(), seen)
 }
 
-/// One call of a cursor, as `kind` says: it goes back before its first pair, or a step back, or a step forth. Gives the
-/// cursor, and what the step told.
+/// One call of a cursor, as `kind` says: it moves before its first pair, or a step back, or a step forth. Gives the
+/// cursor, and what the step gave.
 fn make_step<'l>(rising: Iter<'l, u64, u64>, kind: u64) -> (Iter<'l, u64, u64>, Seen) {
     let mut rising = rising;
     match kind {
@@ -421,7 +421,7 @@ fn make_step<'l>(rising: Iter<'l, u64, u64>, kind: u64) -> (Iter<'l, u64, u64>, 
     }
 }
 
-/// The place that the same call goes to, and what it tells.
+/// The place that the same call leads to, and what it gives.
 fn make_step_in_list(keys: &[u64], place: usize, kind: u64) -> (usize, Seen) {
     if kind == 0 {
         return (0, None);
@@ -437,7 +437,7 @@ fn make_step_in_list(keys: &[u64], place: usize, kind: u64) -> (usize, Seen) {
     )
 }
 
-/// Sixty calls of a cursor, in no order, beside a place in a list of the keys: whether it goes along.
+/// Sixty calls of a cursor, in no order, beside a place in a list of the keys: whether it walks along.
 fn goes_along(leaf: &Leaf<u64, u64>, keys: &[u64], seed: &mut u64) -> bool {
     let mut rising = Iter::new(leaf);
     let mut place: usize = 0;
@@ -454,7 +454,7 @@ fn goes_along(leaf: &Leaf<u64, u64>, keys: &[u64], seed: &mut u64) -> bool {
     alike && ends
 }
 
-/// So many pairs of a tree, and those of them that are gone.
+/// This many pairs of a tree, and those of them that are gone.
 #[derive(Clone, Copy)]
 struct Walk {
     pairs: Pairs,
@@ -473,7 +473,7 @@ fn starts<'t>(tree: &'t Tree, walk: Walk, falls: bool) -> Option<Cursor<'t>> {
     }
 }
 
-/// Whether a cursor goes one way through all leaves of a tree, by jumps from leaf to leaf, and ends at the last pair.
+/// Whether a cursor moves one way through all leaves of a tree, by jumps from leaf to leaf, and ends at the last pair.
 fn jumps(tree: &Tree, walk: Walk, falls: bool) -> bool {
     let mut cursor = match starts(tree, walk, falls) {
         Some(start) => start,
@@ -542,7 +542,7 @@ fn jumps_go_over_keys_whose_leaves_left_the_tree(rt: HostRuntime) {
     }
 }
 
-// Jumps forth and back over emptied leaves alone, and what the cursor stands at behind each.
+// Jumps forth and back over emptied leaves alone, and what the cursor is at after each.
 const STAYS: &[(Step, Seen)] = &[
     (Step::Jump, None),
     (Step::Get, None),

@@ -49,7 +49,7 @@ pub(super) fn first_leaf(tree: &Tree) -> Option<usize> {
     Some(leaf_at(tree, key)?.array.len())
 }
 
-/// Whether a tree takes so many pairs, and its copy is equal, by its walk too, has the least depth, and a full first leaf.
+/// Whether a tree takes this many pairs, and its copy is equal, by its walk too, has the least depth, and a full first leaf.
 fn is_copied(alloc: Global, count: u64) -> Result<bool, AllocError> {
     let mut tree = empty(alloc);
     let taken = fill(&mut tree, BELOW_300, 0, count);

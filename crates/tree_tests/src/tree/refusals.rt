@@ -38,7 +38,7 @@ const NOTHING: Met = Met {
     as_said: true,
 };
 
-/// Whether so many keys in no order are there, each with its complement.
+/// Whether this many keys in no order are there, each with its complement.
 fn has_all(tree: &Tree, count: u32) -> bool {
     let mut there = true;
     let mut key = 1u64;

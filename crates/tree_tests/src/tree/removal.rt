@@ -70,7 +70,7 @@ fn bound_of(seed: u64) -> Bound<u64> {
     }
 }
 
-/// Removes a range from a map, and tells whether a tree then has the pairs of the map, of keys below 400.
+/// Removes a range from a map, and returns whether a tree then has the pairs of the map, of keys below 400.
 fn is_alike(
     tree: &Tree,
     map: &mut BTreeMap<u64, u64>,
@@ -101,7 +101,7 @@ fn stir_both(
     Ok(())
 }
 
-/// Whether so many rounds of upserts, and of a random range that is removed from a tree and from a map, leave the same
+/// Whether this many rounds of upserts, and of a random range that is removed from a tree and from a map, leave the same
 /// pairs.
 fn go_alike(alloc: Global, rounds: u32) -> Result<bool, AllocError> {
     let mut tree = empty(alloc);

@@ -24,7 +24,7 @@ fn rising(alloc: Global, count: u64) -> (Tree, bool) {
 }
 
 /// Whether memory was refused while an empty tree took the pairs of another as a run, and whether all was as it has to be: none
-/// was left in it then, the cursor stood where it did, and a second try took them.
+/// was left in it then, the cursor was where it had been, and a second try took them.
 fn runs(alloc: Global) -> (bool, bool) {
     let (source, mut met) = rising(alloc, 100);
     let mut tree = empty(alloc);

@@ -19,9 +19,9 @@ fn shape(tree: &Tree, key: u64) -> (usize, Option<usize>, Option<usize>) {
     }
 }
 
-/// Goes along the leaves of a tree by its keys, and counts them. Each names the ones on both sides, and no
+/// Walks along the leaves of a tree by its keys, and counts them. Each names the ones on both sides, and no
 /// number is above `most`: two leaves apart name the one between them by the same number, so that none
-/// without pairs stands between them. Where a leaf doesn't, or the last one names another behind it, it gives
+/// without pairs is between them. Where a leaf doesn't, or the last one names another behind it, it gives
 /// the greatest number.
 fn leaves_of(tree: &Tree, most: usize) -> usize {
     let mut count = 0usize;
@@ -49,7 +49,7 @@ fn leaves_of(tree: &Tree, most: usize) -> usize {
     }
 }
 
-/// Whether there are so many leaves at most, none with a number above `number`.
+/// Whether there are this many leaves at most, none with a number above `number`.
 pub(super) fn has_few_leaves(tree: &Tree, number: usize, most: usize) -> bool {
     leaves_of(tree, number) <= most
 }
@@ -59,7 +59,7 @@ fn is_lean(tree: &Tree, most: usize) -> bool {
     leaves_of(tree, most) <= len_of(tree) && count_of(tree) == len_of(tree)
 }
 
-/// Removes the keys below 1000, by so many at a step, and tells whether each was there, and the tree was lean behind each
+/// Removes the keys below 1000, by this many at a step, and returns whether each was there, and the tree was lean behind each
 /// fiftieth.
 pub(super) fn shrink(tree: &mut Tree, step: u64) -> bool {
     let mut as_said = true;
@@ -103,7 +103,7 @@ pub(super) const SHRUNK_IN_NO_ORDER: [(Call, Told); 6] = [
     (First, Pair(None)),
 ];
 
-/// Whether the keys from 100 to 2999 come into a queue of a hundred, each as another goes, which has no more leaves
+/// Whether the keys from 100 to 2999 come into a queue of a hundred, each as another is removed, which has no more leaves
 /// then than it had, but one.
 pub(super) fn go_through(queue: &mut Tree) -> bool {
     let most = leaves_of(queue, 8).saturating_add(1);

@@ -44,7 +44,7 @@ pub fn new<T, J: Deferred, const ARRAY_LEN: usize>(
 }
 
 /// Puts `value` into the primary, in an entry of its own, if and only if that has fewer than `ARRAY_LEN` values and a
-/// slot and a cell are free; else `value` comes back and nothing changes.
+/// slot and a cell are free; else `value` is returned and nothing changes.
 pub fn try_push<T, J: Deferred, const ARRAY_LEN: usize>(
     w: &mut World<LinkedEntry<T>, J>,
     bag: &Bag<T, ARRAY_LEN>,
@@ -66,7 +66,7 @@ pub fn try_push<T, J: Deferred, const ARRAY_LEN: usize>(
 }
 
 /// Puts `value` into the primary, in an entry of its own, or into the overflow if the primary has `ARRAY_LEN` values,
-/// if and only if a slot and a cell are free; else `value` comes back and nothing changes.
+/// if and only if a slot and a cell are free; else `value` is returned and nothing changes.
 pub fn push<T, J: Deferred, const ARRAY_LEN: usize>(
     w: &mut World<LinkedEntry<T>, J>,
     bag: &Bag<T, ARRAY_LEN>,
@@ -86,9 +86,9 @@ pub fn push<T, J: Deferred, const ARRAY_LEN: usize>(
     }
 }
 
-/// A bag of the values, each in an entry of its own, the first `ARRAY_LEN` of them in the primary. Where no empty bag can
-/// be made, nothing has changed and `values` comes back. The first value for which no slot or no cell is free comes back
-/// with the bag of those before it. Conditions: `ARRAY_LEN` is 1 to 32, and the values end.
+/// A bag of the values, each in an entry of its own, the first `ARRAY_LEN` of them in the primary. If no empty bag can
+/// be made, nothing has changed and `values` is returned. The first value for which no slot or no cell is free is
+/// returned with the bag of those before it. Conditions: `ARRAY_LEN` is 1 to 32, and the values end.
 pub fn from_iter<T, J: Deferred, const ARRAY_LEN: usize, I: IntoIterator<Item = T>>(
     alloc: Global,
     w: &mut World<LinkedEntry<T>, J>,

@@ -16,7 +16,7 @@ use sdd_world::link::Link;
 use sdd_world::world::World;
 
 /// The value of the next entry that isn't deleted, or none at the end. Condition: what is left of the list hangs where
-/// the walk stands, as `iter` leaves it and every call of `next`, while nothing else changes the list.
+/// the walk is, as `iter` and every call of `next` leave it, while nothing else changes the list.
 pub fn next<'w, T, J: Deferred>(
     w: &'w World<LinkedEntry<T>, J>,
     iter: &mut Iter<T>,

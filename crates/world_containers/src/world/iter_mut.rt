@@ -88,7 +88,7 @@ impl<T, J: Deferred, const ARRAY_LEN: usize> BagPlace<T, ARRAY_LEN> for World<Li
     }
 }
 
-/// Where a walk stands: the cell of what is left of one list, and the place of the cell of the next one.
+/// The position of a walk: the cell of what is left of one list, and the place of the cell of the next one.
 #[derive(Drop)]
 struct Spot<T> {
     row: usize,

@@ -60,7 +60,7 @@ pub fn new<T, J: Deferred>(w: &mut World<LinkedEntry<T>, J>) -> Result<Queue<T>,
 }
 
 /// Puts `value` behind all others, in an entry of its own, and gives another owner of that, if and only if a slot and a
-/// cell are free; else `value` comes back and nothing changes.
+/// cell are free; else `value` is returned and nothing changes.
 pub fn push<T, J: Deferred>(
     w: &mut World<LinkedEntry<T>, J>,
     queue: &Queue<T>,
@@ -111,8 +111,8 @@ fn add<T, J: Deferred>(
     }
 }
 
-/// A queue of the values, in their order, each in an entry of its own. Where two cells for it aren't free, nothing has
-/// changed and `values` comes back. The first value for which no slot or no cell is free comes back with the queue of
+/// A queue of the values, in their order, each in an entry of its own. If there aren't two free cells, nothing has
+/// changed and `values` is returned. The first value for which no slot or no cell is free is returned with the queue of
 /// those before it. Condition: the values end.
 pub fn from_iter<T, J: Deferred, I: IntoIterator<Item = T>>(
     w: &mut World<LinkedEntry<T>, J>,
@@ -143,9 +143,9 @@ pub fn from_iter<T, J: Deferred, I: IntoIterator<Item = T>>(
     Ok(queue)
 }
 
-/// A queue of clones of the values that aren't deleted, in their order, each in a clear entry of its own. Where two
-/// cells for it aren't free, nothing has changed. Where a clone is refused, or no slot or no cell is free for one, the
-/// queue of those before it comes back. Condition: a clone is the value itself.
+/// A queue of clones of the values that aren't deleted, in their order, each in a clear entry of its own. If there
+/// aren't two free cells, nothing has changed. If a clone is refused, or no slot or no cell is free for one, the
+/// queue of those before it is returned. Condition: a clone is the value itself.
 pub fn clone<T: Clone, J: Deferred>(
     w: &mut World<LinkedEntry<T>, J>,
     queue: &Queue<T>,

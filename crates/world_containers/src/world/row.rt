@@ -41,7 +41,7 @@ pub(crate) fn find<L, J: Deferred>(
 }
 
 /// Hangs a new entry of `value` from a cell, before all others, if and only if a slot and a cell are free; else `value`
-/// comes back and nothing changes.
+/// is returned and nothing changes.
 pub(crate) fn put<T, J: Deferred>(
     w: &mut World<LinkedEntry<T>, J>,
     cell: &AtomicShared<LinkedEntry<T>>,
@@ -95,7 +95,7 @@ pub(crate) fn end_all<L, J: Deferred>(w: &mut World<L, J>, cells: Vec<AtomicShar
     cells.destroy_empty();
 }
 
-/// Claims so many cells, which keep nothing; where too few are free, none is claimed.
+/// Claims a number of cells, which keep nothing. If too few are free, none is claimed.
 pub(crate) fn claim_all<L, J: Deferred>(
     alloc: Global,
     w: &mut World<L, J>,

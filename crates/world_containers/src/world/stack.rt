@@ -53,7 +53,7 @@ pub fn new<T, J: Deferred>(w: &mut World<LinkedEntry<T>, J>) -> Result<Stack<T>,
 }
 
 /// Puts `value` in front, in an entry of its own, and gives another owner of that, if and only if a slot and a cell are
-/// free; else `value` comes back and nothing changes.
+/// free; else `value` is returned and nothing changes.
 pub fn push<T, J: Deferred>(
     w: &mut World<LinkedEntry<T>, J>,
     stack: &Stack<T>,
@@ -105,8 +105,8 @@ fn add_last<T, J: Deferred>(
     }
 }
 
-/// A stack of the values, the last one in front, each in an entry of its own. Where no cell for it is free, nothing has
-/// changed and `values` comes back. The first value for which no slot or no cell is free comes back with the stack of
+/// A stack of the values, the last one in front, each in an entry of its own. If no cell is free, nothing has
+/// changed and `values` is returned. The first value for which no slot or no cell is free is returned with the stack of
 /// those before it. Condition: the values end.
 pub fn from_iter<T, J: Deferred, I: IntoIterator<Item = T>>(
     w: &mut World<LinkedEntry<T>, J>,
@@ -136,9 +136,9 @@ pub fn from_iter<T, J: Deferred, I: IntoIterator<Item = T>>(
     Ok(stack)
 }
 
-/// A stack of clones of the values that aren't deleted, in their order, each in a clear entry of its own. Where no cell
-/// for it is free, nothing has changed. Where a clone is refused, or no slot or no cell is free for one, the stack of
-/// those before it comes back. Condition: a clone is the value itself.
+/// A stack of clones of the values that aren't deleted, in their order, each in a clear entry of its own. If no cell
+/// is free, nothing has changed. If a clone is refused, or no slot or no cell is free for one, the stack of
+/// those before it is returned. Condition: a clone is the value itself.
 pub fn clone<T: Clone, J: Deferred>(
     w: &mut World<LinkedEntry<T>, J>,
     stack: &Stack<T>,

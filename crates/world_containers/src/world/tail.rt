@@ -18,7 +18,7 @@ use sdd_world::status::Cell;
 use sdd_world::tag::Tag;
 use sdd_world::world::{World, atomic_shared, shared};
 
-/// Puts an entry behind the last one: `link` goes into the list, and `last` to the cell of the newest.
+/// Puts an entry behind the last one: `link` is put into the list, and `last` is set to the cell of the newest.
 pub(crate) fn append<L: LinkedList, J: Deferred>(
     w: &mut World<L, J>,
     oldest: &AtomicShared<L>,

@@ -33,7 +33,7 @@ beside : {a b c : Gv} → a ≡ b → gcons c a ≡ gcons c b
 beside {c = c} e = λ i. gcons c (e i)
 
 module _ (R S : RattleType) (h : R.Denot → S.Denot) where
-  -- a `Seen` lies and is shared as one of no value does, but for what stands for its value
+  -- a `Seen` lies and is shared as one of no value does, but for what denotes its value
   pub the_places : Alike R S h → Alike (C.the_row R) (C.the_row S) ((the_former this).map R.Denot S.Denot h)
   the_places a = record {
     mir_same = λ i. (C.the_row (one_value R (a.mir_same i) (λ _. ftrue) (λ _ _. nothing) gnil)).mir;
