@@ -218,6 +218,10 @@ impl<'a, K: Ord, V, const S: usize> BaseVersion<K, V, Loaded<Item<K, V, S>>>
         self.dir.segments()
     }
 
+    fn pairs(&self) -> usize {
+        self.dir.pairs()
+    }
+
     fn segment(&self, place: usize) -> &TreeIndex<K, V> {
         self.w.table().tree(self.dir.owner(place))
     }

@@ -101,10 +101,7 @@ fn take_over<K: Ord + Drop, V: Drop, const S: usize>(
     ensures more { (n : ℕ) × (status_at w.old (kept_slot result) ≡ Status.Shared n) × (w.new ≡ with_status (kept_slot result) (Status.Shared (n + 1)) w.old) }
     ensures keeps { Frame w.old w.new }
 {
-    match shared::of_loaded(w, &at) {
-        Some(owner) => Kept::of(owner),
-        None => unreachable!(),
-    }
+    shared::keep_loaded(w, &at)
 }
 
 /// Places a segment where a slot is free. There are few of them, and the others are many: so it is a function of its own, and the loop

@@ -166,6 +166,10 @@ impl<K: Ord, V> BaseVersion<K, V, usize> for Version<K, V> {
         self.directory().segments()
     }
 
+    fn pairs(&self) -> usize {
+        self.directory().pairs()
+    }
+
     fn segment(&self, place: usize) -> &TreeIndex<K, V> {
         self.tree(&self.directory().owners()[place])
     }

@@ -11,7 +11,7 @@ use Rattle.std.specs.List.{All}
 use Rattle.leaf_array.specs.Pairs.{IsAscending}
 use Rattle.tree_index.specs.Depth.{IsAbove}
 use Rattle.version_views.specs.Cuts.{greatest_key, pairs_in, IsTight}
-use Rattle.version_drafts.specs.Cutting.{IsClosing, IsCutting, GivesNoMoreThanRead, IsHeld, IsHeldAt, IsSegmentRow, IsSegmentSized, StaysApart, given_pairs, last_size, one_open, room_spent, trees}
+use Rattle.version_drafts.specs.Cutting.{CountsFrom, CountsGiven, GivesNoMoreThanRead, IsClosing, IsCutting, IsHeld, IsHeldAt, IsSegmentRow, IsSegmentSized, StaysApart, given_pairs, last_size, one_open, room_spent, trees}
 use Rattle.tree_index.specs.Tree.{Tree}
 use Rattle.version_drafts.specs.Parts.{HasMadeTree, blocks_of_parts, made_in, makes, part_pairs}
 use Rattle.version_drafts.specs.declared.segments.Part.{Part}
@@ -194,6 +194,17 @@ empty_of (x ∷ xs) h = absurd (omega (arith, h))
 
 -- ---- pairs are given
 
+-- the length counts a run that was given
+pub counts_run : {K V N : Type 0} (named : N → List (K × V)) (c c' : SegmentBuilder K V N) (run : List (K × V)) → given_pairs named c' ≡ given_pairs named c ++ run → c'.length ≡ c.length + length run → CountsGiven named c c'
+counts_run named c c' run given' grown = let all = ap length given' ∙ length-append (given_pairs named c) run in omega (arith, all, grown)
+
+-- and goes on counting what comes from a place on
+pub counts_on : {K V N : Type 0} (named : N → List (K × V)) (blocks : List (List (K × V))) (place : ℕ) (c c' : SegmentBuilder K V N) → CountsFrom named blocks place c → CountsGiven named c c' → CountsFrom named blocks place c'
+counts_on named blocks place c c' h more = omega (arith, h, more)
+
+pub counts_both : {K V N : Type 0} (named : N → List (K × V)) (c mid c' : SegmentBuilder K V N) → CountsGiven named c mid → CountsGiven named mid c' → CountsGiven named c c'
+counts_both named c mid c' h more = omega (arith, h, more)
+
 -- a run goes into the open tree
 module _ {K V N : Type 0} {cmp : K → K → Ordering} {named : N → List (K × V)} {s : ℕ} {blocks : List (List (K × V))} {c : SegmentBuilder K V N} (h : IsCutting named cmp s blocks c) (run : List (K × V)) (up : IsAscending cmp (given_pairs named c ++ run)) (c' : SegmentBuilder K V N) (row : c'.row ≡ c.row) (held : c'.held ≡ c.held) (tail : c'.tail.pairs ≡ c.tail.pairs ++ run) where
   pub run_given_behind : given_pairs named c' ≡ given_pairs named c ++ run
@@ -202,17 +213,15 @@ module _ {K V N : Type 0} {cmp : K → K → Ordering} {named : N → List (K ×
   pub tail_run : length c'.tail.pairs ≡ length c.tail.pairs + length run
   tail_run = ap length tail ∙ length-append c.tail.pairs run
 
-  pub cutting_run : length c.tail.pairs + length run ≤ s → c'.length ≡ c.length + length run → IsCutting named cmp s blocks c'
-  cutting_run room count =
+  pub cutting_run : length c.tail.pairs + length run ≤ s → IsCutting named cmp s blocks c'
+  cutting_run room =
       let more = tail_run in
-      let all = ap length run_given_behind ∙ length-append (given_pairs named c) run in
       record {
         least = h.least;
         most = h.most;
         row = subst (IsSegmentRow named s) (sym row) h.row;
         room = omega (arith, more, room);
         rising = subst (IsAscending cmp) (sym run_given_behind) up;
-        count = omega (arith, count, all, h.count);
         held = subst (λ (r : Row K V N). IsHeld named blocks r.parts.items c'.held) (sym row) (subst (IsHeld named blocks c.row.parts.items) (sym held) h.held);
         fresh = λ none. subst (λ (r : Row K V N). (r.last ≡ 0) ⊎ (r.last ≡ s)) (sym row) (h.fresh (sym held ∙ none));
       }
@@ -225,16 +234,13 @@ module _ {K V N : Type 0} {cmp : K → K → Ordering} (o : IsTotalOrder cmp) {n
   pub above_tail : IsAbove cmp key c.tail.pairs
   above_tail = all_rear (λ k. cmp k key ≡ Less) (pairs_in (blocks_of_parts named c.row.parts.items)) c.tail.pairs (rising_under cmp (given_pairs named c) (key, val) up)
 
-  longer : length (given_pairs named c ++ (key, val) ∷ []) ≡ length (given_pairs named c) + 1
-  longer = length-append (given_pairs named c) ((key, val) ∷ [])
-
   -- it takes the pair
   module _ (c' : SegmentBuilder K V N) (row : c'.row ≡ c.row) (held : c'.held ≡ c.held) (tail : c'.tail.pairs ≡ c.tail.pairs ++ (key, val) ∷ []) where
     pub given_more : given_pairs named c' ≡ given_pairs named c ++ (key, val) ∷ []
     given_more = run_given_behind h ((key, val) ∷ []) up c' row held tail
 
-    pub cutting_more : length c.tail.pairs < s → c'.length ≡ c.length + 1 → IsCutting named cmp s blocks c'
-    cutting_more room count = cutting_run h ((key, val) ∷ []) up c' row held tail (omega (arith, room)) count
+    pub cutting_more : length c.tail.pairs < s → IsCutting named cmp s blocks c'
+    cutting_more room = cutting_run h ((key, val) ∷ []) up c' row held tail (omega (arith, room))
 
     pub spent_more : room_spent s c' ≡ room_spent s c + 1
     spent_more = spent_run h ((key, val) ∷ []) up c' row held tail
@@ -251,18 +257,16 @@ module _ {K V N : Type 0} {cmp : K → K → Ordering} (o : IsTotalOrder cmp) {n
     pub given_next : given_pairs named c' ≡ given_pairs named c ++ (key, val) ∷ []
     given_next = ap (λ ps. ps ++ c'.tail.pairs) (pairs_given named c.row.parts.items c.tail.pairs c'.row p was items) ∙ ap (λ ps. given_pairs named c ++ ps) tail
 
-    pub cutting_next : length c.tail.pairs ≡ s → map Some c'.row.separators.items ≡ map Some c.row.separators.items ++ greatest_key c.tail.pairs ∷ [] → c'.row.last ≡ length c.tail.pairs → c'.held ≡ None → c'.length ≡ c.length + 1 → IsCutting named cmp s blocks c'
-    cutting_next full keys last none count =
+    pub cutting_next : length c.tail.pairs ≡ s → map Some c'.row.separators.items ≡ map Some c.row.separators.items ++ greatest_key c.tail.pairs ∷ [] → c'.row.last ≡ length c.tail.pairs → c'.held ≡ None → IsCutting named cmp s blocks c'
+    cutting_next full keys last none =
         let one = ap length tail in
         let least = h.least in
-        let all = ap length given_next ∙ longer in
         record {
           least = h.least;
           most = h.most;
           row = row_closed c (closing_full full) c'.row p was items keys last;
           room = omega (arith, one, least);
           rising = subst (IsAscending cmp) (sym given_next) up;
-          count = omega (arith, count, all, h.count);
           held = subst (IsHeld named blocks c'.row.parts.items) (sym none) tt;
           fresh = λ e. inr (last ∙ full);
         }
@@ -275,70 +279,27 @@ module _ {K V N : Type 0} {cmp : K → K → Ordering} (o : IsTotalOrder cmp) {n
         let tail' = ap length tail in
         omega (arith, times, same, tail', full)
 
--- ---- an older segment is taken over
-
-module _ {K V N : Type 0} {cmp : K → K → Ordering} {named : N → List (K × V)} {s : ℕ} {blocks : List (List (K × V))} {c : SegmentBuilder K V N} (h : IsCutting named cmp s blocks c) (place : ℕ) (a : StaysApart named cmp s blocks place c) (mid c' : SegmentBuilder K V N) (name : N) where
-  pub cutting_taken : IsSegmentRow named s mid.row → pairs_in (blocks_of_parts named mid.row.parts.items) ≡ given_pairs named c → (0 < length c.tail.pairs → length c.tail.pairs ≤ mid.row.last) → (length c.tail.pairs ≡ 0 → mid.row.last ≡ c.row.last) → mid.tail.pairs ≡ [] → mid.length ≡ c.length
-      → named name ≡ a.block → c'.row.parts.items ≡ mid.row.parts.items ++ parts.Taken name ∷ [] → map Some c'.row.separators.items ≡ map Some mid.row.separators.items ++ greatest_key a.block ∷ [] → (c'.row.last ≡ length a.block) × (c'.length ≡ mid.length + length a.block) → c'.held ≡ Some place → c'.tail ≡ mid.tail → IsCutting named cmp s blocks c'
-  cutting_taken row pairs last same tail count is items keys sized held opens =
-      let b = a.block in
-      let none : c'.tail.pairs ≡ [] = ap (λ t. t.pairs) opens ∙ tail in
-      let all : given_pairs named c' ≡ given_pairs named c ++ b = ap (λ ps. ps ++ c'.tail.pairs) (pairs_given named mid.row.parts.items b c'.row (parts.Taken name) is items) ∙ (ap (λ ps. (pairs_in (blocks_of_parts named mid.row.parts.items) ++ b) ++ ps) none ∙ (append-nil (pairs_in (blocks_of_parts named mid.row.parts.items) ++ b) ∙ ap (λ ps. ps ++ b) pairs)) in
-      let apart : (mid.row.last ≡ 0) ⊎ (s < mid.row.last + length b) = elim (eqb_tells (length c.tail.pairs) 0) [
-        | inl z ↦ elim (eqb_tells c.row.last 0) [
-          | inl y ↦ inl (same z.1 ∙ y.1)
-          | inr y ↦ let some = y.1 in let more = a.closed z.1 (omega (arith, some)) in let e = same z.1 in inr (omega (arith, more, e))
-        ]
-        | inr z ↦ let some = z.1 in let more = a.opened (omega (arith, some)) in let e = last (omega (arith, some)) in inr (omega (arith, more, e))
-      ] in
-      let fronts = blocks_of_parts named mid.row.parts.items in
-      let behind : (last_size fronts ≡ 0) ⊎ (s < last_size fronts + length b) = subst (λ n. (n ≡ 0) ⊎ (s < n + length b)) row.last apart in
-      let long = ap length all ∙ length-append (given_pairs named c) b in
-      let count' = sized.1 in
-      record {
-        least = h.least;
-        most = h.most;
-        row = row_given named mid.row.parts.items b c'.row (parts.Taken name) is items s mid.row.separators.items (All-push (IsSegmentSized s) fronts b row.sizes a.sized) (tight_next s fronts b row.sizes row.tight behind) row.separated keys sized.0;
-        room = (let z = ap length none in omega (arith, z));
-        rising = subst (IsAscending cmp) (sym all) a.rising;
-        count = (let before = h.count in omega (arith, count', count, before, long));
-        held = subst (IsHeld named blocks c'.row.parts.items) (sym held) (record { front = mid.row.parts.items; name = name; is = items; there = a.there ∙ ap (λ x. Some x) (sym is) });
-        fresh = λ e. absurd (let f = sym held ∙ e in cc);
-      }
-
-  pub given_taken : pairs_in (blocks_of_parts named mid.row.parts.items) ≡ given_pairs named c → mid.tail.pairs ≡ [] → named name ≡ a.block → c'.row.parts.items ≡ mid.row.parts.items ++ parts.Taken name ∷ [] → c'.tail ≡ mid.tail → given_pairs named c' ≡ given_pairs named c ++ a.block
-  given_taken pairs tail is items opens =
-      let b = a.block in
-      let none : c'.tail.pairs ≡ [] = ap (λ t. t.pairs) opens ∙ tail in
-      ap (λ ps. ps ++ c'.tail.pairs) (pairs_given named mid.row.parts.items b c'.row (parts.Taken name) is items) ∙ (ap (λ ps. (pairs_in (blocks_of_parts named mid.row.parts.items) ++ b) ++ ps) none ∙ (append-nil (pairs_in (blocks_of_parts named mid.row.parts.items) ++ b) ∙ ap (λ ps. ps ++ b) pairs))
-
-  pub trees_taken : made_in mid.row.parts.items ≡ trees c → mid.tail.pairs ≡ [] → c'.row.parts.items ≡ mid.row.parts.items ++ parts.Taken name ∷ [] → c'.tail ≡ mid.tail → trees c' ≡ trees c
-  trees_taken made tail items opens =
-      let more = made_behind mid.row.parts.items (parts.Taken name) in
-      let is = ap made_in items in
-      let none = ap one_open (ap (λ t. t.pairs) opens ∙ tail) in
-      omega (arith, made, more, is, none)
-
 -- ---- another tree with the same pairs is open
 
 module _ {K V N : Type 0} (named : N → List (K × V)) (s : ℕ) (c c' : SegmentBuilder K V N) (row : c'.row ≡ c.row) (tail : c'.tail.pairs ≡ c.tail.pairs) where
   pub given_same : given_pairs named c' ≡ given_pairs named c
   given_same = ap (λ (r : Row K V N). pairs_in (blocks_of_parts named r.parts.items) ++ c'.tail.pairs) row ∙ ap (λ ps. pairs_in (blocks_of_parts named c.row.parts.items) ++ ps) tail
 
-  pub cutting_same : (cmp : K → K → Ordering) (blocks : List (List (K × V))) → IsCutting named cmp s blocks c → c'.held ≡ c.held → c'.length ≡ c.length → IsCutting named cmp s blocks c'
-  cutting_same cmp blocks h held count =
+  pub cutting_same : (cmp : K → K → Ordering) (blocks : List (List (K × V))) → IsCutting named cmp s blocks c → c'.held ≡ c.held → IsCutting named cmp s blocks c'
+  cutting_same cmp blocks h held =
       let size = ap length tail in
-      let all = ap length given_same in
       record {
         least = h.least;
         most = h.most;
         row = subst (IsSegmentRow named s) (sym row) h.row;
         room = (let room = h.room in omega (arith, size, room));
         rising = subst (IsAscending cmp) (sym given_same) h.rising;
-        count = (let was = h.count in omega (arith, count, all, was));
         held = subst (λ (r : Row K V N). IsHeld named blocks r.parts.items c'.held) (sym row) (subst (IsHeld named blocks c.row.parts.items) (sym held) h.held);
         fresh = λ none. subst (λ (r : Row K V N). (r.last ≡ 0) ⊎ (r.last ≡ s)) (sym row) (h.fresh (sym held ∙ none));
       }
+
+  pub counts_same : c'.length ≡ c.length → CountsGiven named c c'
+  counts_same count = let all = ap length given_same in omega (arith, count, all)
 
   pub filled_same : (left : ℕ) → GivesNoMoreThanRead s left left c c'
   filled_same left =
@@ -352,8 +313,8 @@ module _ {K V N : Type 0} (named : N → List (K × V)) (s : ℕ) (c c' : Segmen
       }
 
 -- nothing was given
-pub cutting_none : {K V N : Type 0} (cmp : K → K → Ordering) (named : N → List (K × V)) (s : ℕ) (blocks : List (List (K × V))) (c : SegmentBuilder K V N) → 1 ≤ s → s ≤ 225 → c.row.parts.items ≡ [] → c.row.separators.items ≡ [] → c.row.last ≡ 0 → c.held ≡ None → c.tail.pairs ≡ [] → c.length ≡ 0 → IsCutting named cmp s blocks c
-cutting_none {K} {V} cmp named s blocks c least most parts' keys last held tail count =
+pub cutting_none : {K V N : Type 0} (cmp : K → K → Ordering) (named : N → List (K × V)) (s : ℕ) (blocks : List (List (K × V))) (c : SegmentBuilder K V N) → 1 ≤ s → s ≤ 225 → c.row.parts.items ≡ [] → c.row.separators.items ≡ [] → c.row.last ≡ 0 → c.held ≡ None → c.tail.pairs ≡ [] → IsCutting named cmp s blocks c
+cutting_none {K} {V} cmp named s blocks c least most parts' keys last held tail =
     let none = ap (blocks_of_parts named) parts' in
     let empty : given_pairs named c ≡ [] = ap (λ bs. pairs_in bs ++ c.tail.pairs) none ∙ tail in
     record {
@@ -367,7 +328,6 @@ cutting_none {K} {V} cmp named s blocks c least most parts' keys last held tail 
       };
       room = (let z = ap length tail in omega (arith, z));
       rising = subst (IsAscending cmp) (sym empty) (rising_none V cmp);
-      count = count ∙ ap length (sym empty);
       held = subst (IsHeld named blocks c.row.parts.items) (sym held) tt;
       fresh = λ e. inl last;
     }

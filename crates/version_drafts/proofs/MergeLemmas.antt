@@ -16,8 +16,9 @@ use Rattle.std.specs.Option.{option_map}
 use Rattle.tree_index.specs.Shape.{AllKeys}
 use Rattle.tree_index.proofs.WayLemmas.{some_same}
 use Rattle.version_views.specs.Cuts.{greatest_key, pairs_in, IsTight}
-use Rattle.version_drafts.specs.Cutting.{GivesNoMoreThanRead, IsReachedBy, IsThrifty, Joins, differ, trees, turn_count}
+use Rattle.version_drafts.specs.Cutting.{GivesNoMoreThanRead, IsReachedBy, IsThrifty, Joins, differ, one_open, trees, turn_count}
 use Rattle.version_drafts.specs.Parts.{made_in}
+use Rattle.version_drafts.specs.declared.segments.Row.{Row}
 use Rattle.version_drafts.specs.declared.segments.SegmentBuilder.{SegmentBuilder}
 use Rattle.version_views.proofs.BlockListLemmas.{pairs_in-append}
 use Rattle.version_views.proofs.SlotLemmas.{slice_of}
@@ -311,4 +312,18 @@ thrifty_passed s budget left test false rest rest' c e t =
       all = omega (arith, all, e);
       spare = λ z some b there fits. omega (arith, all, e);
       behind = λ here z. omega (arith, all, e);
+    }
+
+-- what has the same parts and the same open pairs is as thrifty
+pub thrifty_same : {K V N : Type 0} (s : ℕ) (c c' : SegmentBuilder K V N) → c'.row ≡ c.row → c'.tail.pairs ≡ c.tail.pairs → (budget left : ℕ) (test : K → Bool) (last : Bool) (rest : List (List (K × V))) → IsThrifty s budget test last rest left c → IsThrifty s budget test last rest left c'
+thrifty_same {K} {V} {N} s c c' row tail budget left test last rest t =
+    let made = ap (λ (r : Row K V N). made_in r.parts.items) row in
+    let last' = ap (λ (r : Row K V N). r.last) row in
+    let size = ap length tail in
+    let open' = ap one_open tail in
+    let all = t.all in
+    record {
+      all = omega (arith, all, made, open');
+      spare = λ z some b there fits. let more = t.spare (omega (arith, size, z)) (omega (arith, last', some)) b there (omega (arith, last', fits)) in omega (arith, more, made, open');
+      behind = λ here z. let more = t.behind here (omega (arith, size, z)) in omega (arith, more, made, open');
     }

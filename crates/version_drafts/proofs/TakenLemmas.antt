@@ -152,9 +152,6 @@ module _ {K V N : Type 0} {named : N → List (K × V)} {blocks : List (List (K 
       behind = pushed ∙ (ap (λ ps. ps ++ parts.Taken name ∷ []) t.behind ∙ (append_assoc items (map parts.Taken t.names) (parts.Taken name ∷ []) ∙ ap (λ ps. items ++ ps) (sym (map-append parts.Taken t.names (name ∷ [])))));
     }
 
-pub pairs_more : {K V : Type 0} (blocks : List (List (K × V))) (from place : ℕ) → from ≤ place → (b : List (K × V)) → slice_get blocks place ≡ Some b → length (pairs_in (between from (place + 1) blocks)) ≡ length (pairs_in (between from place blocks)) + length b
-pairs_more blocks from place le b here = ap (λ bs. length (pairs_in bs)) (between_more from place blocks b le here) ∙ (ap length (pairs_behind (between from place blocks) b) ∙ length-append (pairs_in (between from place blocks)) b)
-
 -- ---- the stretch
 
 module _ {K V N : Type 0} {cmp : K → K → Ordering} {named : N → List (K × V)} {s : ℕ} {blocks : List (List (K × V))} {c : SegmentBuilder K V N} (h : IsCutting named cmp s blocks c) (from upto : ℕ) (some : from < upto) (within : upto ≤ length blocks) (mid c' : SegmentBuilder K V N) (t : TakesStretch named blocks from upto mid.row.parts.items c'.row.parts.items) (none : c'.tail.pairs ≡ []) where
@@ -223,18 +220,16 @@ module _ {K V N : Type 0} {cmp : K → K → Ordering} {named : N → List (K ×
           there = final.1 ∙ ap (λ b. Some b) (sym l.last);
         }
 
-    pub cutting_stretch : (0 < length c.tail.pairs → length c.tail.pairs ≤ mid.row.last) → (length c.tail.pairs ≡ 0 → mid.row.last ≡ c.row.last) → mid.length ≡ c.length
-        → map Some c'.row.separators.items ≡ map Some mid.row.separators.items ++ map greatest_key stretch → ((b : List (K × V)) → Some b ≡ slice_get blocks (upto - 1) → c'.row.last ≡ length b) → c'.length ≡ mid.length + length (pairs_in stretch) → c'.held ≡ Some (upto - 1) → IsAscending cmp (given_pairs named c ++ pairs_in stretch) → IsCutting named cmp s blocks c'
-    cutting_stretch last same count keys' sized length' held up =
+    pub cutting_stretch : (0 < length c.tail.pairs → length c.tail.pairs ≤ mid.row.last) → (length c.tail.pairs ≡ 0 → mid.row.last ≡ c.row.last)
+        → map Some c'.row.separators.items ≡ map Some mid.row.separators.items ++ map greatest_key stretch → ((b : List (K × V)) → Some b ≡ slice_get blocks (upto - 1) → c'.row.last ≡ length b) → c'.held ≡ Some (upto - 1) → IsAscending cmp (given_pairs named c ++ pairs_in stretch) → IsCutting named cmp s blocks c'
+    cutting_stretch last same keys' sized held up =
         let all = given_stretch pairs in
-        let long = ap length all ∙ length-append (given_pairs named c) (pairs_in stretch) in
         record {
           least = h.least;
           most = h.most;
           row = row_stretch (apart last same) keys' (sized final.0 (sym final.1));
           room = (let z = ap length none in omega (arith, z));
           rising = subst (IsAscending cmp) (sym all) up;
-          count = (let before = h.count in omega (arith, length', count, before, long));
           held = subst (IsHeld named blocks c'.row.parts.items) (sym held) held_stretch;
           fresh = λ e. absurd (let f = sym held ∙ e in cc);
         }

@@ -89,9 +89,16 @@ module _ {K V N : Type 0} where
       pub row : IsSegmentRow s c.row
       pub room : length c.tail.pairs ≤ s
       pub rising : IsAscending cmp (given_pairs c)
-      pub count : c.length ≡ length (given_pairs c)
       pub held : IsHeld blocks c.row.parts.items c.held
       pub fresh : c.held ≡ None → (c.row.last ≡ 0) ⊎ (c.row.last ≡ s)
+
+    -- the length counts the pairs that were given, and those of the older segments from a place on
+    abbrev pub CountsFrom : List (List (K × V)) → ℕ → SegmentBuilder K V N → Type 0
+    CountsFrom blocks place c = c.length ≡ length (given_pairs c) + length (pairs_in (drop place blocks))
+
+    -- the length grew by as many pairs as were given
+    abbrev pub CountsGiven : SegmentBuilder K V N → SegmentBuilder K V N → Type 0
+    CountsGiven c c' = c'.length + length (given_pairs c) ≡ c.length + length (given_pairs c')
 
     -- the open tree can end behind the segments that are done
     pub record IsClosing (s : ℕ) (c : SegmentBuilder K V N) : Type 0 where

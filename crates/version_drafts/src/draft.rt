@@ -31,6 +31,10 @@ pub trait BaseVersion<K: Ord, V, N> {
     fn count(&self) -> usize
         ensures { result ≡ length (blocks self.now) };
 
+    /// How many pairs all segments have.
+    fn pairs(&self) -> usize
+        ensures { result ≡ length (pairs_in (blocks self.now)) };
+
     /// The segment at this place. Condition: it is below the count.
     fn segment(&self, place: usize) -> &TreeIndex<K, V>
         requires { place < length (blocks self.now) }

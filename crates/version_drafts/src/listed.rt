@@ -32,6 +32,13 @@ impl<K: Ord, V, N: Copy> BaseVersion<K, V, N> for AtMostOne<K, V, N> {
         usize::from(self.only.is_some())
     }
 
+    fn pairs(&self) -> usize {
+        match &self.only {
+            Some(only) => only.0.len(),
+            None => 0,
+        }
+    }
+
     fn segment(&self, _place: usize) -> &TreeIndex<K, V> {
         match &self.only {
             Some(only) => &only.0,

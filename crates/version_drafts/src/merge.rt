@@ -6,7 +6,7 @@ ghost use Rattle.leaf_array.specs.Values.{ClonesAreSame};
 ghost use Rattle.std.specs.List.{All};
 ghost use Rattle.version_drafts.specs.Changes.{ahead, apply_delta, changed, named_by, pair_left};
 ghost use Rattle.version_views.specs.Cuts.{IsCut, IsSeparated, pairs_in};
-ghost use Rattle.version_drafts.specs.Cutting.{IsCutting, GivesNoMoreThanRead, IsPassedBy, IsReachedBy, IsTouched, IsUntouched, Joins, KeepsListFrom, KeepsListWithin, OfBlock, StaysThrifty, given_pairs, rest_behind};
+ghost use Rattle.version_drafts.specs.Cutting.{CountsFrom, CountsGiven, IsCutting, GivesNoMoreThanRead, IsPassedBy, IsReachedBy, IsTouched, IsUntouched, Joins, KeepsListFrom, KeepsListWithin, OfBlock, StaysThrifty, given_pairs, rest_behind};
 ghost use Rattle.version_drafts.specs.Gone.{IsSpan, is_gone, without_gone};
 ghost use Rattle.version_drafts.specs.Parts.{blocks_of_parts, made_in};
 ghost use Rattle.version_views.specs.SeparatorSearch.{IsOrdered};
@@ -16,7 +16,7 @@ use crate::draft::BaseVersion;
 use crate::gone::{Gone, apart_upto, covers, thins};
 use crate::scans::{ChangeScan, Sieve};
 use crate::segments::{
-    SegmentBuilder, Segments, begun, expect, finish, greatest_at, push, take_stretch,
+    SegmentBuilder, Segments, begun, count_out, expect, finish, greatest_at, push, take_stretch,
 };
 use std::alloc::{AllocError, Global};
 use std::cmp::Ordering;
@@ -70,15 +70,18 @@ fn pass<K: Clone + Ord + Drop, V: Clone + Drop, N: Drop, O: BaseVersion<K, V, N>
     requires within { place < length (O.blocks old.now) }
     requires whole { IsCutting (O.named old.now) K.cmp S (O.blocks old.now) out.old }
     requires rising { IsAscending K.cmp (given_pairs (O.named old.now) out.old ++ ahead K.cmp changes.old gone.now place (O.blocks old.now)) }
+    requires counted { CountsFrom (O.named old.now) (O.blocks old.now) place out.old }
     ensures behind { IfOk result (λ next. place < next) }
     ensures whole { OnOk result (IsCutting (O.named old.now) K.cmp S (O.blocks old.now) out.new) }
     ensures list { IfOk result (λ next. KeepsListFrom (O.named old.now) K.cmp gone.now (O.blocks old.now) place changes.old out.old next changes.new out.new) }
     ensures thrifty { IfOk result (λ next. StaysThrifty S (is_gone K.cmp gone.now) (O.blocks old.now) place (length changes.old) out.old next (length changes.new) out.new) }
+    ensures counted { IfOk result (λ next. CountsFrom (O.named old.now) (O.blocks old.now) next out.new) }
 {
     // how many there are shows the proof that a place behind this one can be named
     let _count = old.count();
     let next = place + 1;
     if covers::<K, V, N, O>(gone, old, place) {
+        count_out::<K, V, N, O>(out, old, place);
         return Ok(next);
     }
     if touches::<K, V, N, O, S>(changes, gone, old, place) {
@@ -276,12 +279,15 @@ fn merge_segment<
     requires sorted { IsAscending K.cmp (pairs_in (drop place (O.blocks old.now))) }
     requires whole { IsCutting (O.named old.now) K.cmp S (O.blocks old.now) out.old }
     requires rising { IsAscending K.cmp (given_pairs (O.named old.now) out.old ++ ahead K.cmp changes.old gone.now place (O.blocks old.now)) }
+    requires counted { CountsFrom (O.named old.now) (O.blocks old.now) place out.old }
     ensures whole { OnOk result (IsCutting (O.named old.now) K.cmp S (O.blocks old.now) out.new) }
     ensures list { OnOk result (KeepsListFrom (O.named old.now) K.cmp gone.now (O.blocks old.now) place changes.old out.old (place + 1) changes.new out.new) }
     ensures filled { OnOk result (OfBlock (O.blocks old.now) place (λ b. GivesNoMoreThanRead S (length (without_gone K.cmp gone.now b) + length changes.old) (length changes.new) out.old out.new)) }
     ensures fewer { OnOk result (length changes.new ≤ length changes.old) }
     ensures reached { OnOk result (OfBlock (O.blocks old.now) place (λ b. IsReachedBy K.cmp changes.old (without_gone K.cmp gone.now b) → length changes.new < length changes.old)) }
+    ensures counted { OnOk result (CountsFrom (O.named old.now) (O.blocks old.now) (place + 1) out.new) }
 {
+    count_out::<K, V, N, O>(out, old, place);
     make_ready::<K, V, N, O, S>(out, changes, old, place)?;
     let mut pairs = Sieve::new(old.segment(place), gone);
     let mut more = true;
@@ -320,6 +326,7 @@ fn merge_more<
     ensures fewer { IfOk result (λ more. more ≡ true → length changes.new + length pairs.new < length changes.old + length pairs.old) }
     ensures less { OnOk result (length changes.new ≤ length changes.old) }
     ensures done { IfOk result (λ more. more ≡ false → pairs.new ≡ []) }
+    ensures counted { OnOk result (CountsGiven (O.named old.now) out.old out.new) }
 {
     if copy_run::<K, V, N, O, S>(out, changes, pairs, gone, old, place)? {
         return Ok(true);
@@ -355,6 +362,7 @@ fn copy_run<
     ensures reached { OnOk result (IsReachedBy K.cmp changes.now pairs.old → IsReachedBy K.cmp changes.now pairs.new) }
     ensures less { OnOk result (length pairs.new ≤ length pairs.old) }
     ensures fewer { IfOk result (λ some. some ≡ true → length pairs.new < length pairs.old) }
+    ensures counted { OnOk result (CountsGiven (O.named old.now) out.old out.new) }
 {
     let _ = gone;
     let _ = old;
@@ -396,6 +404,7 @@ fn merge_next<
     ensures fewer { IfOk result (λ more. more ≡ true → length changes.new + length pairs.new < length changes.old + length pairs.old) }
     ensures less { OnOk result (length changes.new ≤ length changes.old) }
     ensures done { IfOk result (λ more. more ≡ false → pairs.new ≡ []) }
+    ensures counted { OnOk result (CountsGiven (O.named old.now) out.old out.new) }
 {
     let _ = gone;
     let Some((key, value)) = pairs.front() else {
@@ -443,6 +452,7 @@ fn put_all<
     ensures whole { OnOk result (IsCutting (O.named old.now) K.cmp S (O.blocks old.now) out.new) }
     ensures list { OnOk result (given_pairs (O.named old.now) out.new ≡ given_pairs (O.named old.now) out.old ++ apply_delta K.cmp changes.old []) }
     ensures filled { OnOk result (GivesNoMoreThanRead S (length changes.old) 0 out.old out.new) }
+    ensures counted { OnOk result (CountsGiven (O.named old.now) out.old out.new) }
 {
     expect::<K, V, N, S>(out, changes.count())?;
     while let Some((changed, to)) = changes.front() {
@@ -466,6 +476,7 @@ fn put<K: Clone + Ord + Drop, V: Clone + Drop, N: Drop, O: BaseVersion<K, V, N>,
     ensures whole { OnOk result (IsCutting (O.named old.now) K.cmp S (O.blocks old.now) out.new) }
     ensures pairs { OnOk result (given_pairs (O.named old.now) out.new ≡ given_pairs (O.named old.now) out.old ++ pair_left key.now to.now) }
     ensures filled { OnOk result (GivesNoMoreThanRead S 1 0 out.old out.new) }
+    ensures counted { OnOk result (CountsGiven (O.named old.now) out.old out.new) }
 {
     match to.value() {
         Some(value) => copy::<K, V, N, O, S>(out, old, key, value),
@@ -487,6 +498,7 @@ fn copy<K: Clone + Ord + Drop, V: Clone + Drop, N: Drop, O: BaseVersion<K, V, N>
     ensures whole { OnOk result (IsCutting (O.named old.now) K.cmp S (O.blocks old.now) out.new) }
     ensures pairs { OnOk result (given_pairs (O.named old.now) out.new ≡ given_pairs (O.named old.now) out.old ++ (key.now, value.now) ∷ []) }
     ensures filled { OnOk result (GivesNoMoreThanRead S 1 0 out.old out.new) }
+    ensures counted { OnOk result (CountsGiven (O.named old.now) out.old out.new) }
 {
     push::<K, V, N, O, S>(out, old, key.clone()?, value.clone()?)
 }

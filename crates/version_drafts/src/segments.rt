@@ -4,7 +4,7 @@ ghost use Rattle.std.specs.Prelude.{◌≡◌, ◌≤◌, ◌<◌, ◌+◌, ◌-
 ghost use Rattle.leaf_array.specs.Pairs.{IsAscending};
 ghost use Rattle.leaf_array.specs.Values.{ClonesAreSame};
 ghost use Rattle.version_views.specs.Cuts.{IsCut, IsSeparated, greatest_key, pairs_in};
-ghost use Rattle.version_drafts.specs.Cutting.{IsClosing, IsCutting, IsSegmentRow, StaysApart, TakesStretch, between, given_pairs, room_spent, trees};
+ghost use Rattle.version_drafts.specs.Cutting.{CountsFrom, CountsGiven, IsClosing, IsCutting, IsSegmentRow, StaysApart, TakesStretch, between, given_pairs, room_spent, trees};
 ghost use Rattle.version_drafts.specs.Parts.{HasMadeTree, blocks_of_parts, made_in};
 
 use crate::draft::BaseVersion;
@@ -83,6 +83,8 @@ pub(crate) struct SegmentBuilder<K: Ord, V, N> {
     // where the last segment of the row is one of the older version, its place there
     pub(crate) held: Option<usize>,
     pub(crate) tail: Segment<K, V>,
+    // how many pairs were given, and how many the older segments have that are yet to come: so nothing is counted where a
+    // stretch of them is taken over
     pub(crate) length: usize,
     // up to how many pairs in all are known to come, so that a tree is begun with room for them
     pub(crate) until: usize,
@@ -98,6 +100,7 @@ pub(crate) fn begun<K: Ord + Drop, V: Drop, N: Drop, O: BaseVersion<K, V, N>, co
     ensures whole { IfOk result (λ out. IsCutting (O.named old.now) K.cmp S (O.blocks old.now) out) }
     ensures empty { IfOk result (λ out. given_pairs (O.named old.now) out ≡ []) }
     ensures none { IfOk result (λ out. (trees out ≡ 0) × (out.row.last ≡ 0)) }
+    ensures counted { IfOk result (CountsFrom (O.named old.now) (O.blocks old.now) 0) }
 {
     let most = most_segments(old.count(), named, S);
     let parts = Vec::with_capacity(alloc, most)?;
@@ -111,7 +114,7 @@ pub(crate) fn begun<K: Ord + Drop, V: Drop, N: Drop, O: BaseVersion<K, V, N>, co
         },
         held: None,
         tail: Segment::new(alloc),
-        length: 0,
+        length: old.pairs(),
         until: 0,
     })
 }
@@ -124,6 +127,22 @@ fn most_segments(count: usize, named: usize, s: usize) -> usize
     let touched = named.saturating_mul(2);
     let filled = count.saturating_mul(2).saturating_add(touched / (s + 1));
     count.saturating_add(touched).min(filled.saturating_add(2))
+}
+
+/// Takes the pairs of the older segment at a place off the count: it isn't taken over, and what is left of it is yet to come.
+pub(crate) fn count_out<K: Ord, V, N, O: BaseVersion<K, V, N>>(
+    out: &mut SegmentBuilder<K, V, N>,
+    old: &O,
+    place: usize,
+)
+    requires within { place < length (O.blocks old.now) }
+    requires counted { CountsFrom (O.named old.now) (O.blocks old.now) place out.old }
+    ensures row { out.new.row ≡ out.old.row }
+    ensures held { out.new.held ≡ out.old.held }
+    ensures tail { out.new.tail.pairs ≡ out.old.tail.pairs }
+    ensures counted { CountsFrom (O.named old.now) (O.blocks old.now) (place + 1) out.new }
+{
+    out.length -= old.segment(place).len();
 }
 
 /// Says about how many pairs come next, so that a tree has room for them from its beginning on.
@@ -163,6 +182,7 @@ pub(crate) fn push<
     ensures pairs { OnOk result (given_pairs (O.named old.now) out.new ≡ given_pairs (O.named old.now) out.old ++ (key, value) ∷ []) }
     ensures spent { OnOk result (room_spent S out.new ≡ room_spent S out.old + 1) }
     ensures some { OnOk result (0 < length out.new.tail.pairs) }
+    ensures counted { OnOk result (CountsGiven (O.named old.now) out.old out.new) }
 {
     let _ = old;
     let Some(length) = out.length.checked_add(1) else {
@@ -203,42 +223,33 @@ pub(crate) fn take_stretch<
     ensures pairs { OnOk result (given_pairs (O.named old.now) out.new ≡ given_pairs (O.named old.now) out.old ++ pairs_in (between from upto (O.blocks old.now))) }
     ensures trees { OnOk result (trees out.new ≡ trees out.old) }
     ensures last { OnOk result ((b : List (K × V)) → Some b ≡ slice_get (O.blocks old.now) (upto - 1) → out.new.row.last ≡ length b) }
+    ensures length { OnOk result (out.new.length ≡ out.old.length) }
 {
     seal::<K, V, N, O, S>(out, old)?;
-    let pairs = name_stretch::<K, V, N, O>(&mut out.row.parts, old, from, upto)?;
-    let Some(length) = out.length.checked_add(pairs) else {
-        return Err(AllocError);
-    };
+    name_stretch::<K, V, N, O>(&mut out.row.parts, old, from, upto)?;
     copy_separators::<K, V, N, O>(&mut out.row.separators, old, from, upto)?;
     let last = upto - 1;
     out.row.last = old.segment(last).len();
     out.held = Some(last);
-    out.length = length;
     Ok(())
 }
 
-/// Puts the older segments from one place up to another behind parts, by their names, and tells how many pairs they have.
+/// Puts the older segments from one place up to another behind parts, by their names. No segment is read.
 fn name_stretch<K: Ord, V, N, O: BaseVersion<K, V, N>>(
     parts: &mut Vec<Part<K, V, N>>,
     old: &O,
     from: usize,
     upto: usize,
-) -> Result<usize, AllocError>
+) -> Result<(), AllocError>
     requires ordered { from ≤ upto }
     requires within { upto ≤ length (O.blocks old.now) }
-    ensures named { OnOk result (TakesStretch (O.named old.now) (O.blocks old.now) from upto parts.old.items parts.new.items) }
-    ensures pairs { IfOk result (λ n. n ≡ length (pairs_in (between from upto (O.blocks old.now)))) }
+    ensures { OnOk result (TakesStretch (O.named old.now) (O.blocks old.now) from upto parts.old.items parts.new.items) }
 {
     parts.reserve(upto - from)?;
-    let mut pairs = 0usize;
     for place in from..upto {
-        let Some(more) = pairs.checked_add(old.segment(place).len()) else {
-            return Err(AllocError);
-        };
-        pairs = more;
         parts.push_reserved(Part::Taken(old.name(place)));
     }
-    Ok(pairs)
+    Ok(())
 }
 
 /// Puts clones of the greatest keys of the older segments from one place up to another behind keys: a slice of the
@@ -275,6 +286,7 @@ pub(crate) fn finish<
     requires keys { ClonesAreSame K.is_clone }
     requires values { ClonesAreSame V.is_clone }
     requires whole { IsCutting (O.named old.now) K.cmp S (O.blocks old.now) out }
+    requires counted { out.length ≡ length (given_pairs (O.named old.now) out) }
     ensures cut { IfOk result (λ made. IsCut K.cmp S (blocks_of_parts (O.named old.now) made.parts.items) made.separators.items) }
     ensures list { IfOk result (λ made. pairs_in (blocks_of_parts (O.named old.now) made.parts.items) ≡ given_pairs (O.named old.now) out) }
     ensures length { IfOk result (λ made. made.length ≡ length (pairs_in (blocks_of_parts (O.named old.now) made.parts.items))) }

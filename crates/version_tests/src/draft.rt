@@ -1,9 +1,9 @@
 //! Drafts by example, and against plain lists.
 
-ghost use Rattle.std.specs.Prelude.{◌≡◌, ◌≤◌, [], IfOk, map, slice_get};
+ghost use Rattle.std.specs.Prelude.{◌≡◌, ◌≤◌, [], IfOk, length, map, slice_get};
 ghost use Rattle.std.specs.Option.{option_map_or};
 ghost use Rattle.std.specs.Ordering.{nat_cmp};
-ghost use Rattle.version_views.specs.Cuts.{IsCut};
+ghost use Rattle.version_views.specs.Cuts.{IsCut, pairs_in};
 ghost use Rattle.version_drafts.specs.Parts.{blocks_of_parts, part_pairs};
 
 use local_versions::draft::{BaseVersion, Part, Segments, drafted};
@@ -19,6 +19,8 @@ use tree_index::TreeIndex;
 struct TreeList {
     trees: Vec<TreeIndex<u64, u64>>,
     separators: Vec<u64>,
+    pairs: usize,
+    ghost counted: { pairs ≡ length (pairs_in (map (λ t. t.pairs) trees.items)) },
 }
 
 impl BaseVersion<u64, u64, usize> for TreeList {
@@ -30,6 +32,10 @@ impl BaseVersion<u64, u64, usize> for TreeList {
 
     fn count(&self) -> usize {
         self.trees.len()
+    }
+
+    fn pairs(&self) -> usize {
+        self.pairs
     }
 
     fn segment(&self, place: usize) -> &TreeIndex<u64, u64> {
@@ -61,6 +67,7 @@ fn none<const S: usize>(alloc: Global) -> TreeList
     TreeList {
         trees: Vec::new(alloc),
         separators: Vec::new(alloc),
+        pairs: 0,
     }
 }
 
@@ -70,19 +77,24 @@ fn settled<const S: usize>(
     old: &TreeList,
     made: Segments<u64, u64, usize>,
 ) -> Result<TreeList, AllocError>
-    requires { IsCut nat_cmp S (blocks_of_parts (λ n. option_map_or (λ t. t.pairs) (slice_get old.now.trees.items n) []) made.parts.items) made.separators.items }
+    requires cut { IsCut nat_cmp S (blocks_of_parts (λ n. option_map_or (λ t. t.pairs) (slice_get old.now.trees.items n) []) made.parts.items) made.separators.items }
+    requires counted { made.length ≡ length (pairs_in (blocks_of_parts (λ n. option_map_or (λ t. t.pairs) (slice_get old.now.trees.items n) []) made.parts.items)) }
     ensures { IfOk result (λ k. IsCut nat_cmp S (map (λ t. t.pairs) k.trees.items) k.separators.items) }
 {
     let Segments {
         parts,
         separators,
-        length: _,
+        length,
     } = made;
     let mut trees = Vec::new(alloc);
     for part in parts {
         trees.push(tree_of(alloc, old, part)?)?;
     }
-    Ok(TreeList { trees, separators })
+    Ok(TreeList {
+        trees,
+        separators,
+        pairs: length,
+    })
 }
 
 // The tree of a part.

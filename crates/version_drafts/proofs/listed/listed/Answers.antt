@@ -3,7 +3,7 @@ use Rattle.std.proofs.lemmas.List.{take_all, take_more}
 use Rattle.leaf_array.specs.Pairs.{IsAscending}
 use Rattle.version_views.specs.Cuts.{IsCut, pairs_in}
 use Rattle.version_drafts.specs.Parts.{no_pairs}
-use Rattle.version_drafts.proofs.CuttingLemmas.{cutting_same, given_same}
+use Rattle.version_drafts.proofs.CuttingLemmas.{counts_on, counts_same, cutting_same, given_same}
 use Rattle.version_drafts.proofs.ListedLemmas.{all_new, blocks_new, fewest, none_spent, pair_cloned, rising_taken, spent_same}
 use Rattle.version_drafts.proofs.listed.listed.Goals as goal
 
@@ -13,9 +13,10 @@ loop-pair-init g c =
     let begun = c.in_ok-out.out in
     let out = c.expect.new.out in
     record {
-      whole = cutting_same no_pairs g.row.S begun out e.row e.tail g.K.Ord.cmp [] c.in_ok-out.ensures.whole e.held e.length;
+      whole = cutting_same no_pairs g.row.S begun out e.row e.tail g.K.Ord.cmp [] c.in_ok-out.ensures.whole e.held;
       given = given_same no_pairs g.row.S begun out e.row e.tail ∙ c.in_ok-out.ensures.empty;
       spent = spent_same g.row.S begun out e.row e.tail ∙ none_spent g.row.S begun c.in_ok-out.ensures.none.0;
+      counted = counts_on no_pairs [] 0 begun out c.in_ok-out.ensures.counted (counts_same no_pairs g.row.S begun out e.row e.tail e.length);
     }
 
 pub push-requires-clause-rising : goal.push-requires-clause-rising
@@ -42,7 +43,11 @@ loop-pair-preserved g c =
       whole = e.whole;
       given = e.pairs ∙ ap (λ ps. ps ++ (c.in_ok-clone.field-0, c.in_ok-clone-2.field-0) ∷ []) c.loop-pair.invariant.given ∙ ap (λ p. take i pairs ++ p ∷ []) same ∙ sym (take_more pairs i pair c.loop-pair-test.true);
       spent = e.spent ∙ ap (λ n. n + 1) c.loop-pair.invariant.spent;
+      counted = counts_on no_pairs [] 0 c.loop-pair.out c.push.new.out c.loop-pair.invariant.counted e.counted;
     }
+
+pub finish-requires-clause-counted : goal.finish-requires-clause-counted
+finish-requires-clause-counted g c = omega (arith, c.loop-pair.invariant.counted)
 
 pub returns-clause-cut : goal.returns-clause-cut
 returns-clause-cut g c = λ named.

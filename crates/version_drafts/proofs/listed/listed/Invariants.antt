@@ -1,5 +1,5 @@
 use Rattle.std.proofs.Common.{◌≡◌, take, []}
-use Rattle.version_drafts.specs.Cutting.{IsCutting, given_pairs, room_spent}
+use Rattle.version_drafts.specs.Cutting.{CountsFrom, IsCutting, given_pairs, room_spent}
 use Rattle.version_drafts.specs.Parts.{no_pairs}
 use Rattle.version_drafts.proofs.listed.listed.Given as goal
 
@@ -9,4 +9,5 @@ invariant-loop-pair g l = record {
   whole : IsCutting no_pairs g.K.Ord.cmp g.row.S [] l.out;
   given : given_pairs no_pairs l.out ≡ take l.pair-index l.pairs;
   spent : room_spent g.row.S l.out ≡ l.pair-index;
+  counted : CountsFrom no_pairs [] 0 l.out;
 }

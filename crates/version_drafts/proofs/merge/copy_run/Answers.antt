@@ -6,7 +6,7 @@ use Rattle.version_drafts.specs.Cutting.{given_pairs}
 use Rattle.version_drafts.specs.Gone.{without_gone}
 use Rattle.version_drafts.specs.Parts.{blocks_of_parts}
 use Rattle.version_drafts.specs.declared.segments.SegmentBuilder.{SegmentBuilder}
-use Rattle.version_drafts.proofs.CuttingLemmas.{cutting_run, run_given_behind, spent_run, tail_run}
+use Rattle.version_drafts.proofs.CuttingLemmas.{counts_run, cutting_run, run_given_behind, spent_run, tail_run}
 use Rattle.version_drafts.proofs.MergeLemmas.{taken}
 use Rattle.version_drafts.proofs.RunLemmas.{passed_of, run_filled, run_given, run_reached, run_rises, run_sorted, run_split}
 use Rattle.version_views.specs.Cuts.{pairs_in}
@@ -37,7 +37,7 @@ returns-clause-whole g c =
     let up = run_given g.met.K.Ord.total cs ps rest n passed (given_pairs named out) c.requires.rising in
     let size = length-take n ps in
     let room = c.requires.whole.room in
-    cutting_run c.requires.whole (take n ps) up out' refl refl e.pushed (omega (arith, size, room, e.most, c.len-room.ensures)) (omega (arith, size, e.within, c.in-Some.ensures.1))
+    cutting_run c.requires.whole (take n ps) up out' refl refl e.pushed (omega (arith, size, room, e.most, c.len-room.ensures))
 
 pub returns-clause-list : goal.returns-clause-list
 returns-clause-list g c =
@@ -55,6 +55,22 @@ returns-clause-list g c =
     let size = length-take n ps in
     let split = run_split g.met.K.Ord.total cs ps rest n passed c.push_run.new.self e.passed in
     taken (given_pairs named out) (given_pairs named out') (take n ps) (apply_delta cmp cs (c.push_run.new.self ++ rest)) (apply_delta cmp cs (ps ++ rest)) (run_given_behind c.requires.whole (take n ps) up out' refl refl e.pushed) split
+
+pub returns-clause-counted : goal.returns-clause-counted
+returns-clause-counted g c =
+    let cmp = g.K.Ord.cmp in
+    let named = g.O.BaseVersion.named c.args.old.now in
+    let rest = without_gone cmp c.args.gone.now (pairs_in (drop (c.args.place + 1) (g.O.BaseVersion.blocks c.args.old.now))) in
+    let cs = c.args.changes.now in
+    let ps = c.args.pairs.now in
+    let out = c.args.out.now in
+    let n = c.in_ok-count.count in
+    let e = c.in_ok-count.ensures in
+    let passed = passed_of cmp cs (take n ps) c.key.result c.key.ensures e.below in
+    let out' : SegmentBuilder g.row.K.Denot g.row.V.Denot g.row.N.Denot = record out { tail = c.push_run.new.into; length = c.in-Some.length } in
+    let up = run_given g.met.K.Ord.total cs ps rest n passed (given_pairs named out) c.requires.rising in
+    let size = length-take n ps in
+    counts_run named out out' (take n ps) (run_given_behind c.requires.whole (take n ps) up out' refl refl e.pushed) (omega (arith, size, e.within, c.in-Some.ensures.1))
 
 pub returns-clause-sorted : goal.returns-clause-sorted
 returns-clause-sorted g c =

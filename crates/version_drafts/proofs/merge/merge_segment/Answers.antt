@@ -5,7 +5,7 @@ use Rattle.tree_index.proofs.WayLemmas.{some_same}
 use Rattle.version_drafts.specs.Changes.{apply_delta}
 use Rattle.version_views.specs.Cuts.{pairs_in}
 use Rattle.version_drafts.specs.Cutting.{IsReachedBy, given_pairs}
-use Rattle.version_drafts.proofs.CuttingLemmas.{cutting_same, filled_same, given_same}
+use Rattle.version_drafts.proofs.CuttingLemmas.{counts_on, counts_same, cutting_same, filled_same, given_same}
 use Rattle.version_drafts.proofs.MergeLemmas.{filled_none, filled_then, never_reached}
 use Rattle.version_views.proofs.ChangeScanLemmas.{block_at}
 use Rattle.version_drafts.specs.Gone.{is_gone, without_gone}
@@ -24,16 +24,20 @@ loop-more-init g c =
     let whole : c.new-pairs.result ++ rest ≡ without_gone cmp gone (pairs_in (drop c.args.place blocks)) = ap (λ ps. ps ++ rest) c.new-pairs.ensures ∙ (sym (filter-append (λ p. test p.0) b (pairs_in (drop (c.args.place + 1) blocks))) ∙ ap (without_gone cmp gone) (sym (block_at c.args.place blocks b c.segment.ensures))) in
     let block : (b : List (g.row.K.Denot × g.row.V.Denot)) → Some b ≡ _ → without_gone cmp gone b ≡ c.new-pairs.result = λ b e. ap (without_gone cmp gone) (some_same (e ∙ sym c.segment.ensures)) ∙ sym c.new-pairs.ensures in
     let e = c.in_ok-make_ready.ensures in
+    let e' = c.count_out.ensures in
+    let row = e.row ∙ e'.row in
+    let tail = e.tail ∙ e'.tail in
     let named = g.O.BaseVersion.named c.args.old.now in
     let out = c.make_ready.new.out in
     record {
-      whole = cutting_same named g.row.S c.args.out.now out e.row e.tail cmp blocks c.requires.whole e.held e.length;
-      list = ap (λ ps. given_pairs named out ++ apply_delta cmp c.args.changes.now ps) whole ∙ ap (λ ps. ps ++ apply_delta cmp c.args.changes.now (without_gone cmp gone (pairs_in (drop c.args.place blocks)))) (given_same named g.row.S c.args.out.now out e.row e.tail);
+      whole = cutting_same named g.row.S c.args.out.now out row tail cmp blocks c.requires.whole (e.held ∙ e'.held);
+      list = ap (λ ps. given_pairs named out ++ apply_delta cmp c.args.changes.now ps) whole ∙ ap (λ ps. ps ++ apply_delta cmp c.args.changes.now (without_gone cmp gone (pairs_in (drop c.args.place blocks)))) (given_same named g.row.S c.args.out.now out row tail);
       sorted = subst (IsAscending cmp) (sym whole) (rising_kept cmp test (pairs_in (drop c.args.place blocks)) c.requires.sorted);
-      filled = λ b here. filled_then g.row.S _ _ _ c.args.out.now out out (filled_same named g.row.S c.args.out.now out e.row e.tail _) (filled_none g.row.S _ _ out (let same = ap length (block b here) in omega (arith, same)));
+      filled = λ b here. filled_then g.row.S _ _ _ c.args.out.now out out (filled_same named g.row.S c.args.out.now out row tail _) (filled_none g.row.S _ _ out (let same = ap length (block b here) in omega (arith, same)));
       fewer = omega arith;
       reached = λ b e h. inl (subst (IsReachedBy cmp c.args.changes.now) (block b e) h);
       done = λ e. absurd (false≢true (sym e));
+      counted = counts_on named blocks (c.args.place + 1) c.count_out.new.out out e'.counted (counts_same named g.row.S c.count_out.new.out out e.row e.tail e.length);
     }
 
 pub loop-more-preserved : goal.loop-more-preserved
@@ -54,6 +58,7 @@ loop-more-preserved g c =
         | inr less ↦ let y = e.less in inr (omega (arith, less, y))
       ];
       done = e.done;
+      counted = counts_on (g.O.BaseVersion.named c.args.old.now) (g.O.BaseVersion.blocks c.args.old.now) (c.args.place + 1) c.loop-more.out c.merge_more.new.out i.counted e.counted;
     }
 
 pub loop-more-smaller : goal.loop-more-smaller

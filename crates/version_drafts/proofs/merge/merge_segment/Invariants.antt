@@ -4,7 +4,7 @@ use Rattle.leaf_array.specs.Pairs.{IsAscending}
 use Rattle.version_drafts.specs.Changes.{ahead, apply_delta}
 use Rattle.version_drafts.specs.Gone.{without_gone}
 use Rattle.version_views.specs.Cuts.{pairs_in}
-use Rattle.version_drafts.specs.Cutting.{IsCutting, GivesNoMoreThanRead, IsReachedBy, given_pairs}
+use Rattle.version_drafts.specs.Cutting.{CountsFrom, IsCutting, GivesNoMoreThanRead, IsReachedBy, given_pairs}
 use Rattle.version_drafts.proofs.merge.merge_segment.Given as goal
 
 -- what is given, and what is yet to be merged
@@ -22,6 +22,7 @@ invariant-loop-more g l =
       fewer : length l.changes ≤ length l.fn.changes;
       reached : (b : List (g.row.K.Denot × g.row.V.Denot)) → Some b ≡ slice_get blocks l.place → IsReachedBy cmp l.fn.changes (without_gone cmp l.gone b) → IsReachedBy cmp l.changes l.pairs ⊎ (length l.changes < length l.fn.changes);
       done : l.more ≡ false → l.pairs ≡ [];
+      counted : CountsFrom named blocks (l.place + 1) l.out;
     }
 
 abbrev pub decreases-loop-more : goal.decreases-loop-more

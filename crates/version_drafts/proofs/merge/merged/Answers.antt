@@ -32,6 +32,7 @@ loop-place-init g c =
           behind = λ e z. absurd (false≢true e);
         },
       );
+      counted = c.in_ok-out.ensures.counted;
     }
 
 pub pass-requires-clause-rising : goal.pass-requires-clause-rising
@@ -58,6 +59,7 @@ loop-place-preserved g c =
       whole = e.whole;
       list = subst (λ gs. given_pairs named c.pass.new.out ++ ahead cmp c.pass.new.changes gs next blocks ≡ given_pairs named c.loop-place.out ++ ahead cmp c.loop-place.left gs place blocks) value e.list ∙ i.list;
       thrifty = subst (λ gs. (last : Bool) → IsThrifty g.row.S budget (is_gone cmp gs) last (drop place blocks) (length c.loop-place.left) c.loop-place.out → (last' : Bool) × IsThrifty g.row.S budget (is_gone cmp gs) last' (drop next blocks) (length c.pass.new.changes) c.pass.new.out) value (e.thrifty budget) i.thrifty.0 i.thrifty.1;
+      counted = e.counted;
     }
 
 pub put_all-requires-clause-whole : goal.put_all-requires-clause-whole
@@ -128,6 +130,17 @@ finish-requires-clause-keys g c = c.requires.keys
 
 pub finish-requires-clause-values : goal.finish-requires-clause-values
 finish-requires-clause-values g c = c.requires.values
+
+pub pass-requires-clause-counted : goal.pass-requires-clause-counted
+pass-requires-clause-counted g c = c.loop-place.invariant.counted
+
+-- behind all segments nothing is yet to come
+pub finish-requires-clause-counted : goal.finish-requires-clause-counted
+finish-requires-clause-counted g c =
+    let blocks = g.O.BaseVersion.blocks c.args.old.now in
+    let none = drop_out c.loop-place.place blocks (omega (arith, c.count-count.ensures, c.loop-place-test.false)) in
+    let ahead' = ap (λ bs. length (pairs_in bs)) none in
+    omega (arith, c.loop-place.invariant.counted, c.in_ok-put_all.ensures.counted, ahead')
 
 pub finish-requires-clause-whole : goal.finish-requires-clause-whole
 finish-requires-clause-whole g c = c.in_ok-put_all.ensures.whole

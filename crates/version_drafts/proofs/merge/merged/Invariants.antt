@@ -1,7 +1,7 @@
 use Rattle.std.proofs.Common.{◌≡◌, ◌*◌, ◌-◌, ◌++◌, Bool, drop, length}
 use Rattle.version_drafts.specs.Changes.{ahead, changed, named_by}
 use Rattle.version_views.specs.Cuts.{pairs_in}
-use Rattle.version_drafts.specs.Cutting.{IsCutting, IsThrifty, given_pairs}
+use Rattle.version_drafts.specs.Cutting.{CountsFrom, IsCutting, IsThrifty, given_pairs}
 use Rattle.version_drafts.specs.Gone.{is_gone}
 use Rattle.version_drafts.proofs.merge.merged.Given as goal
 
@@ -16,6 +16,7 @@ invariant-loop-place g l =
       whole : IsCutting named cmp g.row.S blocks l.out;
       list : given_pairs named l.out ++ ahead cmp l.left gone l.place blocks ≡ changed cmp l.changes (pairs_in blocks);
       thrifty : (last : Bool) × IsThrifty g.row.S (2 * named_by l.changes) (is_gone cmp gone) last (drop l.place blocks) (length l.left) l.out;
+      counted : CountsFrom named blocks l.place l.out;
     }
 
 abbrev pub decreases-loop-place : goal.decreases-loop-place

@@ -1,4 +1,4 @@
-use Rattle.std.proofs.Common.{◌≡◌, ◌++◌, ◌+◌, ◌-◌, ◌≤◌, true, false, not, inl, inr, drop, length, slice_get, refl, sym, ap, ◌∙◌, subst, arith}
+use Rattle.std.proofs.Common.{◌≡◌, ◌++◌, ◌+◌, ◌-◌, ◌≤◌, length-append, true, false, not, inl, inr, drop, length, slice_get, refl, sym, ap, ◌∙◌, subst, arith}
 use Rattle.std.proofs.lemmas.Bool.{false≢true, cases_lt}
 use Rattle.std.proofs.lemmas.Bool.Decides.{eqb_tells}
 use Rattle.leaf_array.specs.Pairs.{IsAscending}
@@ -8,12 +8,13 @@ use Rattle.version_views.specs.Cuts.{pairs_in}
 use Rattle.version_drafts.specs.Cutting.{IsPassedBy, IsReachedBy, IsSegmentSized, Joins, between, given_pairs, turn_count}
 use Rattle.version_drafts.specs.Gone.{is_gone, without_gone}
 use Rattle.version_views.proofs.FilterLemmas.{kept_upto, on_test}
+use Rattle.version_drafts.proofs.CuttingLemmas.{cutting_same, given_same}
 use Rattle.version_drafts.proofs.GapLemmas.{all_alike, alike_turns, last_answer, turns_both}
-use Rattle.version_drafts.proofs.MergeLemmas.{all_slice, first_behind, pairs_behind_rise, rising_part, taken, thrifty_joined, thrifty_none, thrifty_paid, thrifty_passed, tight_at}
+use Rattle.version_drafts.proofs.MergeLemmas.{all_slice, first_behind, pairs_behind_rise, rising_part, taken, thrifty_joined, thrifty_none, thrifty_paid, thrifty_passed, thrifty_same, tight_at}
 use Rattle.version_drafts.proofs.RangeLemmas.{without_all, without_any, without_covered}
 use Rattle.version_views.proofs.SeparatorSearchLemmas.{get_some}
 use Rattle.version_views.proofs.ChangeScanLemmas.{block_at}
-use Rattle.version_drafts.proofs.StretchLemmas.{each_from, pairs_between, some_between, stretch_ahead, stretch_turns}
+use Rattle.version_drafts.proofs.StretchLemmas.{each_from, pairs_behind_stretch, pairs_between, some_between, stretch_ahead, stretch_turns}
 use Rattle.version_drafts.proofs.merge.pass.Goals as goal
 
 -- ---- one that is covered
@@ -25,7 +26,15 @@ returns-then-covers-clause-list g c =
     let gone = c.args.gone.now in
     let b = get_some blocks c.args.place c.requires.within in
     let none : without_gone cmp gone (pairs_in (drop c.args.place blocks)) ≡ without_gone cmp gone (pairs_in (drop (c.args.place + 1) blocks)) = ap (without_gone cmp gone) (block_at c.args.place blocks b.0 (sym b.1)) ∙ without_covered cmp gone b.0 (pairs_in (drop (c.args.place + 1) blocks)) (c.if-covers.ensures refl b.0 b.1) in
-    ap (λ ps. given_pairs (g.O.BaseVersion.named c.args.old.now) c.args.out.now ++ apply_delta cmp c.args.changes.now ps) (sym none)
+    let named = g.O.BaseVersion.named c.args.old.now in
+    let e = c.count_out.ensures in
+    let rest = apply_delta cmp c.args.changes.now (without_gone cmp gone (pairs_in (drop (c.args.place + 1) blocks))) in
+    ap (λ ps. ps ++ rest) (given_same named g.row.S c.args.out.now c.count_out.new.out e.row e.tail) ∙ ap (λ ps. given_pairs named c.args.out.now ++ apply_delta cmp c.args.changes.now ps) (sym none)
+
+pub returns-then-covers-clause-whole : goal.returns-then-covers-clause-whole
+returns-then-covers-clause-whole g c =
+    let e = c.count_out.ensures in
+    cutting_same (g.O.BaseVersion.named c.args.old.now) g.row.S c.args.out.now c.count_out.new.out e.row e.tail g.K.Ord.cmp (g.O.BaseVersion.blocks c.args.old.now) c.requires.whole e.held
 
 pub returns-then-covers-clause-thrifty : goal.returns-then-covers-clause-thrifty
 returns-then-covers-clause-thrifty g c = λ budget last t.
@@ -35,7 +44,8 @@ returns-then-covers-clause-thrifty g c = λ budget last t.
     let b = get_some blocks c.args.place c.requires.within in
     let sized = all_slice (IsSegmentSized g.row.S) blocks c.args.place b.0 c.requires.old.sizes b.1 in
     let turned = ap (turn_count (is_gone cmp gone) last) (block_at c.args.place blocks b.0 (sym b.1)) ∙ alike_turns (is_gone cmp gone) last true b.0 (pairs_in (drop (c.args.place + 1) blocks)) sized.0 (c.if-covers.ensures refl b.0 b.1) in
-    (true, thrifty_passed g.row.S budget (length c.args.changes.now) (is_gone cmp gone) last (drop c.args.place blocks) (drop (c.args.place + 1) blocks) c.args.out.now turned t)
+    let e = c.count_out.ensures in
+    (true, thrifty_same g.row.S c.args.out.now c.count_out.new.out e.row e.tail budget (length c.args.changes.now) (is_gone cmp gone) true (drop (c.args.place + 1) blocks) (thrifty_passed g.row.S budget (length c.args.changes.now) (is_gone cmp gone) last (drop c.args.place blocks) (drop (c.args.place + 1) blocks) c.args.out.now turned t))
 
 -- ---- one that is merged
 
@@ -207,9 +217,6 @@ returns-clause-thrifty g c = λ budget last t.
 pub returns-then-covers-clause-behind : goal.returns-then-covers-clause-behind
 returns-then-covers-clause-behind g c = omega arith
 
-pub returns-then-covers-clause-whole : goal.returns-then-covers-clause-whole
-returns-then-covers-clause-whole g c = c.requires.whole
-
 pub touches-requires-clause-old : goal.touches-requires-clause-old
 touches-requires-clause-old g c = c.requires.old
 
@@ -302,3 +309,33 @@ returns-clause-behind g c = omega (arith, c.stretch_end-end.ensures.from)
 
 pub returns-clause-whole : goal.returns-clause-whole
 returns-clause-whole g c = c.in_ok-take_stretch.ensures.whole
+
+-- ---- what is counted
+
+pub returns-then-covers-clause-counted : goal.returns-then-covers-clause-counted
+returns-then-covers-clause-counted g c = c.count_out.ensures.counted
+
+pub merge_segment-requires-clause-counted : goal.merge_segment-requires-clause-counted
+merge_segment-requires-clause-counted g c = c.requires.counted
+
+pub merge_segment-requires-then-joins-clause-counted : goal.merge_segment-requires-then-joins-clause-counted
+merge_segment-requires-then-joins-clause-counted g c = c.requires.counted
+
+pub returns-then-touches-clause-counted : goal.returns-then-touches-clause-counted
+returns-then-touches-clause-counted g c = c.in_ok-merge_segment.ensures.counted
+
+pub returns-then-joins-clause-counted : goal.returns-then-joins-clause-counted
+returns-then-joins-clause-counted g c = c.in_ok-merge_segment-2.ensures.counted
+
+-- the pairs of a stretch were yet to come, and are given
+pub returns-clause-counted : goal.returns-clause-counted
+returns-clause-counted g c =
+    let blocks = g.O.BaseVersion.blocks c.args.old.now in
+    let place = c.args.place in
+    let end = c.stretch_end-end.result in
+    let less = c.stretch_end-end.ensures.from in
+    let stretch = pairs_in (between place end blocks) in
+    let split = ap length (pairs_behind_stretch blocks place end (omega (arith, less))) ∙ length-append stretch (pairs_in (drop end blocks)) in
+    let e = c.in_ok-take_stretch.ensures in
+    let given' = ap length e.pairs ∙ length-append (given_pairs (g.O.BaseVersion.named c.args.old.now) c.args.out.now) stretch in
+    omega (arith, c.requires.counted, e.length, split, given')

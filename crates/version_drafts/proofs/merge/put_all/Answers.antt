@@ -2,7 +2,7 @@ use Rattle.std.proofs.Common.{◌++◌, [], append-nil, drop, length, refl, sym,
 use Rattle.leaf_array.specs.Pairs.{IsAscending}
 use Rattle.version_drafts.specs.Changes.{apply_delta, pair_left}
 use Rattle.version_drafts.specs.Cutting.{given_pairs}
-use Rattle.version_drafts.proofs.CuttingLemmas.{cutting_same, filled_same, given_same}
+use Rattle.version_drafts.proofs.CuttingLemmas.{counts_both, counts_same, cutting_same, filled_same, given_same}
 use Rattle.version_drafts.proofs.MergeLemmas.{filled_then, head_of, length_first, none_of, rest_of_changes, rising_part, taken}
 use Rattle.version_drafts.proofs.merge.put_all.Goals as goal
 
@@ -12,9 +12,10 @@ loop-changed-init g c =
     let out = c.expect.new.out in
     let e = c.in_ok-expect.ensures in
     record {
-      whole = cutting_same named g.row.S c.args.out.now out e.row e.tail g.K.Ord.cmp (g.O.BaseVersion.blocks c.args.old.now) c.requires.whole e.held e.length;
+      whole = cutting_same named g.row.S c.args.out.now out e.row e.tail g.K.Ord.cmp (g.O.BaseVersion.blocks c.args.old.now) c.requires.whole e.held;
       list = ap (λ ps. ps ++ apply_delta g.K.Ord.cmp c.args.changes.now []) (given_same named g.row.S c.args.out.now out e.row e.tail);
       filled = filled_same named g.row.S c.args.out.now out e.row e.tail _;
+      counted = counts_same named g.row.S c.args.out.now out e.row e.tail e.length;
     }
 
 pub put-requires-clause-rising : goal.put-requires-clause-rising
@@ -44,6 +45,7 @@ loop-changed-preserved g c =
       whole = e.whole;
       list = taken (given_pairs named c.loop-changed.out) (given_pairs named c.put.new.out) (pair_left k to) (apply_delta cmp c.step.new.self []) (apply_delta cmp cs []) e.pairs split ∙ i.list;
       filled = filled_then g.row.S _ (length cs) _ _ _ _ i.filled (record { spent = (let x = e.filled.spent in omega (arith, x, long, next)); some = e.filled.some; none = e.filled.none });
+      counted = counts_both named c.args.out.now c.loop-changed.out c.put.new.out i.counted e.counted;
     }
 
 pub returns-clause-list : goal.returns-clause-list

@@ -1,6 +1,6 @@
 use Rattle.std.proofs.Common.{◌≡◌, ◌++◌, [], length}
 use Rattle.version_drafts.specs.Changes.{apply_delta}
-use Rattle.version_drafts.specs.Cutting.{IsCutting, GivesNoMoreThanRead, given_pairs}
+use Rattle.version_drafts.specs.Cutting.{CountsGiven, IsCutting, GivesNoMoreThanRead, given_pairs}
 use Rattle.version_drafts.proofs.merge.put_all.Given as goal
 
 -- what is given, and what is left
@@ -12,6 +12,7 @@ invariant-loop-changed g l =
       whole : IsCutting named cmp g.row.S (g.O.BaseVersion.blocks l.old) l.out;
       list : given_pairs named l.out ++ apply_delta cmp l.changes [] ≡ given_pairs named l.fn.out ++ apply_delta cmp l.fn.changes [];
       filled : GivesNoMoreThanRead g.row.S (length l.fn.changes) (length l.changes) l.fn.out l.out;
+      counted : CountsGiven named l.fn.out l.out;
     }
 
 abbrev pub decreases-loop-changed : goal.decreases-loop-changed

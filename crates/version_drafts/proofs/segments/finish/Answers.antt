@@ -14,4 +14,4 @@ returns-clause-cut g c =
     }
 
 pub returns-clause-length : goal.returns-clause-length
-returns-clause-length g c = c.in_ok-seal.ensures.length ∙ (c.requires.whole.count ∙ ap length (sym c.in_ok-seal.ensures.pairs))
+returns-clause-length g c = c.in_ok-seal.ensures.length ∙ (c.requires.counted ∙ ap length (sym c.in_ok-seal.ensures.pairs))
