@@ -537,7 +537,7 @@ impl<K: Clone + Ord, V: Clone + Eq, const S: usize> LocalIndex<K, V, S> {
         ensures refused { IfErr result (λ back. Refuses K.cmp S self.old prepared.reads writes.items back self.new) }
         ensures short { IfErr result (λ back. back.cause ≡ Cause.NoSlot → self.old.slots < self.old.used + (2 * length writes.items + 1)) }
     {
-        // what is asked here tells the proof that the number is below the last one
+        // what is asked here shows the proof that the number is below the last one
         self.history.laws();
         let Ok(()) = self.history.reserve() else {
             let cause = Cause::Memory;

@@ -44,7 +44,7 @@ module _ {K V : Type 0} (cmp : K → K → Ordering) where
   MayRefuse number last present reads causes.Memory = MayAccept number last present reads
   MayRefuse number last present reads causes.NoSlot = MayAccept number last present reads
 
-  -- the transaction of these reads and writes, told what they are told on the present list
+  -- the transaction of these reads and writes, with the replies that the writes get on the present list
   abbrev pub transaction_on : List (K × V) → List (Read K V) → List (Write K V) → Transaction K V
   transaction_on present reads writes = record { reads = reads; writes = writes; replies = replies_to cmp writes present }
 

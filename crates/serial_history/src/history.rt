@@ -58,7 +58,7 @@ impl<K: Ord, V> History<K, V> {
     pub fn beginning_with(alloc: Global, base: Base<K, V>) -> Self
         ensures { result ≡ record { base = base; transactions = []; last = 18446744073709551615; room = result.room } }
     {
-        // what is asked here tells the proof that the number is a word
+        // what is asked here shows the proof that the number is a word
         let _number = base.number();
         History {
             base,
@@ -88,7 +88,7 @@ impl<K: Ord, V> History<K, V> {
         ensures number { result ≡ latest self.now.base self.now.transactions }
         ensures last { result ≤ self.now.last }
     {
-        // what is read here tells the proof that the number is at most the last one
+        // what is read here shows the proof that the number is at most the last one
         let _last = self.last;
         self.base.number() + self.transactions.len() as u64
     }
@@ -99,7 +99,7 @@ impl<K: Ord, V> History<K, V> {
         ensures number { result ≡ latest self.now.base self.now.transactions + 1 }
         ensures last { result ≤ self.now.last }
     {
-        // what is read here tells the proof that the number is below the last one
+        // what is read here shows the proof that the number is below the last one
         let _last = self.last;
         self.number() + 1
     }
@@ -259,7 +259,7 @@ impl<K: Ord, V> History<K, V> {
         ensures begins { OnOk result (self.new ≡ record self.old { base = base_at K.cmp self.old.base self.old.transactions upto; transactions = history_behind self.old.base self.old.transactions upto; room = self.new.room }) }
         ensures err { OnErr result (self.new ≡ self.old) }
     {
-        // what is asked here tells the proof that the keys rise
+        // what is asked here shows the proof that the keys rise
         let _count = list.len();
         let pairs = pairs_of(alloc, list)?;
         self.rebase(upto, pairs);
@@ -290,7 +290,7 @@ impl<K: Ord, V> History<K, V> {
     }
 
     /// Adds the transaction of these reads and writes, where there is room for it. It takes no memory. Condition: the reads hold
-    /// of the present list, the last number isn't reached, and the writes were told this there.
+    /// of the present list, the last number isn't reached, and these are the replies that the writes get there.
     pub fn push(&mut self, prepared: Prepared<K, V>, writes: Vec<Write<K, V>>, told: &[Reply])
         requires room { 0 < self.old.room }
         requires empty { prepared.replies.items ≡ [] }

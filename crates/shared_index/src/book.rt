@@ -355,7 +355,7 @@ impl<L: Naming, K: Clone + Ord, V: Clone + Eq, const S: usize> Book<L, K, V, S> 
             history,
             ledger,
         } = self;
-        // what is asked here tells the proof that the number is below the last one
+        // what is asked here shows the proof that the number is below the last one
         history.laws();
         let Ok(()) = history.reserve() else {
             let cause = Cause::Memory;

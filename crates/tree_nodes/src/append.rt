@@ -1,4 +1,4 @@
-//! Leaves with their pairs come behind all others, without a way down and without a split.
+//! Leaves that are appended with their pairs, without a descent and without a split.
 
 ghost use Rattle.std.specs.Prelude.{◌≡◌, ◌≢◌, ◌<◌, ◌≤◌, ◌+◌, ◌++◌, IfOk, IfSome, OnOk, length, take, drop};
 ghost use Rattle.leaf_array.specs.Pairs.{IsAscending};
@@ -17,8 +17,8 @@ use slab::Slab;
 use std::alloc::AllocError;
 
 impl<K: Ord, V> Arenas<K, V> {
-    /// Puts clones of pairs of another tree's leaf, from a place on, behind all others, whose keys are lesser: so many of
-    /// them, in a leaf of their own, or the first one alone. It says how many.
+    /// Appends clones of pairs of another tree's leaf, from a place on, whose keys are greater than all here: `count` of them
+    /// in a leaf of their own, or the first one alone. Returns how many.
     pub(crate) fn push_leaf(
         &mut self,
         source: &Leaf<K, V>,
@@ -61,7 +61,7 @@ impl<K: Ord, V> Arenas<K, V> {
         Ok(1)
     }
 
-    /// Plants a first leaf, which has so many pairs, under a first node.
+    /// Plants a first leaf, which has `len` pairs, under a first node.
     pub(crate) fn plant(&mut self, first: usize, len: usize)
         requires room { HasRoomFor self.old.nodes 1 }
         requires lone { IsLone K.cmp self.old.leaves first len }
@@ -108,8 +108,8 @@ impl<K: Ord, V> Arenas<K, V> {
         Ok(Some((root.last, leaf.key(len - 1).clone()?)))
     }
 
-    /// Puts clones of so many pairs of a leaf, from a place on, into a leaf behind the last one, under the root, with the
-    /// separator between both.
+    /// Appends a leaf with clones of `count` pairs of another one, from a place on, under the root, with the separator
+    /// between it and the last one.
     fn append(
         &mut self,
         last: usize,
@@ -144,8 +144,8 @@ impl<K: Ord, V> Arenas<K, V> {
     }
 }
 
-/// Puts a leaf into an arena with clones of so many pairs of another leaf, from a place on, and behind the one that is named. It
-/// gives its number.
+/// Puts a leaf with clones of `count` pairs of another leaf, from a place on, into an arena, behind the leaf `prev`. Returns
+/// its number.
 // The leaf is filled where it stands: a leaf that goes from hand to hand is copied each time.
 #[inline]
 fn insert_run<K: Ord, V>(

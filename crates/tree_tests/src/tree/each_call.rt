@@ -95,7 +95,7 @@ pub(super) fn push_run(tree: &mut Tree, cursor: &mut Iter<'_, u64, u64>, source:
     tree.push_run(cursor, source.len()).is_ok()
 }
 
-/// The same in two runs, of which the first has so many pairs.
+/// The same in two runs, of which the first has `first` pairs.
 pub(super) fn push_runs(
     tree: &mut Tree,
     cursor: &mut Iter<'_, u64, u64>,
