@@ -1,5 +1,5 @@
-//! The runs of `shared_bench` on maps that threads share: threads_driver MAP PAIRS READERS GETS WRITES MILLISECONDS, where
-//! MAP is im, concread or locked. It prints the same words, and with no reader makes so many rounds in one thread.
+//! The runs of `shared_bench` on maps that threads share: threads_driver MAP PAIRS READERS GETS WRITES MILLISECONDS [GAP],
+//! where MAP is im, concread or locked. It prints the same words, and with no reader makes so many rounds in one thread.
 
 use arc_swap::{ArcSwap, Guard};
 use concread::bptree::{BptreeMap, BptreeMapReadTxn};
@@ -149,8 +149,20 @@ fn drawing(pairs: u64, writes: u64, state: &mut u64) -> Vec<(u64, u64)> {
     (0..writes).map(&mut draw).collect()
 }
 
+/// Waits until an instant by looking at the clock over and over, and gives the time at which it was over.
+fn wait_until(due: Instant) -> Instant {
+    loop {
+        let now = Instant::now();
+        if now >= due {
+            return now;
+        }
+    }
+}
+
 fn run<M: Shared>(words: &[u64]) {
-    let [pairs, readers, gets, writes, last] = *words else { panic!("five numbers") };
+    let (words, gap) = words.split_at(5);
+    let [pairs, readers, gets, writes, last] = *words else { panic!("five numbers, and a gap") };
+    let gap = Duration::from_micros(gap.first().copied().unwrap_or(0));
     let map = M::new();
     let most = (pairs / 8).max(1000);
     for from in (0..pairs).step_by(most as usize) {
@@ -187,13 +199,14 @@ fn run<M: Shared>(words: &[u64]) {
                 }
             };
             let threads: Vec<_> = (0..readers).map(|i| scope.spawn(reads(i + 77))).collect();
-            let mut state = 5;
+            let (mut state, mut due) = (5, Instant::now());
             while writes > 0 {
                 let pairs = drawing(pairs, writes, &mut state);
-                let from = Instant::now();
+                let from = wait_until(due);
                 if from >= end {
                     break;
                 }
+                due = from + gap;
                 map.commit(pairs);
                 if from >= begin {
                     times.push(from.elapsed().as_nanos() as u64);

@@ -1,9 +1,10 @@
 //! An index that threads share, read and written over and over: what `bench/threads` measures.
 //!
-//! `shared_bench PAIRS READERS GETS WRITES MILLISECONDS` builds an index of PAIRS pairs. READERS threads then read it by
+//! `shared_bench PAIRS READERS GETS WRITES MILLISECONDS [GAP]` builds an index of PAIRS pairs. READERS threads then read it by
 //! sessions of GETS gets each, beside a thread that commits WRITES upserts at a time, if any. It prints the gets, the sessions,
 //! how many gets found another value than one that belongs to their key, the commits, those that were refused, and
-//! how many nanoseconds half, 99 % and 99.9 % of the commits took at most, each with the reclaim behind it.
+//! how many nanoseconds half, 99 % and 99.9 % of the commits took at most, each with the reclaim behind it. A commit begins
+//! at least GAP microseconds after the one before, if GAP is given.
 //!
 //! With no reader, the last word is a number of rounds, which one thread makes: of sessions, or of commits, if there are
 //! writes. It prints the same, but times no commit and so counts none, and the sum of the values that were got. Without
@@ -73,9 +74,9 @@ fn within(times: &[u64], one_in: usize) -> u64
     times.get(at).copied().unwrap_or(0)
 }
 
-/// The task that five words name.
-fn task_of(words: [Option<u32>; 5]) -> Option<Task> {
-    let [pairs, readers, gets, writes, last] = words;
+/// The task that five words name, and a sixth, if it is there.
+fn task_of(words: [Option<u32>; 6]) -> Option<Task> {
+    let [pairs, readers, gets, writes, last, gap] = words;
     let readers = readers?;
     Some(Task {
         pairs: pairs?,
@@ -87,14 +88,15 @@ fn task_of(words: [Option<u32>; 5]) -> Option<Task> {
         gets: gets?,
         writes: writes?,
         last: last?,
+        gap: gap.unwrap_or(0),
     })
 }
 
-/// Measures the task that five words name.
+/// Measures the task that words name.
 fn measure<R: Threads + Wait + Clock + Sync + Print>(
     rt: &R,
     alloc: Global,
-    words: [Option<u32>; 5],
+    words: [Option<u32>; 6],
 ) -> io::Result<()> {
     let Some(task) = task_of(words) else {
         return Err(io::ErrorKind::InvalidInput.into());
@@ -123,8 +125,8 @@ fn measure<R: Threads + Wait + Clock + Sync + Print>(
 }
 
 /// What three words say of a log.
-fn logged_of(words: [Option<u32>; 5]) -> Option<Logged> {
-    let [pairs, rounds, seed, _, _] = words;
+fn logged_of(words: [Option<u32>; 6]) -> Option<Logged> {
+    let [pairs, rounds, seed, _, _, _] = words;
     Some(Logged {
         pairs: pairs?,
         rounds: rounds?,
@@ -169,7 +171,7 @@ fn show_all<R: Print>(rt: &R, logged: Logged, logs: &Logs, last: u64) -> io::Res
 fn log_turns<R: Threads + Wait + Sync + Print>(
     rt: &R,
     alloc: Global,
-    words: [Option<u32>; 5],
+    words: [Option<u32>; 6],
 ) -> io::Result<()> {
     let Some(logged) = logged_of(words) else {
         return Err(io::ErrorKind::InvalidInput.into());
@@ -193,13 +195,13 @@ fn log_turns<R: Threads + Wait + Sync + Print>(
 }
 
 fn main(rt: HostRuntime) -> io::Result<()> {
-    let mut words = [None, None, None, None, None];
+    let mut words = [None, None, None, None, None, None];
     let mut count = 0;
     let mut is_log = false;
     for word in env::args(&rt)?.skip(1) {
         if word.as_str() == "log" {
             is_log = true;
-        } else if count < 5 {
+        } else if count < 6 {
             words[count] = number(word.as_str());
             count += 1;
         }

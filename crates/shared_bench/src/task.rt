@@ -17,7 +17,7 @@ pub type Index<'d, L> = SharedIndex<'d, L, u64, u64, { WIDTH }>;
 pub type Reader = SharedSession<u64, u64, { WIDTH }>;
 
 /// The pairs of the index, its readers, the gets of a session, the writes of a commit, and milliseconds, or rounds where
-/// there is no reader.
+/// there is no reader. Beside readers a commit begins at least `gap` microseconds after the one before; 0 is no gap.
 #[derive(Clone, Copy)]
 pub struct Task {
     pub pairs: u32,
@@ -25,6 +25,7 @@ pub struct Task {
     pub gets: u32,
     pub writes: u32,
     pub last: u32,
+    pub gap: u32,
 }
 
 /// The number that a word is.

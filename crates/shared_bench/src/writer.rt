@@ -8,7 +8,7 @@ use serial_history::Receipt;
 use shared_index::{Naming, Share};
 use std::alloc::Global;
 use std::sync::Wait;
-use std::time::{Clock, Instant};
+use std::time::{Clock, Duration, Instant};
 use version_views::Write;
 
 /// What a committer did: the nanoseconds of each commit that was accepted, and how many were refused.
@@ -105,6 +105,18 @@ pub fn rounds<L: Naming, R: Wait>(
     accepted
 }
 
+/// Waits until an instant, and gives the time at which it was seen to be over. It looks at the clock over and over, since a
+/// thread that sleeps may wake up late. None where the clock can't be read.
+fn wait_until<R: Clock>(rt: &R, due: Instant) -> Option<Instant> {
+    for _look in 0..u64::MAX {
+        let now = Instant::now(rt).ok()?;
+        if now >= due {
+            return Some(now);
+        }
+    }
+    None
+}
+
 /// Commits until the span ends; those that begin within it are counted.
 pub fn commit_until<L: Naming, R: Wait + Clock>(
     rt: &R,
@@ -117,6 +129,10 @@ pub fn commit_until<L: Naming, R: Wait + Clock>(
     let mut times: Vec<u64> = Vec::new(alloc);
     let mut refused: u64 = 0;
     let mut state: u64 = 5;
+    let gap = Duration::from_micros(u64::from(task.gap));
+    let Ok(mut due) = Instant::now(rt) else {
+        return Commits { times, refused };
+    };
     for _turn in 0..u64::MAX {
         if task.writes == 0 {
             break;
@@ -125,12 +141,13 @@ pub fn commit_until<L: Naming, R: Wait + Clock>(
             break;
         };
         state = behind;
-        let Ok(from) = Instant::now(rt) else {
+        let Some(from) = wait_until(rt, due) else {
             break;
         };
         if from >= span.end {
             break;
         }
+        due = from.checked_add(gap).unwrap_or(span.end);
         let accepted = commit(rt, alloc, index, share, writes);
         let Ok(to) = Instant::now(rt) else {
             break;
