@@ -103,9 +103,15 @@ fn built<V: Versions>(keys: &[u64]) -> V {
     map
 }
 
+/// Some rounds, in a function of its own, so that callgrind can count what it runs, and nothing else.
+#[inline(never)]
+fn rounds_of<V: Versions>(map: &V, probes: &[u64], task: &str, rounds: u32) -> u64 {
+    (0..rounds).fold(0u64, |sum, _| sum.wrapping_add(round(map, probes, task)))
+}
+
 fn peer<V: Versions>(keys: &[u64], probes: &[u64], task: &str, rounds: u32) -> u64 {
     let map = built::<V>(keys);
-    (0..rounds).fold(0u64, |sum, _| sum.wrapping_add(round(&map, probes, task)))
+    rounds_of(&map, probes, task, rounds)
 }
 
 fn run(map: &str, keys: &[u64], probes: &[u64], task: &str, rounds: u32) -> u64 {

@@ -127,7 +127,8 @@ fn run<const S: usize>(
     sum
 }
 
-/// Runs a task some rounds.
+/// Runs a task some rounds. It stays a function of its own, so that what it runs can be counted by itself.
+#[inline(never)]
 fn repeat<const S: usize>(
     index: &mut LocalIndex<u64, u64, S>,
     alloc: Global,
