@@ -22,6 +22,7 @@ pub use Rattle.shared_sessions.specs.Openings
 pub use Rattle.shared_versions.specs.Readers
 pub use Rattle.serial_history.specs.Serial
 pub use Rattle.serial_history.specs.Answers
+pub use Rattle.serial_history.specs.Histories
 pub use Rattle.serial_history.specs.Parts
 pub use Rattle.serial_history.specs.RemainingPairs
 pub use Rattle.local_index.specs.Store
