@@ -171,6 +171,12 @@ apart m n d = split (eqb_tells m n)
     split (inl e) = absurd (d e.1)
     split (inr e) = e.0
 
+-- arenas with these pairs behind the others
+pub record HasMore {K V : Type 0} (cmp : K → K → Ordering) (a b : Arenas K V) (ps : List (K × V)) : Type 0 where
+  pub sound : IsSound cmp b
+  pub pairs : pairs_of b ≡ pairs_of a ++ ps
+  pub headroom : ascending_headroom cmp a ≤ ascending_headroom cmp b + length ps
+
 module _ {K V : Type 0} (cmp : K → K → Ordering) (o : IsTotalOrder cmp) (a : Arenas K V) (s : IsSound cmp a) (last : ℕ) (sep : K) (f : IsFullLast a last sep) where
   abbrev c : ArenaContent K V
   c = content_of a
@@ -251,7 +257,7 @@ module _ {K V : Type 0} (cmp : K → K → Ordering) (o : IsTotalOrder cmp) (a :
     rising : IsAscending cmp m.array.pairs
     rising = back_rising cmp o (pairs_of a) m.array.pairs up
 
-    pub done_pairs : pairs_of done ≡ pairs_of a ++ m.array.pairs
+    done_pairs : pairs_of done ≡ pairs_of a ++ m.array.pairs
     done_pairs =
         ap (λ (n : ℕ). pairs_under b n a.root) f.flat
         ∙ pairs_more o c last sep f.leaf.array last_was f.some f.key b fresh m.array absent fresh_is others is.thawed rising above a.root f.root.children node.children root_was root_is separators is_node stands
@@ -287,14 +293,14 @@ module _ {K V : Type 0} (cmp : K → K → Ordering) (o : IsTotalOrder cmp) (a :
         (subst (λ ns. times fresh ns ≡ 0) order_was.1 none)
         (subst (λ ns. IsLinked (leaf_links a.leaves) None ns None) order_was.1 (s.linked planted)))
 
-    pub done_sound : IsSound cmp done
+    done_sound : IsSound cmp done
     done_sound = record {
       stands = inr (planted, subst (λ (n : ℕ). Stands cmp b n a.root) (sym f.flat) (stands_more o c last sep f.leaf.array last_was f.some f.key b fresh m.array absent fresh_is others is.thawed rising above a.root f.root.children node.children root_was root_is separators is_node stands));
       linked = λ h. done_linked;
       count = (let both : length (pairs_of a ++ m.array.pairs) ≡ length (pairs_of a) + length m.array.pairs = simp length-append refl in counted ∙ ap (λ (n : ℕ). n + length m.array.pairs) s.count ∙ sym (ap length done_pairs ∙ both));
     }
 
-    pub done_headroom : ascending_headroom cmp a ≤ ascending_headroom cmp done + length m.array.pairs
+    done_headroom : ascending_headroom cmp a ≤ ascending_headroom cmp done + length m.array.pairs
     done_headroom =
         headroom_less a.height (root_room cmp a) (root_room cmp done) (length m.array.pairs) (λ flat.
         by_root cmp a (λ r. r ≤ root_room cmp done + length m.array.pairs) (omega arith) (λ t there reached.
@@ -311,6 +317,9 @@ module _ {K V : Type 0} (cmp : K → K → Ordering) (o : IsTotalOrder cmp) (a :
         let fresh_room : leaf_room (get linked node.last) ≡ 15 - length m.array.pairs = ap (λ (k : ℕ). leaf_room (get linked k)) node_last ∙ room_of (get linked fresh) m.array fresh_is ∙ ap (λ (k : ℕ). 15 - k) is.packed in
         let least = f.room in
         omega (arith, room, used, packed, old_used, none, fresh_room, least)))
+
+    pub done_more : HasMore cmp a done m.array.pairs
+    done_more = record { sound = done_sound; pairs = done_pairs; headroom = done_headroom }
 
 -- the first pair of a run that comes behind others
 module _ {K V : Type 0} {cmp : K → K → Ordering} (o : IsTotalOrder cmp) (base ps : List (K × V)) (from count : ℕ) (p : K × V) (there : slice_get ps from ≡ Some p) where

@@ -24,13 +24,13 @@ use Rattle.tree_nodes.specs.Shape.{IsWithin, AllKeys, way, leaf_pairs, pairs_und
 use Rattle.tree_nodes.specs.Chain.{leaf_links, IsLinked}
 use Rattle.tree_nodes.proofs.ChainLemmas.{linked_kept}
 use Rattle.tree_nodes.proofs.LinkLemmas.{links_kept}
-use Rattle.tree_nodes.specs.Content.{content_of, pairs_of, leaves_of, HasNoTree, IsSound}
+use Rattle.tree_nodes.specs.Content.{content_of, pairs_of, leaves_of, leaf_on_way, HasNoTree, IsSound}
 use Rattle.tree_nodes.proofs.WayLemmas.{around, leaf_thawed, lookup_way, leaf_there, Written, written, upserted_middle, removed_middle, has_middle}
 use Rattle.tree_nodes.proofs.ShapeLemmas.{all_append}
 
 module _ {K V : Type 0} (cmp : K → K → Ordering) (o : IsTotalOrder cmp) (key : K) (a : Arenas K V) where
   abbrev pub on_way : ℕ
-  on_way = way cmp (content_of a) key a.height a.root
+  on_way = leaf_on_way cmp key a
 
   array_at : (n : ℕ) (l : Option (Leaf K V)) → get a.leaves n ≡ l → (content_of a).leaf n ≡ option_map (λ l. l.array) l
   array_at n l h = ap (option_map (λ (l : Leaf K V). l.array)) h
@@ -120,83 +120,65 @@ middle_length front old new back len h =
     let b : length (front ++ (new ++ back)) ≡ length front + (length new + length back) = simp length-append in
     (omega (arith, h, a), omega (arith, h, a, b))
 
-module _ {K V : Type 0} (cmp : K → K → Ordering) (o : IsTotalOrder cmp) (key : K) (a : Arenas K V) (s : IsSound cmp a) (n : ℕ) (on : n ≡ on_way cmp o key a) (l : Leaf K V) (here : get a.leaves n ≡ Some l) where
-  here_on_way : get a.leaves (on_way cmp o key a) ≡ Some l
-  here_on_way = rw (sym on) here
+-- the leaf that the way to a key leads to, in sound arenas
+pub record IsOnWay {K V : Type 0} (cmp : K → K → Ordering) (key : K) (a : Arenas K V) (n : ℕ) (l : Leaf K V) : Type 0 where
+  pub total : IsTotalOrder cmp
+  pub sound : IsSound cmp a
+  pub on : n ≡ leaf_on_way cmp key a
+  pub here : get a.leaves n ≡ Some l
 
-  -- another leaf in the place of the one on the way
-  abbrev pub with_leaf : Leaf K V → ℕ → Arenas K V
-  with_leaf m len = record { leaves = with_value a.leaves n m; nodes = a.nodes; root = a.root; height = a.height; len = len }
+-- another leaf in the place of one
+abbrev pub with_leaf : {K V : Type 0} → Arenas K V → ℕ → Leaf K V → ℕ → Arenas K V
+with_leaf a n m len = record { leaves = with_value a.leaves n m; nodes = a.nodes; root = a.root; height = a.height; len = len }
+
+module _ {K V : Type 0} {cmp : K → K → Ordering} {key : K} {a : Arenas K V} {n : ℕ} {l : Leaf K V} (t : IsOnWay cmp key a n l) where
+  here_on_way : get a.leaves (leaf_on_way cmp key a) ≡ Some l
+  here_on_way = rw (sym t.on) t.here
+
+  tree : (a.height ≢ 0) × Stands cmp (content_of a) a.height a.root
+  tree = stands_with cmp t.total key a l here_on_way t.sound
+
+  array_here : (content_of a).leaf (leaf_on_way cmp key a) ≡ Some l.array
+  array_here = array_at cmp t.total key a (leaf_on_way cmp key a) (Some l) here_on_way
 
   abbrev pub Rewritten : Leaf K V → ℕ → Type 0
-  Rewritten m len = Written cmp o key (content_of a) (content_of (with_leaf m len)) a.height a.height a.root l.array m.array
+  Rewritten m len = Written cmp t.total key (content_of a) (content_of (with_leaf a n m len)) a.height a.height a.root l.array m.array
 
   pub rewritten : (m : Leaf K V) (len : ℕ) → m.array.frozen ≡ false → IsAscending cmp m.array.pairs
       → ((low high : Option K) → IsWithin cmp low high key → AllKeys (IsWithin cmp low high) l.array.pairs → AllKeys (IsWithin cmp low high) m.array.pairs)
       → Rewritten m len
   rewritten m len thawed rising keys =
-      let u = Updates-with_value a.leaves n m (rw here refl) in
+      let u = Updates-with_value a.leaves n m (rw t.here refl) in
       let array : Option (Leaf K V) → Option (Cells K V) = option_map (λ (l : Leaf K V). l.array) in
-      let there : array (get (with_value a.leaves n m) (on_way cmp o key a)) ≡ Some m.array = subst (λ (k : ℕ). array (get (with_value a.leaves n m) k) ≡ Some m.array) on (ap array u.changed) in
-      written cmp o key (content_of a) (content_of (with_leaf m len)) a.height a.root l.array m.array
-      (stands_with cmp o key a l here_on_way s).1
-      (array_at cmp o key a (on_way cmp o key a) (Some l) here_on_way)
-      there
-      (λ k d. ap array (u.others k (λ e. d (e ∙ on))))
-      (λ k. refl)
-      thawed rising keys
+      let there : array (get (with_value a.leaves n m) (leaf_on_way cmp key a)) ≡ Some m.array = subst (λ (k : ℕ). array (get (with_value a.leaves n m) k) ≡ Some m.array) t.on (ap array u.changed) in
+      written cmp t.total key (content_of a) (content_of (with_leaf a n m len)) a.height a.root l.array m.array tree.1 array_here there
+      (λ k d. ap array (u.others k (λ e. d (e ∙ t.on)))) (λ k. refl) thawed rising keys
 
-  still_linked : (m : Leaf K V) (len : ℕ) → m.prev ≡ l.prev → m.next ≡ l.next → Rewritten m len → a.height ≢ 0 → IsLinked (leaf_links (with_value a.leaves n m)) None (leaves_of (with_leaf m len)) None
+  still_linked : (m : Leaf K V) (len : ℕ) → m.prev ≡ l.prev → m.next ≡ l.next → Rewritten m len → a.height ≢ 0 → IsLinked (leaf_links (with_value a.leaves n m)) None (leaves_of (with_leaf a n m len)) None
   still_linked m len p q w h =
-      subst (λ ns. IsLinked (leaf_links (with_value a.leaves n m)) None ns None) (sym w.order) (linked_kept (leaf_links a.leaves) (leaf_links (with_value a.leaves n m)) None (leaves_of a) None (λ k d. links_kept a.leaves n l m here p q k) (s.linked h))
+      subst (λ ns. IsLinked (leaf_links (with_value a.leaves n m)) None ns None) (sym w.order) (linked_kept (leaf_links a.leaves) (leaf_links (with_value a.leaves n m)) None (leaves_of a) None (λ k d. links_kept a.leaves n l m t.here p q k) (t.sound.linked h))
 
-  pub still_sound : (m : Leaf K V) (before after : ℕ) → m.prev ≡ l.prev → m.next ≡ l.next → before ≡ length l.array.pairs → after ≡ length m.array.pairs → Rewritten m (a.len - before + after) → IsSound cmp (with_leaf m (a.len - before + after))
+  pub still_sound : (m : Leaf K V) (before after : ℕ) → m.prev ≡ l.prev → m.next ≡ l.next → before ≡ length l.array.pairs → after ≡ length m.array.pairs → Rewritten m (a.len - before + after) → IsSound cmp (with_leaf a n m (a.len - before + after))
   still_sound m before after p q b f w =
-      let t = (middle_length w.front l.array.pairs m.array.pairs w.back a.len (s.count ∙ ap length w.old)).1 in
+      let more = (middle_length w.front l.array.pairs m.array.pairs w.back a.len (t.sound.count ∙ ap length w.old)).1 in
       record {
-        stands = inr ((stands_with cmp o key a l here_on_way s).0, w.stands);
+        stands = inr (tree.0, w.stands);
         linked = still_linked m (a.len - before + after) p q w;
-        count = rw (b, f) (t ∙ sym (ap length w.new));
+        count = rw (b, f) (more ∙ sym (ap length w.new));
       }
 
   pub thawed_on_way : l.array.frozen ≡ false
-  thawed_on_way = leaf_thawed cmp o key (content_of a) a.height a.root l.array (stands_with cmp o key a l here_on_way s).1.tree (array_at cmp o key a (on_way cmp o key a) (Some l) here_on_way)
+  thawed_on_way = leaf_thawed cmp t.total key (content_of a) a.height a.root l.array tree.1.tree array_here
 
   -- the leaf's pairs are counted
   pub leaf_counted : length l.array.pairs ≤ a.len
   leaf_counted =
-      let r = around cmp o key (content_of a) a.height a.root l.array (stands_with cmp o key a l here_on_way s).1.tree (array_at cmp o key a (on_way cmp o key a) (Some l) here_on_way) in
-      (middle_length r.front l.array.pairs l.array.pairs r.back a.len (s.count ∙ ap length r.pairs)).0
+      let r = around cmp t.total key (content_of a) a.height a.root l.array tree.1.tree array_here in
+      (middle_length r.front l.array.pairs l.array.pairs r.back a.len (t.sound.count ∙ ap length r.pairs)).0
 
   pub put_written : (val : V) (m : Leaf K V) (len : ℕ) → IsPut cmp key val l.array.pairs m.array.pairs → m.array.frozen ≡ false → IsAscending cmp m.array.pairs → Rewritten m len
   put_written val m len put thawed rising =
       rewritten m len thawed rising (λ low high within all. put_keys cmp key val (IsWithin cmp low high) l.array.pairs m.array.pairs put within all)
-
-  pub has_written : (m : Leaf K V) (len : ℕ) → Rewritten m len → has_key cmp key (pairs_of a) ≡ has_key cmp key l.array.pairs
-  has_written m len w = ap (has_key cmp key) w.old ∙ has_middle cmp o key w.front w.back w.before w.behind l.array.pairs
-
-  pub upserted_written : (m : Leaf K V) (len : ℕ) → Rewritten m len → (val : V) → m.array.pairs ≡ upserted cmp key val l.array.pairs → pairs_of (with_leaf m len) ≡ upserted cmp key val (pairs_of a)
-  upserted_written m len w val p = w.new ∙ ap (λ ps. w.front ++ (ps ++ w.back)) p ∙ sym (upserted_middle cmp o key w.front w.back w.before w.behind val l.array.pairs) ∙ sym (ap (upserted cmp key val) w.old)
-
-  pub removed_written : (m : Leaf K V) (len : ℕ) → Rewritten m len → m.array.pairs ≡ removed cmp key l.array.pairs → pairs_of (with_leaf m len) ≡ removed cmp key (pairs_of a)
-  removed_written m len w p = w.new ∙ ap (λ ps. w.front ++ (ps ++ w.back)) p ∙ sym (removed_middle cmp o key w.front w.back w.before w.behind l.array.pairs) ∙ sym (ap (removed cmp key) w.old)
-
-  pub kept_written : (m : Leaf K V) (len : ℕ) → Rewritten m len → m.array.pairs ≡ l.array.pairs → pairs_of (with_leaf m len) ≡ pairs_of a
-  kept_written m len w p = w.new ∙ ap (λ ps. w.front ++ (ps ++ w.back)) p ∙ sym w.old
-
-  -- a leaf with the same pairs in the place of the one on the way
-  pub same_sound : (m : Leaf K V) → m.prev ≡ l.prev → m.next ≡ l.next → Rewritten m a.len → m.array.pairs ≡ l.array.pairs → IsSound cmp (with_leaf m a.len)
-  same_sound m q r w p = record {
-    stands = inr ((stands_with cmp o key a l here_on_way s).0, w.stands);
-    linked = still_linked m a.len q r w;
-    count = s.count ∙ sym (ap length (kept_written m a.len w p));
-  }
-
-  -- it stands on the way
-  pub written_there : (m : Leaf K V) (len : ℕ) → Rewritten m len → get (with_value a.leaves n m) (way cmp (content_of (with_leaf m len)) key a.height a.root) ≡ Some m
-  written_there m len w =
-      let u = Updates-with_value a.leaves n m (rw here refl) in
-      ap (get (with_value a.leaves n m)) (w.same_way ∙ sym on) ∙ u.changed
 
   -- a leaf with fewer pairs in the place of the one on the way
   pub taken_written : (m : Leaf K V) (len : ℕ) → (m.array.pairs ≡ removed cmp key l.array.pairs) ⊎ (m.array.pairs ≡ l.array.pairs) → m.array.frozen ≡ false → IsAscending cmp m.array.pairs → Rewritten m len
@@ -207,7 +189,33 @@ module _ {K V : Type 0} (cmp : K → K → Ordering) (o : IsTotalOrder cmp) (key
       keys low high all (inr p) = subst (AllKeys (IsWithin cmp low high)) (sym p) all
 
   pub lookup_written : lookup_entry (is_at (cmp key)) (pairs_of a) ≡ lookup_entry (is_at (cmp key)) l.array.pairs
-  lookup_written = lookup_sound cmp o key a l here_on_way s
+  lookup_written = lookup_sound cmp t.total key a l here_on_way t.sound
+
+  -- what a rewritten leaf leaves of the pairs, and of the arenas
+  module _ (m : Leaf K V) (len : ℕ) (w : Rewritten m len) where
+    pub has_written : has_key cmp key (pairs_of a) ≡ has_key cmp key l.array.pairs
+    has_written = ap (has_key cmp key) w.old ∙ has_middle cmp t.total key w.front w.back w.before w.behind l.array.pairs
+
+    pub upserted_written : (val : V) → m.array.pairs ≡ upserted cmp key val l.array.pairs → pairs_of (with_leaf a n m len) ≡ upserted cmp key val (pairs_of a)
+    upserted_written val p = w.new ∙ ap (λ ps. w.front ++ (ps ++ w.back)) p ∙ sym (upserted_middle cmp t.total key w.front w.back w.before w.behind val l.array.pairs) ∙ sym (ap (upserted cmp key val) w.old)
+
+    pub removed_written : m.array.pairs ≡ removed cmp key l.array.pairs → pairs_of (with_leaf a n m len) ≡ removed cmp key (pairs_of a)
+    removed_written p = w.new ∙ ap (λ ps. w.front ++ (ps ++ w.back)) p ∙ sym (removed_middle cmp t.total key w.front w.back w.before w.behind l.array.pairs) ∙ sym (ap (removed cmp key) w.old)
+
+    pub kept_written : m.array.pairs ≡ l.array.pairs → pairs_of (with_leaf a n m len) ≡ pairs_of a
+    kept_written p = w.new ∙ ap (λ ps. w.front ++ (ps ++ w.back)) p ∙ sym w.old
+
+    -- it stands on the way
+    pub written_there : get (with_value a.leaves n m) (way cmp (content_of (with_leaf a n m len)) key a.height a.root) ≡ Some m
+    written_there = ap (get (with_value a.leaves n m)) (w.same_way ∙ sym t.on) ∙ (Updates-with_value a.leaves n m (rw t.here refl)).changed
+
+  -- a leaf with the same pairs in the place of the one on the way
+  pub same_sound : (m : Leaf K V) → m.prev ≡ l.prev → m.next ≡ l.next → Rewritten m a.len → m.array.pairs ≡ l.array.pairs → IsSound cmp (with_leaf a n m a.len)
+  same_sound m q r w p = record {
+    stands = inr (tree.0, w.stands);
+    linked = still_linked m a.len q r w;
+    count = t.sound.count ∙ sym (ap length (kept_written m a.len w p));
+  }
 
 -- what a removal leaves
 pub taken_of : {X : Type 0} (answer : Bool) (old new less : X) → (answer ≡ true → new ≡ less) → (answer ≡ false → new ≡ old) → (new ≡ less) ⊎ (new ≡ old)

@@ -42,7 +42,7 @@ lesser_most cmp key (e ∷ es) =
     ]
 
 -- what letting go of the child on the way leaves
-pub shed_done : {K : Type 0} (cmp : K → K → Ordering) (key : K) (old new : InnerNode K) (place : ℕ) → place ≡ lesser cmp key old.children.pairs → old.children.pairs ≢ []
+shed_done : {K : Type 0} (cmp : K → K → Ordering) (key : K) (old new : InnerNode K) (place : ℕ) → place ≡ lesser cmp key old.children.pairs → old.children.pairs ≢ []
     → (place < length old.children.pairs → (new.children.pairs ≡ remove old.children.pairs place) × (new.last ≡ old.last))
     → (place ≡ length old.children.pairs → (new.children.pairs ≡ take (length old.children.pairs - 1) old.children.pairs) × IfSome (slice_get old.children.pairs (length old.children.pairs - 1)) (λ e. new.last ≡ e.1))
     → shed cmp key old.children.pairs old.last ≡ Some (new.children.pairs, new.last)
@@ -71,8 +71,17 @@ shed_done {K} cmp key old new place on more inside outside = split (by_place pla
         ∙ ap (λ (n : ℕ). Some (remove old.children.pairs n, old.last)) (sym on) ∙ sym (rw ((inside lt).0, (inside lt).1) refl)
     split (inr eq) = end old.children.pairs refl eq
 
-module _ {K V : Type 0} (cmp : K → K → Ordering) (o : IsTotalOrder cmp) (key : K) (a : Arenas K V) (s : IsSound cmp a) (f : Fork) (fork : IsFork cmp key a f) (leaf : ℕ) (on_leaf : leaf ≡ leaf_on_way cmp key a)
-    (gone : Leaf K V) (here : get a.leaves leaf ≡ Some gone) (old : InnerNode K) (old_there : get a.nodes f.node ≡ Some old) where
+-- a fork above the leaf on the way to a key, with the leaf and the node
+pub record IsForkOver {K V : Type 0} (cmp : K → K → Ordering) (a : Arenas K V) (f : Fork) (leaf : ℕ) (gone : Leaf K V) (old : InnerNode K) : Type 0 where
+  pub total : IsTotalOrder cmp
+  pub sound : IsSound cmp a
+  pub key : K
+  pub fork : IsFork cmp key a f
+  pub on : leaf ≡ leaf_on_way cmp key a
+  pub here : get a.leaves leaf ≡ Some gone
+  pub there : get a.nodes f.node ≡ Some old
+
+module _ {K V : Type 0} {cmp : K → K → Ordering} {a : Arenas K V} {f : Fork} {leaf : ℕ} {gone : Leaf K V} {old : InnerNode K} (t : IsForkOver cmp a f leaf gone old) where
   abbrev c : ArenaContent K V
   c = content_of a
 
@@ -83,43 +92,43 @@ module _ {K V : Type 0} (cmp : K → K → Ordering) (o : IsTotalOrder cmp) (key
   steps = a.height - suc left
 
   planted_ : a.height ≢ 0
-  planted_ e = omega (arith, e, fork.above)
+  planted_ e = omega (arith, e, t.fork.above)
 
   height_is : over steps (suc left) ≡ a.height
-  height_is = omega (arith, over_is steps (suc left), fork.above)
+  height_is = omega (arith, over_is steps (suc left), t.fork.above)
 
   abbrev stands : Stands cmp c (over steps (suc left)) a.root
-  stands = subst (λ (n : ℕ). Stands cmp c n a.root) (sym height_is) (planted cmp o key a s planted_)
+  stands = subst (λ (n : ℕ). Stands cmp c n a.root) (sym height_is) (planted cmp t.total t.key a t.sound planted_)
 
-  abbrev up : Focus cmp c key (suc left) steps a.root None None
-  up = outer cmp o c key left steps a.root stands
+  abbrev up : Focus cmp c t.key (suc left) steps a.root None None
+  up = outer cmp t.total c t.key left steps a.root stands
 
-  abbrev at_up : Turn cmp c key left up.tree.0.0.pairs up.tree.0.1 up.from up.upto
-  at_up = inner cmp o c key left steps a.root stands
+  abbrev at_up : Turn cmp c t.key left up.tree.0.0.pairs up.tree.0.1 up.from up.upto
+  at_up = inner cmp t.total c t.key left steps a.root stands
 
   parent_is : up.tree.0 ≡ (old.children, old.last)
-  parent_is = some_same (sym up.tree.1 ∙ ap c.node (sym fork.on) ∙ node_content cmp o key a f.node (Some old) old_there)
+  parent_is = some_same (sym up.tree.1 ∙ ap c.node (sym t.fork.on) ∙ node_content cmp t.total t.key a f.node (Some old) t.there)
 
-  node_is : fork.node ≡ old
-  node_is = some_same (sym fork.there ∙ old_there)
+  node_is : t.fork.node ≡ old
+  node_is = some_same (sym t.fork.there ∙ t.there)
 
   pub old_node : IsNode old.children
   old_node = subst (λ (x : Cells K ℕ × ℕ). IsNode x.0) parent_is up.tree.2
 
-  pub more : old.children.pairs ≢ []
-  more = subst (λ (n : InnerNode K). n.children.pairs ≢ []) node_is fork.more
+  more : old.children.pairs ≢ []
+  more = subst (λ (n : InnerNode K). n.children.pairs ≢ []) node_is t.fork.more
 
-  pub place_is : f.place ≡ lesser cmp key old.children.pairs
-  place_is = subst (λ (n : InnerNode K). f.place ≡ lesser cmp key n.children.pairs) node_is fork.place
+  place_is : f.place ≡ lesser cmp t.key old.children.pairs
+  place_is = subst (λ (n : InnerNode K). f.place ≡ lesser cmp t.key n.children.pairs) node_is t.fork.place
 
   pub place_most : f.place ≤ length old.children.pairs
-  place_most = subst (λ (n : ℕ). n ≤ length old.children.pairs) (sym place_is) (lesser_most cmp key old.children.pairs)
+  place_most = subst (λ (n : ℕ). n ≤ length old.children.pairs) (sym place_is) (lesser_most cmp t.key old.children.pairs)
 
-  kid_is : f.child ≡ kid cmp o c key left steps a.root stands
-  kid_is = subst (λ (n : InnerNode K). f.child ≡ child_for cmp key n.children.pairs n.last) node_is fork.child ∙ sym (ap (λ (x : Cells K ℕ × ℕ). child_for cmp key x.0.pairs x.1) parent_is)
+  kid_is : f.child ≡ kid cmp t.total c t.key left steps a.root stands
+  kid_is = subst (λ (n : InnerNode K). f.child ≡ child_for cmp t.key n.children.pairs n.last) node_is t.fork.child ∙ sym (ap (λ (x : Cells K ℕ × ℕ). child_for cmp t.key x.0.pairs x.1) parent_is)
 
-  single : IsSingle c left (kid cmp o c key left steps a.root stands) leaf
-  single = subst (λ (n : ℕ). IsSingle c left n leaf) kid_is (subst (IsSingle c left f.child) (sym on_leaf) fork.single)
+  single : IsSingle c left (kid cmp t.total c t.key left steps a.root stands) leaf
+  single = subst (λ (n : ℕ). IsSingle c left n leaf) kid_is (subst (IsSingle c left f.child) (sym t.on) t.fork.single)
 
   abbrev lefts : List ℕ
   lefts = up.lefts ++ at_up.lefts
@@ -134,24 +143,27 @@ module _ {K V : Type 0} (cmp : K → K → Ordering) (o : IsTotalOrder cmp) (key
   back = at_up.back ++ up.back
 
   old_order : leaves_of a ≡ lefts ++ leaf ∷ rights
-  old_order = subst (λ (n : ℕ). leaves_under c n a.root ≡ lefts ++ leaf ∷ rights) height_is (order_total cmp o c key left steps a.root stands ∙ ap (λ ns. lefts ++ ns ++ rights) (single_leaves c left (kid cmp o c key left steps a.root stands) leaf single) ∙ simp append_assoc)
+  old_order = subst (λ (n : ℕ). leaves_under c n a.root ≡ lefts ++ leaf ∷ rights) height_is (order_total cmp t.total c t.key left steps a.root stands ∙ ap (λ ns. lefts ++ ns ++ rights) (single_leaves c left (kid cmp t.total c t.key left steps a.root stands) leaf single) ∙ simp append_assoc)
 
   old_held : pairs_in_leaf a leaf ≡ gone.array.pairs
-  old_held = ap leaf_pairs (leaf_content cmp o key a leaf (Some gone) here)
+  old_held = ap leaf_pairs (leaf_content cmp t.total t.key a leaf (Some gone) t.here)
 
   old_pairs : pairs_of a ≡ front ++ (pairs_in_leaf a leaf ++ back)
   old_pairs =
       subst (λ (n : ℕ). pairs_under c n a.root ≡ front ++ (pairs_in_leaf a leaf ++ back)) height_is (
       (up.rebuilt c (record { leaf = λ n d. refl; node = λ n d. refl }) up.tree).pairs
-      ∙ ap (λ ps. up.front ++ ps ++ up.back) (pairs_total cmp o c key left steps a.root stands ∙ ap (λ ps. at_up.front ++ ps ++ at_up.back) (single_pairs c left (kid cmp o c key left steps a.root stands) leaf single))
+      ∙ ap (λ ps. up.front ++ ps ++ up.back) (pairs_total cmp t.total c t.key left steps a.root stands ∙ ap (λ ps. at_up.front ++ ps ++ at_up.back) (single_pairs c left (kid cmp t.total c t.key left steps a.root stands) leaf single))
       ∙ simp append_assoc
       )
 
   -- its pairs are counted
   pub gone_counted : length gone.array.pairs ≤ a.len
-  gone_counted = (middle_length front gone.array.pairs [] back a.len (s.count ∙ ap length old_pairs ∙ ap (λ ps. length (front ++ (ps ++ back))) old_held)).0
+  gone_counted = (middle_length front gone.array.pairs [] back a.len (t.sound.count ∙ ap length old_pairs ∙ ap (λ ps. length (front ++ (ps ++ back))) old_held)).0
 
-  module _ (new : InnerNode K) (new_node : IsNode new.children) (rest : shed cmp key old.children.pairs old.last ≡ Some (new.children.pairs, new.last)) (linked : Slab (Leaf K V)) (arrays : AreSameArrays a.leaves linked)
+  module _ (new : InnerNode K) (new_node : IsNode new.children)
+      (inside : f.place < length old.children.pairs → (new.children.pairs ≡ remove old.children.pairs f.place) × (new.last ≡ old.last))
+      (outside : f.place ≡ length old.children.pairs → (new.children.pairs ≡ take (length old.children.pairs - 1) old.children.pairs) × IfSome (slice_get old.children.pairs (length old.children.pairs - 1)) (λ e. new.last ≡ e.1))
+      (linked : Slab (Leaf K V)) (arrays : AreSameArrays a.leaves linked)
       (named : (n : ℕ) → leaf_links linked n ≡ linked_out gone.prev gone.next (leaf_links a.leaves) n) (fewer : ℕ) (counted : fewer ≡ length gone.array.pairs) where
     abbrev pub done : Arenas K V
     done = record { leaves = linked; nodes = with_value a.nodes f.node new; root = a.root; height = a.height; len = a.len - fewer }
@@ -160,22 +172,22 @@ module _ {K V : Type 0} (cmp : K → K → Ordering) (o : IsTotalOrder cmp) (key
     b = content_of done
 
     turned : Updates a.nodes (with_value a.nodes f.node new) f.node (Some new)
-    turned = Updates-with_value a.nodes f.node new (rw old_there refl)
+    turned = Updates-with_value a.nodes f.node new (rw t.there refl)
 
-    others : (n : ℕ) → n ≢ above cmp o c key left steps a.root stands → b.node n ≡ c.node n
-    others n d = ap (option_map (λ (x : InnerNode K). (x.children, x.last))) (turned.others n (λ e. d (e ∙ fork.on)))
+    others : (n : ℕ) → n ≢ above cmp t.total c t.key left steps a.root stands → b.node n ≡ c.node n
+    others n d = ap (option_map (λ (x : InnerNode K). (x.children, x.last))) (turned.others n (λ e. d (e ∙ t.fork.on)))
 
-    pruned : IsPruned cmp o c key left steps a.root stands b new.children new.last
+    pruned : IsPruned cmp t.total c t.key left steps a.root stands b new.children new.last
     pruned = record {
-      there = ap b.node (sym fork.on) ∙ ap (option_map (λ (x : InnerNode K). (x.children, x.last))) turned.changed;
-      rest = ap (λ (x : Cells K ℕ × ℕ). shed cmp key x.0.pairs x.1) parent_is ∙ rest;
+      there = ap b.node (sym t.fork.on) ∙ ap (option_map (λ (x : InnerNode K). (x.children, x.last))) turned.changed;
+      rest = ap (λ (x : Cells K ℕ × ℕ). shed cmp t.key x.0.pairs x.1) parent_is ∙ shed_done cmp t.key old new f.place place_is more inside outside;
       is_node = new_node;
       leaf_same = λ n z. arrays n;
       node_same = λ n z d. others n d;
     }
 
-    left_over : Remains cmp o c key left steps a.root stands b
-    left_over = remains cmp o c key left steps a.root stands b new.children new.last pruned
+    left_over : Remains cmp t.total c t.key left steps a.root stands b
+    left_over = remains cmp t.total c t.key left steps a.root stands b new.children new.last pruned
 
     new_order : leaves_of done ≡ lefts ++ rights
     new_order = subst (λ (n : ℕ). leaves_under b n a.root ≡ lefts ++ rights) height_is left_over.order
@@ -194,8 +206,8 @@ module _ {K V : Type 0} (cmp : K → K → Ordering) (o : IsTotalOrder cmp) (key
 
     done_linked : IsLinked (leaf_links linked) None (leaves_of done) None
     done_linked =
-        let old_linked : IsLinked (leaf_links a.leaves) None (lefts ++ leaf ∷ rights) None = subst (λ ns. IsLinked (leaf_links a.leaves) None ns None) old_order (s.linked planted_) in
-        let names : leaf_links a.leaves leaf ≡ Some (gone.prev, gone.next) = ap (option_map (λ (l : Leaf K V). (l.prev, l.next))) here in
+        let old_linked : IsLinked (leaf_links a.leaves) None (lefts ++ leaf ∷ rights) None = subst (λ ns. IsLinked (leaf_links a.leaves) None ns None) old_order (t.sound.linked planted_) in
+        let names : leaf_links a.leaves leaf ≡ Some (gone.prev, gone.next) = ap (option_map (λ (l : Leaf K V). (l.prev, l.next))) t.here in
         let e : ◌≡◌ {A = Option ℕ × Option ℕ} (gone.prev, gone.next) _ = some_same (sym names ∙ linked_at (leaf_links a.leaves) None None leaf lefts rights old_linked) in
         subst (λ ns. IsLinked (leaf_links linked) None ns None) (sym new_order) (linked_left (leaf_links a.leaves) (leaf_links linked) leaf gone.prev gone.next names named None lefts rights (ap (λ (r : Option ℕ × Option ℕ). r.1) e) old_linked once (λ n q. cc))
 
@@ -204,15 +216,15 @@ module _ {K V : Type 0} (cmp : K → K → Ordering) (o : IsTotalOrder cmp) (key
       stands = inr (planted_, subst (λ (n : ℕ). Stands cmp b n a.root) height_is left_over.stands);
       linked = λ h. done_linked;
       count =
-          let m = (middle_length front gone.array.pairs [] back a.len (s.count ∙ ap length old_pairs ∙ ap (λ ps. length (front ++ (ps ++ back))) old_held)).1 in
+          let m = (middle_length front gone.array.pairs [] back a.len (t.sound.count ∙ ap length old_pairs ∙ ap (λ ps. length (front ++ (ps ++ back))) old_held)).1 in
           let e : length (pairs_of done) ≡ length (front ++ back) = ap length new_pairs in
           omega (arith, m, e, counted);
     }
 
     pub done_loose : IsCutOff done f.height f.child leaf
     done_loose =
-        let k = kid cmp o c key left steps a.root stands in
-        let off : (n : ℕ) → node_times c n left k ≢ 0 → b.node n ≡ c.node n = λ n d. others n (λ e. at_parent cmp o c key left steps a.root stands n e (omega (arith, d, node_total cmp o c key left steps a.root stands n, stands.node_once n))) in
+        let k = kid cmp t.total c t.key left steps a.root stands in
+        let off : (n : ℕ) → node_times c n left k ≢ 0 → b.node n ≡ c.node n = λ n d. others n (λ e. at_parent cmp t.total c t.key left steps a.root stands n e (omega (arith, d, node_total cmp t.total c t.key left steps a.root stands n, stands.node_once n))) in
         let kept = single_kept c b left k leaf single off in
         let total : (n : ℕ) → node_times b n a.height a.root + node_times c n left k ≤ 1 =
         λ n. subst (λ (h : ℕ). node_times b n h a.root + node_times c n left k ≤ 1) height_is (omega (arith, left_over.node n, stands.node_once n)) in
@@ -221,7 +233,7 @@ module _ {K V : Type 0} (cmp : K → K → Ordering) (o : IsTotalOrder cmp) (key
           single = kept.0;
           once = λ n. omega (arith, kept.1 n, total n);
           apart = λ n d. omega (arith, kept.1 n, total n, d);
-          there = λ e. let x : None ≡ Some gone.array = sym (ap (option_map (λ (l : Leaf K V). l.array)) e) ∙ arrays leaf ∙ ap (option_map (λ (l : Leaf K V). l.array)) here in cc;
+          there = λ e. let x : None ≡ Some gone.array = sym (ap (option_map (λ (l : Leaf K V). l.array)) e) ∙ arrays leaf ∙ ap (option_map (λ (l : Leaf K V). l.array)) t.here in cc;
           out =
               let one : leaf_times c leaf left k ≡ 1 = single_times c leaf left k leaf single ∙ ap (λ q. cond q 1 0) (eq-eqb leaf leaf refl) in
               let counted : times leaf (leaves_of done) ≡ leaf_times b leaf a.height a.root = times_counted b leaf a.height a.root in

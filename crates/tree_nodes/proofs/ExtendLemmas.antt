@@ -27,7 +27,7 @@ use Rattle.tree_nodes.proofs.GrowLemmas.{none_rising}
 use Rattle.tree_nodes.proofs.WalkLemmas.{all_held, held_is}
 use Rattle.tree_nodes.proofs.WayLemmas.{some_same}
 use Rattle.tree_nodes.proofs.WithoutLemmas.{part_of}
-use Rattle.tree_nodes.proofs.ArenaLemmas.{with_leaf, thawed_on_way, leaf_counted, rewritten, still_sound, Rewritten}
+use Rattle.tree_nodes.proofs.ArenaLemmas.{IsOnWay, with_leaf, thawed_on_way, leaf_counted, rewritten, still_sound, Rewritten}
 use Rattle.tree_nodes.proofs.CopyLemmas.{extended_then, front_less, rest_rising, slice_behind, take_behind}
 use Rattle.tree_nodes.proofs.DepthLemmas.{headroom_less, extended_room}
 use Rattle.tree_nodes.proofs.PushLemmas.{open_way, none_between}
@@ -92,6 +92,12 @@ takes_few a n h l here room packed most countable =
     let same = some_same (sym h.there ∙ here) in
     record { own = h.own; fore = h.fore; last = h.last; leaf = l; there = here; some = subst (λ (x : Leaf _ _). 0 < length x.array.pairs) same h.some; packed = packed; most = most; countable = countable }
 
+-- the last leaf, which has room, as the leaf that was found
+abbrev pub found_open : {K V : Type 0} (a : Arenas K V) (n : ℕ) (h : LastLeafHasRoom a n) (l : Leaf K V) → get a.leaves n ≡ Some l → LastLeafHasRoom a n
+found_open a n h l here =
+    let same = some_same (sym h.there ∙ here) in
+    record { own = h.own; fore = h.fore; last = h.last; leaf = l; there = here; some = subst (λ (x : Leaf _ _). 0 < length x.array.pairs) same h.some; room = subst (λ (x : Leaf _ _). x.array.used < 15) same h.room }
+
 module _ {K V : Type 0} (a : Arenas K V) (n room : ℕ) (t : LastLeafTakes a n room) (l : Leaf K V) (here : get a.leaves n ≡ Some l) where
   pub same_leaf : t.leaf ≡ l
   same_leaf = some_same (sym t.there ∙ here)
@@ -117,82 +123,107 @@ module _ {K V : Type 0} (a : Arenas K V) (n room : ℕ) (t : LastLeafTakes a n r
       let all : pairs_of a ≡ joined_over f t.fore ++ l.array.pairs = all_held a ∙ ap (joined_over f) t.last ∙ joined_over_append f t.fore (n ∷ []) ∙ ap (λ qs. joined_over f t.fore ++ qs) (append-nil (f n) ∙ held_is a n l here) in
       back_rising cmp o (joined_over f t.fore) (l.array.pairs ++ ps) (subst (IsAscending cmp) (ap (λ qs. qs ++ ps) all ∙ append_assoc (joined_over f t.fore) l.array.pairs ps) up)
 
-module _ {K V : Type 0} (cmp : K → K → Ordering) (o : IsTotalOrder cmp) (a : Arenas K V) (s : IsSound cmp a) (n count : ℕ) (t : LastLeafTakes a n count) (some : 0 < count) (ps : List (K × V)) (long : length ps ≡ count) (up : IsAscending cmp (pairs_of a ++ ps))
-    (m : Leaf K V) (pairs : m.array.pairs ≡ t.leaf.array.pairs ++ ps) (used : m.array.used ≡ t.leaf.array.used + count) (frozen : m.array.frozen ≡ t.leaf.array.frozen) (prev : m.prev ≡ t.leaf.prev) (next : m.next ≡ t.leaf.next) where
-  abbrev l : Leaf K V
-  l = t.leaf
+-- the last leaf with more pairs behind its own
+pub record IsAppended {K V : Type 0} (cmp : K → K → Ordering) (a : Arenas K V) (n count : ℕ) (ps : List (K × V)) (m : Leaf K V) : Type 0 where
+  pub total : IsTotalOrder cmp
+  pub sound : IsSound cmp a
+  pub last : LastLeafHasRoom a n
+  pub fore : List (K × V)
+  pub end : K × V
+  pub all : ps ≡ fore ++ end ∷ []
+  pub above : IsAbove cmp end.0 (pairs_of a)
+  pub long : length ps ≡ count
+  pub pairs : m.array.pairs ≡ last.leaf.array.pairs ++ ps
+  pub rising : IsAscending cmp m.array.pairs
+  pub used : m.array.used ≡ last.leaf.array.used + count
+  pub frozen : m.array.frozen ≡ last.leaf.array.frozen
+  pub prev : m.prev ≡ last.leaf.prev
+  pub next : m.next ≡ last.leaf.next
 
-  abbrev e : Ended ps
-  e = ended ps (omega (arith, long, some))
+-- so it is, where they rise behind all others
+abbrev pub appended : {K V : Type 0} (cmp : K → K → Ordering) (o : IsTotalOrder cmp) (a : Arenas K V) → IsSound cmp a → (n count : ℕ) (t : LastLeafTakes a n count) → 0 < count → (ps : List (K × V)) → length ps ≡ count → IsAscending cmp (pairs_of a ++ ps)
+    → (m : Leaf K V) → m.array.pairs ≡ t.leaf.array.pairs ++ ps → m.array.used ≡ t.leaf.array.used + count → m.array.frozen ≡ t.leaf.array.frozen → m.prev ≡ t.leaf.prev → m.next ≡ t.leaf.next → IsAppended cmp a n count ps m
+appended cmp o a s n count t some ps long up m pairs used frozen prev next =
+    let e = ended ps (omega (arith, long, some)) in
+    let line : pairs_of a ++ ps ≡ (pairs_of a ++ e.fore) ++ e.end ∷ [] = ap (λ qs. pairs_of a ++ qs) e.all ∙ sym (append_assoc (pairs_of a) e.fore (e.end ∷ [])) in
+    record {
+      total = o;
+      sound = s;
+      last = record { own = t.own; fore = t.fore; last = t.last; leaf = t.leaf; there = t.there; some = t.some; room = (let x = t.most in omega (arith, x, some)) };
+      fore = e.fore;
+      end = e.end;
+      all = e.all;
+      above = (part_of (λ k. cmp k e.end.0 ≡ Less) (pairs_of a) e.fore (before_end o (pairs_of a ++ e.fore) e.end (subst (IsAscending cmp) line up))).0;
+      long = long;
+      pairs = pairs;
+      rising = subst (IsAscending cmp) (sym pairs) (leaf_rising a n count t t.leaf t.there cmp o ps up);
+      used = used;
+      frozen = frozen;
+      prev = prev;
+      next = next;
+    }
+
+module _ {K V : Type 0} {cmp : K → K → Ordering} {a : Arenas K V} {n count : ℕ} {ps : List (K × V)} {m : Leaf K V} (t : IsAppended cmp a n count ps m) where
+  abbrev l : Leaf K V
+  l = t.last.leaf
 
   abbrev key : K
-  key = e.end.0
-
-  above : IsAbove cmp key (pairs_of a)
-  above =
-      let line : pairs_of a ++ ps ≡ (pairs_of a ++ e.fore) ++ e.end ∷ [] = ap (λ qs. pairs_of a ++ qs) e.all ∙ sym (append_assoc (pairs_of a) e.fore (e.end ∷ [])) in
-      (part_of (λ k. cmp k key ≡ Less) (pairs_of a) e.fore (before_end o (pairs_of a ++ e.fore) e.end (subst (IsAscending cmp) line up))).0
-
-  rising : IsAscending cmp m.array.pairs
-  rising = subst (IsAscending cmp) (sym pairs) (leaf_rising a n count t l t.there cmp o ps up)
-
-  open_ : LastLeafHasRoom a n
-  open_ = record { own = t.own; fore = t.fore; last = t.last; leaf = l; there = t.there; some = t.some; room = (let x = t.most in omega (arith, x, some)) }
-
-  pub on : n ≡ leaf_on_way cmp key a
-  on = open_way cmp o key a s n open_ above
+  key = t.end.0
 
   within : (low high : Option K) → IsWithin cmp low high key → AllKeys (IsWithin cmp low high) l.array.pairs → AllKeys (IsWithin cmp low high) m.array.pairs
   within low high is all =
-      let line : m.array.pairs ≡ l.array.pairs ++ (e.fore ++ e.end ∷ []) = pairs ∙ ap (λ qs. l.array.pairs ++ qs) e.all in
-      subst (AllKeys (IsWithin cmp low high)) (sym line) (within_more o low high l.array.pairs e.fore e.end t.some (subst (IsAscending cmp) line rising) is all)
+      let line : m.array.pairs ≡ l.array.pairs ++ (t.fore ++ t.end ∷ []) = t.pairs ∙ ap (λ qs. l.array.pairs ++ qs) t.all in
+      subst (AllKeys (IsWithin cmp low high)) (sym line) (within_more t.total low high l.array.pairs t.fore t.end t.last.some (subst (IsAscending cmp) line t.rising) is all)
 
   abbrev pub extended : Arenas K V
-  extended = with_leaf cmp o key a s n on l t.there m (a.len + count)
+  extended = with_leaf a n m (a.len + count)
 
-  w : (len : ℕ) → Rewritten cmp o key a s n on l t.there m len
-  w len = rewritten cmp o key a s n on l t.there m len (frozen ∙ thawed_on_way cmp o key a s n on l t.there) rising within
+  abbrev here : IsOnWay cmp key a n l
+  here = record { total = t.total; sound = t.sound; on = open_way cmp t.total key a t.sound n t.last t.above; here = t.last.there }
+
+  w : (len : ℕ) → Rewritten here m len
+  w len = rewritten here m len (t.frozen ∙ thawed_on_way here) t.rising within
 
   longer : length m.array.pairs ≡ length l.array.pairs + count
-  longer = ap length pairs ∙ (let both : length (l.array.pairs ++ ps) ≡ length l.array.pairs + length ps = simp length-append refl in omega (arith, both, long))
+  longer = ap length t.pairs ∙ (let both : length (l.array.pairs ++ ps) ≡ length l.array.pairs + length ps = simp length-append refl in omega (arith, both, t.long))
 
   pub extended_sound : IsSound cmp extended
   extended_sound =
-      let counted = leaf_counted cmp o key a s n on l t.there in
-      let more : a.len - length l.array.pairs + length m.array.pairs ≡ a.len + count = omega (arith, counted, longer) in
-      subst (λ (k : ℕ). IsSound cmp (with_leaf cmp o key a s n on l t.there m k)) more (still_sound cmp o key a s n on l t.there m (length l.array.pairs) (length m.array.pairs) prev next refl refl (w (a.len - length l.array.pairs + length m.array.pairs)))
+      let more : a.len - length l.array.pairs + length m.array.pairs ≡ a.len + count = omega (arith, leaf_counted here, longer) in
+      subst (λ (k : ℕ). IsSound cmp (with_leaf a n m k)) more (still_sound here m (length l.array.pairs) (length m.array.pairs) t.prev t.next refl refl (w (a.len - length l.array.pairs + length m.array.pairs)))
 
   pub extended_pairs : pairs_of extended ≡ pairs_of a ++ ps
   extended_pairs =
       let r = w (a.len + count) in
-      let less = (part_of (λ k. cmp k key ≡ Less) l.array.pairs r.back (part_of (λ k. cmp k key ≡ Less) r.front (l.array.pairs ++ r.back) (subst (AllKeys (λ k. cmp k key ≡ Less)) r.old above)).1).1 in
-      let none : r.back ≡ [] = none_between cmp o key r.back less r.behind in
+      let less = (part_of (λ k. cmp k key ≡ Less) l.array.pairs r.back (part_of (λ k. cmp k key ≡ Less) r.front (l.array.pairs ++ r.back) (subst (AllKeys (λ k. cmp k key ≡ Less)) r.old t.above)).1).1 in
+      let none : r.back ≡ [] = none_between cmp t.total key r.back less r.behind in
       let old : pairs_of a ≡ r.front ++ l.array.pairs = r.old ∙ ap (λ qs. r.front ++ (l.array.pairs ++ qs)) none ∙ ap (λ qs. r.front ++ qs) (append-nil l.array.pairs) in
-      r.new ∙ ap (λ qs. r.front ++ (m.array.pairs ++ qs)) none ∙ ap (λ qs. r.front ++ qs) (append-nil m.array.pairs ∙ pairs) ∙ sym (append_assoc r.front l.array.pairs ps) ∙ sym (ap (λ qs. qs ++ ps) old)
+      r.new ∙ ap (λ qs. r.front ++ (m.array.pairs ++ qs)) none ∙ ap (λ qs. r.front ++ qs) (append-nil m.array.pairs ∙ t.pairs) ∙ sym (append_assoc r.front l.array.pairs ps) ∙ sym (ap (λ qs. qs ++ ps) old)
 
   there : get extended.leaves n ≡ Some m
-  there = (Updates-with_value a.leaves n m (rw t.there refl)).changed
+  there = (Updates-with_value a.leaves n m (rw t.last.there refl)).changed
 
   pub extended_headroom : ascending_headroom cmp a ≤ ascending_headroom cmp extended + count
   extended_headroom =
       headroom_less a.height (root_room cmp a) (root_room cmp extended) count
-      (extended_room cmp o key a extended ps count above refl extended_pairs n on l m t.there there (omega (arith, used)))
+      (extended_room cmp t.total key a extended ps count t.above refl extended_pairs n here.on l m t.last.there there (omega (arith, t.used)))
 
-  pub extended_takes : (more : ℕ) → LastLeafTakes a n (count + more) → LastLeafTakes extended n more
-  extended_takes more wide =
+  pub extended_takes : 0 < count → (more : ℕ) → LastLeafTakes a n (count + more) → LastLeafTakes extended n more
+  extended_takes some more wide =
       let r = w (a.len + count) in
-      let same : wide.leaf ≡ l = some_same (sym wide.there ∙ t.there) in
+      let same : wide.leaf ≡ l = some_same (sym wide.there ∙ t.last.there) in
       let most : l.array.used + (count + more) ≤ 15 = subst (λ (x : Leaf K V). x.array.used + (count + more) ≤ 15) same wide.most in
+      let packed : l.array.used ≡ length l.array.pairs = subst (λ (x : Leaf K V). x.array.used ≡ length x.array.pairs) same (wide.packed (omega (arith, some))) in
       let fit = wide.countable in
       record {
-        own = (t.own.0, subst (λ (ns : List ℕ). times n ns ≢ 0) (sym r.order) t.own.1);
-        fore = t.fore;
-        last = r.order ∙ t.last;
+        own = (wide.own.0, subst (λ (ns : List ℕ). times n ns ≢ 0) (sym r.order) wide.own.1);
+        fore = wide.fore;
+        last = r.order ∙ wide.last;
         leaf = m;
         there = there;
-        some = (let x = t.some in omega (arith, longer, x));
-        packed = λ h. (let x = t.packed some in omega (arith, used, longer, x));
-        most = omega (arith, used, most);
+        some = (let x = t.last.some in omega (arith, longer, x));
+        packed = λ h. omega (arith, t.used, longer, packed);
+        most = omega (arith, t.used, most);
         countable = omega (arith, fit);
       }
 

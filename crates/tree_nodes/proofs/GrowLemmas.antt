@@ -67,32 +67,38 @@ module _ {K V : Type 0} (cmp : K → K → Ordering) (a b : ArenaContent K V) wh
       ap (λ m. way cmp b key height (child_in cmp key at m)) (here ∙ t.1) ∙ rest ∙ sym (ap (λ m. way cmp a key height (child_in cmp key at m)) t.1)
 
 -- a new root over the present one
-module _ {K V : Type 0} (cmp : K → K → Ordering) (a b : ArenaContent K V) (height root fresh : ℕ) (s : Stands cmp a height root)
-    (absent : a.node fresh ≡ None) (there : b.node fresh ≡ Some (no_cells false, root)) (others : (n : ℕ) → n ≢ fresh → b.node n ≡ a.node n) (leaves : (n : ℕ) → b.leaf n ≡ a.leaf n) where
+pub record IsRaised {K V : Type 0} (cmp : K → K → Ordering) (a b : ArenaContent K V) (height root fresh : ℕ) : Type 0 where
+  pub stands : Stands cmp a height root
+  pub absent : a.node fresh ≡ None
+  pub there : b.node fresh ≡ Some (no_cells false, root)
+  pub others : (n : ℕ) → n ≢ fresh → b.node n ≡ a.node n
+  pub leaves : (n : ℕ) → b.leaf n ≡ a.leaf n
+
+module _ {K V : Type 0} {cmp : K → K → Ordering} {a b : ArenaContent K V} {height root fresh : ℕ} (t : IsRaised cmp a b height root fresh) where
   fresh_unused : node_times a fresh height root ≡ 0
-  fresh_unused = node_absent cmp a fresh absent height root None None s.tree
+  fresh_unused = node_absent cmp a fresh t.absent height root None None t.stands.tree
 
   agrees : Agrees a b (λ n. leaf_times a n height root) (λ n. node_times a n height root)
-  agrees = record { leaf = λ n d. leaves n; node = λ n d. others n (λ e. d (subst (λ (k : ℕ). node_times a k height root ≡ 0) (sym e) fresh_unused)) }
+  agrees = record { leaf = λ n d. t.leaves n; node = λ n d. t.others n (λ e. d (subst (λ (k : ℕ). node_times a k height root ≡ 0) (sym e) fresh_unused)) }
 
   pub raised : Stands cmp b (suc height) fresh
   raised =
-      let k = kept cmp a b height root None None s.tree agrees in
+      let k = kept cmp a b height root None None t.stands.tree agrees in
       record {
-        tree = ((no_cells false, root), there, empty_node, k.tree);
-        leaf_once = λ n. rw there (omega (arith, k.leaves n, s.leaf_once n));
-        node_once = λ n. rw there (once n (eqb_tells fresh n) (k.nodes n));
+        tree = ((no_cells false, root), t.there, empty_node, k.tree);
+        leaf_once = λ n. rw t.there (omega (arith, k.leaves n, t.stands.leaf_once n));
+        node_once = λ n. rw t.there (once n (eqb_tells fresh n) (k.nodes n));
       }
     where
       once : (n : ℕ) → ((fresh == n) ≡ true × (fresh ≡ n)) ⊎ ((fresh == n) ≡ false × (fresh ≢ n)) → node_times b n height root ≡ node_times a n height root → cond (fresh == n) 1 0 + node_times b n height root ≤ 1
       once n (inl e) same = let none : node_times a n height root ≡ 0 = subst (λ (k : ℕ). node_times a k height root ≡ 0) e.1 fresh_unused in rw (e.0, same, none) (omega arith)
-      once n (inr e) same = rw e.0 (omega (arith, same, s.node_once n))
+      once n (inr e) same = rw e.0 (omega (arith, same, t.stands.node_once n))
 
   pub raised_pairs : pairs_under b (suc height) fresh ≡ pairs_under a height root
-  raised_pairs = rw there (kept cmp a b height root None None s.tree agrees).pairs
+  raised_pairs = rw t.there (kept cmp a b height root None None t.stands.tree agrees).pairs
 
   pub raised_order : leaves_under b (suc height) fresh ≡ leaves_under a height root
-  raised_order = rw there (kept cmp a b height root None None s.tree agrees).order
+  raised_order = rw t.there (kept cmp a b height root None None t.stands.tree agrees).order
 
   pub raised_way : (key : K) → way cmp b key (suc height) fresh ≡ way cmp a key height root
-  raised_way key = ap (λ m. way cmp b key height (child_in cmp key fresh m)) there ∙ way_kept cmp a b height root None None s.tree agrees key
+  raised_way key = ap (λ m. way cmp b key height (child_in cmp key fresh m)) t.there ∙ way_kept cmp a b height root None None t.stands.tree agrees key

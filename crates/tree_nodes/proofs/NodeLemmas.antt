@@ -12,11 +12,11 @@ use Rattle.leaf_array.specs.Cells.{Cells}
 use Rattle.tree_nodes.specs.declared.leaf.Leaf.{Leaf}
 use Rattle.tree_nodes.specs.declared.node.InnerNode.{InnerNode}
 use Rattle.tree_nodes.specs.declared.arenas.Arenas.{Arenas}
-use Rattle.tree_nodes.specs.Shape.{way, IsNode, IsTree, Stands}
+use Rattle.tree_nodes.specs.Shape.{way, child_for, IsNode, IsTree, Stands}
 use Rattle.tree_nodes.specs.Content.{content_of, pairs_of, IsLeafFull, HasNoTree, IsSound, AreSameArrays}
 use Rattle.tree_nodes.specs.Depth.{ascending_headroom}
 use Rattle.tree_nodes.proofs.FocusLemmas.{over, over_is, focus}
-use Rattle.tree_nodes.proofs.WayLemmas.{some_same, leaf_there, leaf_thawed}
+use Rattle.tree_nodes.proofs.WayLemmas.{IsStep, some_same, leaf_there, leaf_thawed, step_down}
 
 module _ {K V : Type 0} (cmp : K → K → Ordering) (o : IsTotalOrder cmp) (key : K) (a : Arenas K V) where
   pub planted : IsSound cmp a → a.height ≢ 0 → Stands cmp (content_of a) a.height a.root
@@ -73,6 +73,22 @@ module _ {K V : Type 0} (cmp : K → K → Ordering) (o : IsTotalOrder cmp) (key
     node_is n on b here =
         let same : node_found.0 ≡ (b.children, b.last) = some_same (sym node_found.1 ∙ ap (content_of a).node (sym on) ∙ node_content n (Some b) here) in
         subst (λ (m : Cells K ℕ × ℕ). IsNode m.0) same node_found.2
+
+-- a tree of at least one node
+module _ {K V : Type 0} (cmp : K → K → Ordering) (a : Arenas K V) (height at : ℕ) (tree : height ≢ 0 → (low : Option K) × (high : Option K) × IsTree cmp (content_of a) height at low high) (some : height ≢ 0) where
+  more : (low : Option K) × (high : Option K) × IsTree cmp (content_of a) (suc (height - 1)) at low high
+  more =
+      let deeper : height ≡ suc (height - 1) = omega (arith, some) in
+      let t = tree some in
+      (t.0, t.1, subst (λ (n : ℕ). IsTree cmp (content_of a) n at t.0 t.1) deeper t.2)
+
+  -- has a node where it stands
+  pub tree_there : None ≢ get a.nodes at
+  tree_there none = let e : None ≡ Some more.2.0 = ap (option_map (λ (n : InnerNode K). (n.children, n.last))) none ∙ more.2.1 in cc
+
+  -- and a tree under it, on the way to a key
+  pub tree_step : (key : K) (steps : ℕ) (node : InnerNode K) → get a.nodes at ≡ Some node → IsStep cmp key (content_of a) (height - 1) steps at (child_for cmp key node.children.pairs node.last)
+  tree_step key steps node here = step_down cmp key (content_of a) (height - 1) steps at (node.children, node.last) more.0 more.1 more.2 (ap (option_map (λ (n : InnerNode K). (n.children, n.last))) here)
 
 -- other links leave the arrays
 pub same_arrays : {K V : Type 0} (s : Slab (Leaf K V)) (k : ℕ) (l m : Leaf K V) → get s k ≡ Some l → m.array ≡ l.array → AreSameArrays s (with_value s k m)

@@ -30,7 +30,8 @@ use Rattle.tree_nodes.proofs.ChainLemmas.{times_append, first_times}
 use Rattle.tree_nodes.proofs.RowLemmas.{parting, before_parted, linked_at, last_or}
 use Rattle.tree_nodes.proofs.InsertionPointLemmas.{bound_at, before_bound}
 use Rattle.tree_nodes.proofs.SpotLemmas.{rising_of}
-use Rattle.tree_nodes.proofs.ThinLemmas.{thinned, thin_counted, thin_sound, thin_same, thin_order, thin_fore, thin_here, thin_pairs}
+use Rattle.tree_nodes.proofs.ArenaLemmas.{with_leaf}
+use Rattle.tree_nodes.proofs.ThinLemmas.{IsThinned, thin_order, thin_fore, thin_here, thin_pairs}
 
 module _ {K : Type 0} (cmp : K → K → Ordering) (lower upper : Bound K) where
   -- the key lies outside the range
@@ -159,77 +160,53 @@ module _ {K V : Type 0} (cmp : K → K → Ordering) (o : IsTotalOrder cmp) (key
         },
       )
 
--- a leaf that loses its pairs within a range
-module _ {K V : Type 0} (cmp : K → K → Ordering) (o : IsTotalOrder cmp) (lower upper : Bound K) (a : Arenas K V) (s : IsSound cmp a) (n : ℕ) (own : IsOwnLeaf a (Some n)) (passed : IsPassed (IsOutside cmp lower upper) a (Some n)) (l m : Leaf K V) (here : get a.leaves n ≡ Some l)
-    (pairs : m.array.pairs ≡ filter (λ p. not (range_contains cmp lower upper p.0)) l.array.pairs) (frozen : m.array.frozen ≡ l.array.frozen) (rising : IsAscending cmp m.array.pairs) (prev : m.prev ≡ l.prev) (next : m.next ≡ l.next) where
-  abbrev test : K → Bool
-  test k = not (range_contains cmp lower upper k)
+-- a leaf that loses its pairs within a range, where those before it lie outside
+module _ {K V : Type 0} {cmp : K → K → Ordering} (o : IsTotalOrder cmp) (lower upper : Bound K) {a : Arenas K V} {n : ℕ} {l m : Leaf K V} (t : IsThinned cmp (λ k. not (range_contains cmp lower upper k)) a n l m)
+    (keys : AllKeys (IsOutside cmp lower upper) (joined_over (pairs_in_leaf a) t.fore)) (len : ℕ) where
+  abbrev held : ℕ → List (K × V)
+  held = pairs_in_leaf (with_leaf a n m len)
 
-  abbrev pub cleared : ℕ → Arenas K V
-  cleared len = thinned cmp test a s n own l m here pairs frozen rising prev next len
-
-  abbrev rear : List ℕ
-  rear = (first_split n passed.rear passed.first).0
-
-  all_is : leaves_of a ≡ passed.fore ++ n ∷ rear
-  all_is = passed.all ∙ ap (λ ks. passed.fore ++ ks) (first_split n passed.rear passed.first).1
-
-  pub cleared_counted : length l.array.pairs ≤ a.len
-  cleared_counted = thin_counted cmp test a s n own l m here pairs frozen rising prev next passed.fore rear all_is
-
-  pub cleared_sound : (before after : ℕ) → before ≡ length l.array.pairs → after ≡ length m.array.pairs → IsSound cmp (cleared (a.len - before + after))
-  cleared_sound = thin_sound cmp test a s n own l m here pairs frozen rising prev next passed.fore rear all_is
-
-  pub cleared_same : (len : ℕ) → filter (λ p. test p.0) (pairs_of (cleared len)) ≡ filter (λ p. test p.0) (pairs_of a)
-  cleared_same = thin_same cmp test a s n own l m here pairs frozen rising prev next passed.fore rear all_is
-
-  order : (len : ℕ) → leaves_of (cleared len) ≡ leaves_of a
-  order = thin_order cmp test a s n own l m here pairs frozen rising prev next
-
-  held_fore : (len : ℕ) → joined_over (pairs_in_leaf (cleared len)) passed.fore ≡ joined_over (pairs_in_leaf a) passed.fore
-  held_fore = thin_fore cmp test a s n own l m here pairs frozen rising prev next passed.fore rear all_is
-
-  held_here : (len : ℕ) → pairs_in_leaf (cleared len) n ≡ filter (λ p. test p.0) (pairs_in_leaf a n)
-  held_here = thin_here cmp test a s n own l m here pairs frozen rising prev next
-
-  pub cleared_own : (len : ℕ) → IsOwnLeaf (cleared len) m.next
-  cleared_own len = split m.next (subst (IsOwnLeaf a) (sym next) (leaf_around cmp a s n l own here).next_own)
+  pub cleared_own : IsOwnLeaf (with_leaf a n m len) m.next
+  cleared_own = split m.next (subst (IsOwnLeaf a) (sym t.next) (leaf_around cmp a t.sound n l t.own t.here).next_own)
     where
-      split : (x : Option ℕ) → IsOwnLeaf a x → IsOwnLeaf (cleared len) x
+      split : (x : Option ℕ) → IsOwnLeaf a x → IsOwnLeaf (with_leaf a n m len) x
       split None w = tt
-      split (Some k) w = (w.0, subst (λ ns. times k ns ≢ 0) (sym (order len)) w.1)
+      split (Some k) w = (w.0, subst (λ ns. times k ns ≢ 0) (sym (thin_order t len)) w.1)
 
-  pub cleared_next : (len : ℕ) → IsPassed (IsOutside cmp lower upper) (cleared len) m.next
-  cleared_next len = record {
-    fore = passed.fore ++ n ∷ [];
-    rear = rear;
-    all = order len ∙ all_is ∙ simp append_assoc;
-    first = next ∙ behind;
-    keys = subst (AllKeys (IsOutside cmp lower upper)) (sym (joined_over_append (pairs_in_leaf (cleared len)) passed.fore (n ∷ []))) (all_append (IsOutside cmp lower upper) (joined_over (pairs_in_leaf (cleared len)) passed.fore) (joined_over (pairs_in_leaf (cleared len)) (n ∷ []))
-        (subst (AllKeys (IsOutside cmp lower upper)) (sym (held_fore len)) passed.keys)
-        (subst (AllKeys (IsOutside cmp lower upper)) (sym (append-nil (pairs_in_leaf (cleared len) n))) (subst (AllKeys (IsOutside cmp lower upper)) (sym (held_here len)) (left_outside cmp lower upper (pairs_in_leaf a n)))));
+  pub cleared_next : IsPassed (IsOutside cmp lower upper) (with_leaf a n m len) m.next
+  cleared_next = record {
+    fore = t.fore ++ n ∷ [];
+    rear = t.rear;
+    all = thin_order t len ∙ t.all ∙ simp append_assoc;
+    first = t.next ∙ behind;
+    keys = subst (AllKeys (IsOutside cmp lower upper)) (sym (joined_over_append held t.fore (n ∷ []))) (all_append (IsOutside cmp lower upper) (joined_over held t.fore) (joined_over held (n ∷ []))
+        (subst (AllKeys (IsOutside cmp lower upper)) (sym (thin_fore t len)) keys)
+        (subst (AllKeys (IsOutside cmp lower upper)) (sym (append-nil (held n))) (subst (AllKeys (IsOutside cmp lower upper)) (sym (thin_here t len)) (left_outside cmp lower upper (pairs_in_leaf a n)))));
   }
     where
-      behind : l.next ≡ first_or None rear
+      behind : l.next ≡ first_or None t.rear
       behind =
-          let at = linked_at (leaf_links a.leaves) None None n passed.fore rear (subst (λ ks. IsLinked (leaf_links a.leaves) None ks None) all_is (s.linked own.0)) in
-          let e : ◌≡◌ {A = Option (Option ℕ × Option ℕ)} (Some (l.prev, l.next)) (Some (last_or None passed.fore, first_or None rear)) = sym (ap (option_map (λ (x : Leaf K V). (x.prev, x.next))) here) ∙ at in
+          let at = linked_at (leaf_links a.leaves) None None n t.fore t.rear (subst (λ ks. IsLinked (leaf_links a.leaves) None ks None) t.all (t.sound.linked t.own.0)) in
+          let e : ◌≡◌ {A = Option (Option ℕ × Option ℕ)} (Some (l.prev, l.next)) (Some (last_or None t.fore, first_or None t.rear)) = sym (ap (option_map (λ (x : Leaf K V). (x.prev, x.next))) t.here) ∙ at in
           ap (λ (x : Option ℕ × Option ℕ). x.1) (some_same e)
 
-  pub cleared_last : (len : ℕ) → IsSound cmp (cleared len) → 0 < length m.array.pairs → IfSome (key_at m.array.pairs (length m.array.pairs - 1)) (λ k. is_past_end cmp upper k ≡ true) → IsPassed (IsOutside cmp lower upper) (cleared len) None
-  cleared_last len sound some past =
+  pub cleared_last : IsSound cmp (with_leaf a n m len) → 0 < length m.array.pairs → IfSome (key_at m.array.pairs (length m.array.pairs - 1)) (λ k. is_past_end cmp upper k ≡ true) → IsPassed (IsOutside cmp lower upper) (with_leaf a n m len) None
+  cleared_last sound some past =
+      let test : K × V → Bool = λ p. not (range_contains cmp lower upper p.0) in
+      let front = joined_over (pairs_in_leaf a) t.fore in
+      let back = joined_over (pairs_in_leaf a) t.rear in
       let last = last_split m.array.pairs some in
       let far : is_past_end cmp upper last.1.0 ≡ true = subst (λ (x : Option K). IfSome x (λ k. is_past_end cmp upper k ≡ true)) last.3 past in
-      let filtered : filter (λ p. test p.0) (pairs_in_leaf a n) ≡ last.0 ++ last.1 ∷ [] = ap (filter (λ (p : K × V). test p.0)) (held_is a n l here) ∙ sym pairs ∙ last.2 in
-      let whole = thin_pairs cmp test a s n own l m here pairs frozen rising prev next passed.fore rear all_is len in
-      let split : pairs_of (cleared len) ≡ (joined_over (pairs_in_leaf a) passed.fore ++ last.0) ++ last.1 ∷ joined_over (pairs_in_leaf a) rear = whole ∙ ap (λ ps. joined_over (pairs_in_leaf a) passed.fore ++ (ps ++ joined_over (pairs_in_leaf a) rear)) filtered ∙ simp append_assoc in
-      let up = subst (IsAscending cmp) split (rising_of cmp o (cleared len) sound) in
-      let outside = all_append (IsOutside cmp lower upper) (joined_over (pairs_in_leaf a) passed.fore) (filter (λ p. test p.0) (pairs_in_leaf a n) ++ joined_over (pairs_in_leaf a) rear) passed.keys
-      (all_append (IsOutside cmp lower upper) (filter (λ p. test p.0) (pairs_in_leaf a n)) (joined_over (pairs_in_leaf a) rear) (left_outside cmp lower upper (pairs_in_leaf a n)) (behind_outside o lower upper (joined_over (pairs_in_leaf a) passed.fore ++ last.0) last.1 (joined_over (pairs_in_leaf a) rear) up far)) in
+      let filtered : filter test (pairs_in_leaf a n) ≡ last.0 ++ last.1 ∷ [] = ap (filter test) (held_is a n l t.here) ∙ sym t.pairs ∙ last.2 in
+      let whole = thin_pairs t len in
+      let split : pairs_of (with_leaf a n m len) ≡ (front ++ last.0) ++ last.1 ∷ back = whole ∙ ap (λ ps. front ++ (ps ++ back)) filtered ∙ simp append_assoc in
+      let up = subst (IsAscending cmp) split (rising_of cmp o (with_leaf a n m len) sound) in
+      let outside = all_append (IsOutside cmp lower upper) front (filter test (pairs_in_leaf a n) ++ back) keys
+      (all_append (IsOutside cmp lower upper) (filter test (pairs_in_leaf a n)) back (left_outside cmp lower upper (pairs_in_leaf a n)) (behind_outside o lower upper (front ++ last.0) last.1 back up far)) in
       record {
-        fore = leaves_of (cleared len);
+        fore = leaves_of (with_leaf a n m len);
         rear = [];
-        all = sym (append-nil (leaves_of (cleared len)));
+        all = sym (append-nil (leaves_of (with_leaf a n m len)));
         first = refl;
-        keys = subst (AllKeys (IsOutside cmp lower upper)) (sym whole ∙ all_held (cleared len)) outside;
+        keys = subst (AllKeys (IsOutside cmp lower upper)) (sym whole ∙ all_held (with_leaf a n m len)) outside;
       }

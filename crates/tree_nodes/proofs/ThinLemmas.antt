@@ -21,7 +21,7 @@ use Rattle.tree_nodes.proofs.ChainLemmas.{linked_kept, times_append, first_times
 use Rattle.tree_nodes.proofs.LinkLemmas.{links_kept}
 use Rattle.tree_nodes.proofs.RowLemmas.{joined_over_parted}
 use Rattle.tree_nodes.proofs.WalkLemmas.{once, all_held, held_is, stands_of}
-use Rattle.tree_nodes.proofs.ArenaLemmas.{all_filtered, middle_length}
+use Rattle.tree_nodes.proofs.ArenaLemmas.{all_filtered, middle_length, with_leaf}
 
 module _ {K X : Type 0} (f g : ℕ → List X) (same : (n : ℕ) → f n ≡ g n) where
   joined_same : (es : List (K × ℕ)) (last : ℕ) → joined_along f es last ≡ joined_along g es last
@@ -90,85 +90,93 @@ filter_twice test (x ∷ xs) =
       | false ↦ λ e. filter_twice test xs
     ]) refl
 
--- a leaf of a sound tree is thinned by a test
-module _ {K V : Type 0} (cmp : K → K → Ordering) (test : K → Bool) (a : Arenas K V) (s : IsSound cmp a) (n : ℕ) (own : IsOwnLeaf a (Some n)) (l m : Leaf K V) (here : get a.leaves n ≡ Some l)
-    (pairs : m.array.pairs ≡ filter (λ p. test p.0) l.array.pairs) (frozen : m.array.frozen ≡ l.array.frozen) (rising : IsAscending cmp m.array.pairs) (prev : m.prev ≡ l.prev) (next : m.next ≡ l.next) where
-  abbrev pub thinned : ℕ → Arenas K V
-  thinned len = record { leaves = with_value a.leaves n m; nodes = a.nodes; root = a.root; height = a.height; len = len }
+-- a leaf of sound arenas, what a test of keys leaves of it, and the leaves before and behind it
+pub record IsThinned {K V : Type 0} (cmp : K → K → Ordering) (test : K → Bool) (a : Arenas K V) (n : ℕ) (l m : Leaf K V) : Type 0 where
+  pub sound : IsSound cmp a
+  pub own : IsOwnLeaf a (Some n)
+  pub here : get a.leaves n ≡ Some l
+  pub fore : List ℕ
+  pub rear : List ℕ
+  pub all : leaves_of a ≡ fore ++ n ∷ rear
+  pub pairs : m.array.pairs ≡ filter (λ p. test p.0) l.array.pairs
+  pub frozen : m.array.frozen ≡ l.array.frozen
+  pub rising : IsAscending cmp m.array.pairs
+  pub prev : m.prev ≡ l.prev
+  pub next : m.next ≡ l.next
 
+module _ {K V : Type 0} {cmp : K → K → Ordering} {test : K → Bool} {a : Arenas K V} {n : ℕ} {l m : Leaf K V} (t : IsThinned cmp test a n l m) where
   u : Updates a.leaves (with_value a.leaves n m) n (Some m)
-  u = Updates-with_value a.leaves n m (rw here refl)
+  u = Updates-with_value a.leaves n m (rw t.here refl)
 
   abbrev array : Option (Leaf K V) → Option (Cells K V)
   array = option_map (λ (x : Leaf K V). x.array)
 
-  pub thin_others : (len k : ℕ) → k ≢ n → pairs_in_leaf (thinned len) k ≡ pairs_in_leaf a k
+  pub thin_others : (len k : ℕ) → k ≢ n → pairs_in_leaf (with_leaf a n m len) k ≡ pairs_in_leaf a k
   thin_others len k d = ap (λ x. leaf_pairs (array x)) (u.others k d)
 
-  pub thin_here : (len : ℕ) → pairs_in_leaf (thinned len) n ≡ filter (λ p. test p.0) (pairs_in_leaf a n)
-  thin_here len = ap (λ x. leaf_pairs (array x)) u.changed ∙ pairs ∙ sym (ap (filter (λ (p : K × V). test p.0)) (held_is a n l here))
+  pub thin_here : (len : ℕ) → pairs_in_leaf (with_leaf a n m len) n ≡ filter (λ p. test p.0) (pairs_in_leaf a n)
+  thin_here len = ap (λ x. leaf_pairs (array x)) u.changed ∙ t.pairs ∙ sym (ap (filter (λ (p : K × V). test p.0)) (held_is a n l t.here))
 
-  pub thin_order : (len : ℕ) → leaves_of (thinned len) ≡ leaves_of a
-  thin_order len = order_same (content_of a) (content_of (thinned len)) (λ k. refl) a.height a.root
+  pub thin_order : (len : ℕ) → leaves_of (with_leaf a n m len) ≡ leaves_of a
+  thin_order len = order_same (content_of a) (content_of (with_leaf a n m len)) (λ k. refl) a.height a.root
 
-  thin_leaf : (len k : ℕ) (low high : Option K) (c : Cells K V) → (content_of a).leaf k ≡ Some c → IsLeaf cmp low high c → (d : Cells K V) × ((content_of (thinned len)).leaf k ≡ Some d) × IsLeaf cmp low high d
+  thin_leaf : (len k : ℕ) (low high : Option K) (c : Cells K V) → (content_of a).leaf k ≡ Some c → IsLeaf cmp low high c → (d : Cells K V) × ((content_of (with_leaf a n m len)).leaf k ≡ Some d) × IsLeaf cmp low high d
   thin_leaf len k low high c there is = split (eqb_tells k n)
     where
-      split : ((k == n) ≡ true × (k ≡ n)) ⊎ ((k == n) ≡ false × (k ≢ n)) → (d : Cells K V) × ((content_of (thinned len)).leaf k ≡ Some d) × IsLeaf cmp low high d
+      split : ((k == n) ≡ true × (k ≡ n)) ⊎ ((k == n) ≡ false × (k ≢ n)) → (d : Cells K V) × ((content_of (with_leaf a n m len)).leaf k ≡ Some d) × IsLeaf cmp low high d
       split (inr e) = (c, ap array (u.others k e.1) ∙ there, is)
       split (inl e) =
-          let same : ◌≡◌ {A = Option (Cells K V)} (Some c) (Some l.array) = sym there ∙ ap (content_of a).leaf e.1 ∙ ap array here in
+          let same : ◌≡◌ {A = Option (Cells K V)} (Some c) (Some l.array) = sym there ∙ ap (content_of a).leaf e.1 ∙ ap array t.here in
           let it : c ≡ l.array = some_same same in
           let was : IsLeaf cmp low high l.array = subst (IsLeaf cmp low high) it is in (
             m.array,
             ap (λ (j : ℕ). array (get (with_value a.leaves n m) j)) e.1 ∙ ap array u.changed,
-            record { thawed = frozen ∙ was.thawed; rising = rising; within = subst (AllKeys (IsWithin cmp low high)) (sym pairs) (all_filtered (IsWithin cmp low high) test l.array.pairs was.within) },
+            record { thawed = t.frozen ∙ was.thawed; rising = t.rising; within = subst (AllKeys (IsWithin cmp low high)) (sym t.pairs) (all_filtered (IsWithin cmp low high) test l.array.pairs was.within) },
           )
 
-  module _ (fore rear : List ℕ) (all : leaves_of a ≡ fore ++ n ∷ rear) where
-    counted : times n fore + suc (times n rear) ≤ 1
-    counted =
-        let most : times n (fore ++ n ∷ rear) ≤ 1 = subst (λ ks. times n ks ≤ 1) all (once cmp a s own.0 n) in
-        omega (arith, times_append n fore (n ∷ rear), first_times n rear, most)
+  counted : times n t.fore + suc (times n t.rear) ≤ 1
+  counted =
+      let most : times n (t.fore ++ n ∷ t.rear) ≤ 1 = subst (λ ks. times n ks ≤ 1) t.all (once cmp a t.sound t.own.0 n) in
+      omega (arith, times_append n t.fore (n ∷ t.rear), first_times n t.rear, most)
 
-    pub thin_fore : (len : ℕ) → joined_over (pairs_in_leaf (thinned len)) fore ≡ joined_over (pairs_in_leaf a) fore
-    thin_fore len = joined_over_kept (pairs_in_leaf a) (pairs_in_leaf (thinned len)) n fore (thin_others len) (omega (arith, counted))
+  pub thin_fore : (len : ℕ) → joined_over (pairs_in_leaf (with_leaf a n m len)) t.fore ≡ joined_over (pairs_in_leaf a) t.fore
+  thin_fore len = joined_over_kept (pairs_in_leaf a) (pairs_in_leaf (with_leaf a n m len)) n t.fore (thin_others len) (omega (arith, counted))
 
-    thin_rear : (len : ℕ) → joined_over (pairs_in_leaf (thinned len)) rear ≡ joined_over (pairs_in_leaf a) rear
-    thin_rear len = joined_over_kept (pairs_in_leaf a) (pairs_in_leaf (thinned len)) n rear (thin_others len) (omega (arith, counted))
+  thin_rear : (len : ℕ) → joined_over (pairs_in_leaf (with_leaf a n m len)) t.rear ≡ joined_over (pairs_in_leaf a) t.rear
+  thin_rear len = joined_over_kept (pairs_in_leaf a) (pairs_in_leaf (with_leaf a n m len)) n t.rear (thin_others len) (omega (arith, counted))
 
-    pub thin_pairs : (len : ℕ) → pairs_of (thinned len) ≡ joined_over (pairs_in_leaf a) fore ++ (filter (λ p. test p.0) (pairs_in_leaf a n) ++ joined_over (pairs_in_leaf a) rear)
-    thin_pairs len =
-        all_held (thinned len) ∙ joined_over_parted (pairs_in_leaf (thinned len)) n (leaves_of (thinned len)) fore rear (thin_order len ∙ all)
-        ∙ rw (thin_fore len, thin_here len, thin_rear len) refl
+  pub thin_pairs : (len : ℕ) → pairs_of (with_leaf a n m len) ≡ joined_over (pairs_in_leaf a) t.fore ++ (filter (λ p. test p.0) (pairs_in_leaf a n) ++ joined_over (pairs_in_leaf a) t.rear)
+  thin_pairs len =
+      all_held (with_leaf a n m len) ∙ joined_over_parted (pairs_in_leaf (with_leaf a n m len)) n (leaves_of (with_leaf a n m len)) t.fore t.rear (thin_order len ∙ t.all)
+      ∙ rw (thin_fore len, thin_here len, thin_rear len) refl
 
-    length_of : (len : ℕ) → length (pairs_of (thinned len)) ≡ length (joined_over (pairs_in_leaf a) fore ++ (filter (λ p. test p.0) (pairs_in_leaf a n) ++ joined_over (pairs_in_leaf a) rear))
-    length_of len = ap length (thin_pairs len)
+  length_of : (len : ℕ) → length (pairs_of (with_leaf a n m len)) ≡ length (joined_over (pairs_in_leaf a) t.fore ++ (filter (λ p. test p.0) (pairs_in_leaf a n) ++ joined_over (pairs_in_leaf a) t.rear))
+  length_of len = ap length (thin_pairs len)
 
-    pub whole_pairs : pairs_of a ≡ joined_over (pairs_in_leaf a) fore ++ (pairs_in_leaf a n ++ joined_over (pairs_in_leaf a) rear)
-    whole_pairs = all_held a ∙ joined_over_parted (pairs_in_leaf a) n (leaves_of a) fore rear all
+  pub whole_pairs : pairs_of a ≡ joined_over (pairs_in_leaf a) t.fore ++ (pairs_in_leaf a n ++ joined_over (pairs_in_leaf a) t.rear)
+  whole_pairs = all_held a ∙ joined_over_parted (pairs_in_leaf a) n (leaves_of a) t.fore t.rear t.all
 
-    pub thin_same : (len : ℕ) → filter (λ p. test p.0) (pairs_of (thinned len)) ≡ filter (λ p. test p.0) (pairs_of a)
-    thin_same len =
-        let t : K × V → Bool = λ p. test p.0 in
-        ap (filter t) (thin_pairs len)
-        ∙ filter-append t (joined_over (pairs_in_leaf a) fore) (filter t (pairs_in_leaf a n) ++ joined_over (pairs_in_leaf a) rear)
-        ∙ ap (λ ps. filter t (joined_over (pairs_in_leaf a) fore) ++ ps) (filter-append t (filter t (pairs_in_leaf a n)) (joined_over (pairs_in_leaf a) rear) ∙ ap (λ ps. ps ++ filter t (joined_over (pairs_in_leaf a) rear)) (filter_twice t (pairs_in_leaf a n)) ∙ sym (filter-append t (pairs_in_leaf a n) (joined_over (pairs_in_leaf a) rear)))
-        ∙ sym (filter-append t (joined_over (pairs_in_leaf a) fore) (pairs_in_leaf a n ++ joined_over (pairs_in_leaf a) rear))
-        ∙ sym (ap (filter t) whole_pairs)
+  pub thin_same : (len : ℕ) → filter (λ p. test p.0) (pairs_of (with_leaf a n m len)) ≡ filter (λ p. test p.0) (pairs_of a)
+  thin_same len =
+      let q : K × V → Bool = λ p. test p.0 in
+      ap (filter q) (thin_pairs len)
+      ∙ filter-append q (joined_over (pairs_in_leaf a) t.fore) (filter q (pairs_in_leaf a n) ++ joined_over (pairs_in_leaf a) t.rear)
+      ∙ ap (λ ps. filter q (joined_over (pairs_in_leaf a) t.fore) ++ ps) (filter-append q (filter q (pairs_in_leaf a n)) (joined_over (pairs_in_leaf a) t.rear) ∙ ap (λ ps. ps ++ filter q (joined_over (pairs_in_leaf a) t.rear)) (filter_twice q (pairs_in_leaf a n)) ∙ sym (filter-append q (pairs_in_leaf a n) (joined_over (pairs_in_leaf a) t.rear)))
+      ∙ sym (filter-append q (joined_over (pairs_in_leaf a) t.fore) (pairs_in_leaf a n ++ joined_over (pairs_in_leaf a) t.rear))
+      ∙ sym (ap (filter q) whole_pairs)
 
-    pub thin_counted : length l.array.pairs ≤ a.len
-    thin_counted = subst (λ (ps : List (K × V)). length ps ≤ a.len) (held_is a n l here) (middle_length (joined_over (pairs_in_leaf a) fore) (pairs_in_leaf a n) (pairs_in_leaf a n) (joined_over (pairs_in_leaf a) rear) a.len (s.count ∙ ap length whole_pairs)).0
+  pub thin_counted : length l.array.pairs ≤ a.len
+  thin_counted = subst (λ (ps : List (K × V)). length ps ≤ a.len) (held_is a n l t.here) (middle_length (joined_over (pairs_in_leaf a) t.fore) (pairs_in_leaf a n) (pairs_in_leaf a n) (joined_over (pairs_in_leaf a) t.rear) a.len (t.sound.count ∙ ap length whole_pairs)).0
 
-    pub thin_sound : (before after : ℕ) → before ≡ length l.array.pairs → after ≡ length m.array.pairs → IsSound cmp (thinned (a.len - before + after))
-    thin_sound before after b f =
-        let len : ℕ = a.len - before + after in
-        let held_new : filter (λ p. test p.0) (pairs_in_leaf a n) ≡ m.array.pairs = ap (filter (λ (p : K × V). test p.0)) (held_is a n l here) ∙ sym pairs in
-        let counts = (middle_length (joined_over (pairs_in_leaf a) fore) (pairs_in_leaf a n) (filter (λ p. test p.0) (pairs_in_leaf a n)) (joined_over (pairs_in_leaf a) rear) a.len (s.count ∙ ap length whole_pairs)).1 in
-        let old_len : length (pairs_in_leaf a n) ≡ before = ap length (held_is a n l here) ∙ sym b in
-        let new_len : length (filter (λ p. test p.0) (pairs_in_leaf a n)) ≡ after = ap length held_new ∙ sym f in
-        record {
-          stands = inr (own.0, thin_stands (content_of a) (content_of (thinned len)) (λ k. refl) cmp (thin_leaf len) a.height a.root (stands_of cmp a s own.0));
-          linked = λ h. subst (λ ns. IsLinked (leaf_links (with_value a.leaves n m)) None ns None) (sym (thin_order len)) (linked_kept (leaf_links a.leaves) (leaf_links (with_value a.leaves n m)) None (leaves_of a) None (λ k d. links_kept a.leaves n l m here prev next k) (s.linked h));
-          count = omega (arith, counts, old_len, new_len, length_of len);
-        }
+  pub thin_sound : (before after : ℕ) → before ≡ length l.array.pairs → after ≡ length m.array.pairs → IsSound cmp (with_leaf a n m (a.len - before + after))
+  thin_sound before after b f =
+      let len : ℕ = a.len - before + after in
+      let held_new : filter (λ p. test p.0) (pairs_in_leaf a n) ≡ m.array.pairs = ap (filter (λ (p : K × V). test p.0)) (held_is a n l t.here) ∙ sym t.pairs in
+      let counts = (middle_length (joined_over (pairs_in_leaf a) t.fore) (pairs_in_leaf a n) (filter (λ p. test p.0) (pairs_in_leaf a n)) (joined_over (pairs_in_leaf a) t.rear) a.len (t.sound.count ∙ ap length whole_pairs)).1 in
+      let old_len : length (pairs_in_leaf a n) ≡ before = ap length (held_is a n l t.here) ∙ sym b in
+      let new_len : length (filter (λ p. test p.0) (pairs_in_leaf a n)) ≡ after = ap length held_new ∙ sym f in
+      record {
+        stands = inr (t.own.0, thin_stands (content_of a) (content_of (with_leaf a n m len)) (λ k. refl) cmp (thin_leaf len) a.height a.root (stands_of cmp a t.sound t.own.0));
+        linked = λ h. subst (λ ns. IsLinked (leaf_links (with_value a.leaves n m)) None ns None) (sym (thin_order len)) (linked_kept (leaf_links a.leaves) (leaf_links (with_value a.leaves n m)) None (leaves_of a) None (λ k d. links_kept a.leaves n l m t.here t.prev t.next k) (t.sound.linked h));
+        count = omega (arith, counts, old_len, new_len, length_of len);
+      }

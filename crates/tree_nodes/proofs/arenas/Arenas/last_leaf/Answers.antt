@@ -6,6 +6,8 @@ use Rattle.tree_nodes.specs.Shape.{ArenaContent, IsTree, leaves_under}
 use Rattle.tree_nodes.specs.Content.{content_of, leaves_of}
 use Rattle.tree_nodes.proofs.RowLemmas.{last_or, row_end}
 use Rattle.tree_nodes.proofs.WalkLemmas.{IsEdge, last_step, last_is_own}
+use Rattle.tree_nodes.proofs.arenas.Arenas.last_leaf.Given.{Over}
+use Rattle.tree_nodes.proofs.arenas.Arenas.last_leaf.Goals.{After-loop-height}
 use Rattle.tree_nodes.proofs.arenas.Arenas.last_leaf.Goals as goal
 
 pub loop-height-preserved : goal.loop-height-preserved
@@ -23,23 +25,17 @@ loop-height-preserved g c =
       same = s.same ∙ ap (λ (k : ℕ). last_or None (leaves_under a k at)) (sym deeper) ∙ c.loop-height.invariant.same;
     }
 
-pub returns-clause-own : goal.returns-clause-own
-returns-clause-own g c =
-    let a = c.args.self.now in
+-- where the way along the last children ends
+last : (g : Over) (c : After-loop-height g) → last_or None (leaves_of c.args.self.now) ≡ Some c.loop-height.at
+last g c =
     let flat : c.loop-height.height ≡ zero = omega (arith, c.loop-height-test.false) in
-    let last : last_or None (leaves_of a) ≡ Some c.loop-height.at = sym c.loop-height.invariant.same ∙ ap (λ (k : ℕ). last_or None (leaves_under (content_of a) k c.loop-height.at)) flat in
-    (last_is_own g.K.Ord.cmp a c.requires c.if-self-eq0.false c.loop-height.at last).0
+    sym c.loop-height.invariant.same ∙ ap (λ (k : ℕ). last_or None (leaves_under (content_of c.args.self.now) k c.loop-height.at)) flat
+
+pub returns-clause-own : goal.returns-clause-own
+returns-clause-own g c = (last_is_own g.K.Ord.cmp c.args.self.now c.requires c.if-self-eq0.false c.loop-height.at (last g (goal.at.returns-clause-own g c).After-loop-height)).0
 
 pub returns-clause-last : goal.returns-clause-last
-returns-clause-last g c =
-    let a = c.args.self.now in
-    let flat : c.loop-height.height ≡ zero = omega (arith, c.loop-height-test.false) in
-    let last : last_or None (leaves_of a) ≡ Some c.loop-height.at = sym c.loop-height.invariant.same ∙ ap (λ (k : ℕ). last_or None (leaves_under (content_of a) k c.loop-height.at)) flat in
-    (last_is_own g.K.Ord.cmp a c.requires c.if-self-eq0.false c.loop-height.at last).1
+returns-clause-last g c = (last_is_own g.K.Ord.cmp c.args.self.now c.requires c.if-self-eq0.false c.loop-height.at (last g (goal.at.returns-clause-last g c).After-loop-height)).1
 
 pub returns-clause-order : goal.returns-clause-order
-returns-clause-order g c =
-    let a = c.args.self.now in
-    let flat : c.loop-height.height ≡ zero = omega (arith, c.loop-height-test.false) in
-    let last : last_or None (leaves_of a) ≡ Some c.loop-height.at = sym c.loop-height.invariant.same ∙ ap (λ (k : ℕ). last_or None (leaves_under (content_of a) k c.loop-height.at)) flat in
-    row_end (leaves_of a) c.loop-height.at last
+returns-clause-order g c = row_end (leaves_of c.args.self.now) c.loop-height.at (last g (goal.at.returns-clause-order g c).After-loop-height)

@@ -1,147 +1,77 @@
 use Rattle.std.proofs.Common.{◌≡◌, ◌<◌, ℕ, cond, Option, Some, sym, ap, ◌∙◌, subst}
 use Rattle.std.specs.Ordering.{is_lt}
 use Rattle.std.proofs.lemmas.Option.{none-some}
-use Rattle.slab.specs.Slab.{get}
+use Rattle.slab.specs.Slab.{get, with_value}
 use Rattle.tree_nodes.specs.declared.leaf.Leaf.{Leaf}
 use Rattle.tree_nodes.specs.declared.node.InnerNode.{InnerNode}
 use Rattle.tree_nodes.specs.Chain.{leaf_links, linked_in}
 use Rattle.tree_nodes.specs.SplitPoints.{IsSplitPoint}
 use Rattle.tree_nodes.proofs.WayLemmas.{some_same}
-use Rattle.tree_nodes.proofs.LeafArenaLemmas.{was_thawed, old_node, absent_above, done_pairs, done_sound, done_on, done_room, done_room_kept}
-use Rattle.tree_nodes.proofs.DepthLemmas.{headroom_more}
+use Rattle.tree_nodes.proofs.LeafArenaLemmas.{IsLeafCut, IsLeafSplit, was_thawed, old_node, absent_above, leaf_split}
+use Rattle.tree_nodes.proofs.arenas.Arenas.split_leaf.Given.{Over}
+use Rattle.tree_nodes.proofs.arenas.Arenas.split_leaf.Goals.{In-Some-get_mut, After-insert}
 use Rattle.tree_nodes.proofs.arenas.Arenas.split_leaf.Goals as goal
 
-pub insert-requires-clause-node : goal.insert-requires-clause-node
-insert-requires-clause-node g c =
-    let cmp = g.K.Ord.cmp in
-    let o = g.met.K.Ord.total in
-    let key = c.args.key.now in
-    let a = c.args.self.now in
-    let split_point = c.args.split_point in
+-- the leaf and the node above it, where both are found
+abbrev found : (g : Over) (c : In-Some-get_mut g) → IsLeafCut g.K.Ord.cmp c.args.key.now c.args.self.now c.args.above c.args.child c.in-Some.leaf.now c.in-Some-get_mut.node.now c.args.split_point
+found g c =
+    let cut = c.requires.split_point in
     let whole : Leaf g.row.K.Denot g.row.V.Denot = c.in-Some.leaf.now in
-    let upper : Leaf g.row.K.Denot g.row.V.Denot = c.split-lower.new.self in
-    let low : Leaf g.row.K.Denot g.row.V.Denot = c.split-lower.result in
-    let here : get a.leaves c.args.child ≡ Some whole = sym c.in-Some.ensures.value in
-    let same : c.requires.split_point.leaf ≡ whole = some_same (sym c.requires.split_point.there ∙ ap (get a.leaves) (sym c.requires.on) ∙ here) in
-    let fits : IsSplitPoint cmp key whole.array.pairs split_point = subst (λ (l : Leaf g.row.K.Denot g.row.V.Denot). IsSplitPoint cmp key l.array.pairs split_point) same c.requires.split_point.fits in
-    let old : InnerNode g.row.K.Denot = c.in-Some-get_mut.node.now in
-    let there : get a.nodes c.args.above ≡ Some old = sym c.in-Some-get_mut.ensures.value in
-    let thawed = was_thawed cmp o key a c.requires.sound c.requires.planted c.args.above c.args.child c.requires.lowest c.requires.on whole upper low here split_point fits c.split-lower.ensures.rising in
-    old_node cmp o key a c.requires.sound c.requires.planted c.args.above c.args.child c.requires.lowest c.requires.on whole upper low here split_point fits c.split-lower.ensures.rising old there
+    let here : get c.args.self.now.leaves c.args.child ≡ Some whole = sym c.in-Some.ensures.value in
+    let same : cut.leaf ≡ whole = some_same (sym cut.there ∙ ap (get c.args.self.now.leaves) (sym c.requires.on) ∙ here) in
+    record {
+      total = g.met.K.Ord.total;
+      sound = c.requires.sound;
+      planted = c.requires.planted;
+      on_above = c.requires.lowest;
+      on = c.requires.on;
+      here = here;
+      there = sym c.in-Some-get_mut.ensures.value;
+      fits = subst (λ (l : Leaf g.row.K.Denot g.row.V.Denot). IsSplitPoint g.K.Ord.cmp c.args.key.now l.array.pairs c.args.split_point) same cut.fits;
+      rising = c.split-lower.ensures.rising;
+    }
+
+-- what is left of the leaf
+done : (g : Over) (c : After-insert g) → IsLeafCut g.K.Ord.cmp c.args.key.now c.args.self.now c.args.above c.args.child c.in-Some.leaf.now c.in-Some-get_mut.node.now c.args.split_point
+    → IsLeafSplit g.K.Ord.cmp c.args.key.now c.args.self.now (record c.args.self.now { leaves = c.link.new.leaves; nodes = with_value c.args.self.now.nodes c.args.above c.insert.new.self }) (cond (is_lt (g.K.Ord.cmp c.args.split_point.separator c.args.key.now)) c.args.child c.insert_reserved-fresh.result)
+done g c t =
+    let e = c.split-lower.ensures in
+    let f = c.insert_reserved-fresh in
+    let prev = e.lower_prev ∙ sym e.prev in
+    leaf_split t c.split-lower.new.self c.split-lower.result e.lower e.upper e.lower_rising e.upper_rising (e.lower_thawed (was_thawed t)) (e.upper_thawed (was_thawed t)) e.lower_living e.upper_living e.lower_used e.upper_used
+    f.new.self c.link.new.leaves f.result f.ensures.updates f.ensures.was_vacant c.link.ensures.arrays
+    (λ n. c.link.ensures.links n ∙ ap (λ (p : Option ℕ). linked_in f.result p c.args.child (leaf_links f.new.self) n) prev) e.prev e.next prev e.lower_next
+    c.insert.new.self c.insert.ensures.node c.insert.ensures.separators c.insert.ensures.last e.upper_clear
+
+pub insert-requires-clause-node : goal.insert-requires-clause-node
+insert-requires-clause-node g c = old_node (found g (goal.at.insert-requires-clause-node g c).In-Some-get_mut)
 
 pub insert-requires-clause-absent : goal.insert-requires-clause-absent
-insert-requires-clause-absent g c =
-    let cmp = g.K.Ord.cmp in
-    let o = g.met.K.Ord.total in
-    let key = c.args.key.now in
-    let a = c.args.self.now in
-    let split_point = c.args.split_point in
-    let whole : Leaf g.row.K.Denot g.row.V.Denot = c.in-Some.leaf.now in
-    let upper : Leaf g.row.K.Denot g.row.V.Denot = c.split-lower.new.self in
-    let low : Leaf g.row.K.Denot g.row.V.Denot = c.split-lower.result in
-    let here : get a.leaves c.args.child ≡ Some whole = sym c.in-Some.ensures.value in
-    let same : c.requires.split_point.leaf ≡ whole = some_same (sym c.requires.split_point.there ∙ ap (get a.leaves) (sym c.requires.on) ∙ here) in
-    let fits : IsSplitPoint cmp key whole.array.pairs split_point = subst (λ (l : Leaf g.row.K.Denot g.row.V.Denot). IsSplitPoint cmp key l.array.pairs split_point) same c.requires.split_point.fits in
-    let old : InnerNode g.row.K.Denot = c.in-Some-get_mut.node.now in
-    let there : get a.nodes c.args.above ≡ Some old = sym c.in-Some-get_mut.ensures.value in
-    let thawed = was_thawed cmp o key a c.requires.sound c.requires.planted c.args.above c.args.child c.requires.lowest c.requires.on whole upper low here split_point fits c.split-lower.ensures.rising in
-    absent_above cmp o key a c.requires.sound c.requires.planted c.args.above c.args.child c.requires.lowest c.requires.on whole upper low here split_point fits c.split-lower.ensures.rising old there
-
-pub returns-clause-sound : goal.returns-clause-sound
-returns-clause-sound g c =
-    let cmp = g.K.Ord.cmp in
-    let o = g.met.K.Ord.total in
-    let key = c.args.key.now in
-    let a = c.args.self.now in
-    let split_point = c.args.split_point in
-    let whole : Leaf g.row.K.Denot g.row.V.Denot = c.in-Some.leaf.now in
-    let upper : Leaf g.row.K.Denot g.row.V.Denot = c.split-lower.new.self in
-    let low : Leaf g.row.K.Denot g.row.V.Denot = c.split-lower.result in
-    let here : get a.leaves c.args.child ≡ Some whole = sym c.in-Some.ensures.value in
-    let same : c.requires.split_point.leaf ≡ whole = some_same (sym c.requires.split_point.there ∙ ap (get a.leaves) (sym c.requires.on) ∙ here) in
-    let fits : IsSplitPoint cmp key whole.array.pairs split_point = subst (λ (l : Leaf g.row.K.Denot g.row.V.Denot). IsSplitPoint cmp key l.array.pairs split_point) same c.requires.split_point.fits in
-    let old : InnerNode g.row.K.Denot = c.in-Some-get_mut.node.now in
-    let there : get a.nodes c.args.above ≡ Some old = sym c.in-Some-get_mut.ensures.value in
-    let thawed = was_thawed cmp o key a c.requires.sound c.requires.planted c.args.above c.args.child c.requires.lowest c.requires.on whole upper low here split_point fits c.split-lower.ensures.rising in
-    done_sound cmp o key a c.requires.sound c.requires.planted c.args.above c.args.child c.requires.lowest c.requires.on whole upper low here split_point fits c.split-lower.ensures.rising old there c.split-lower.ensures.lower c.split-lower.ensures.upper c.split-lower.ensures.lower_rising c.split-lower.ensures.upper_rising (c.split-lower.ensures.lower_thawed thawed) (c.split-lower.ensures.upper_thawed thawed) c.split-lower.ensures.lower_living c.split-lower.ensures.upper_living c.split-lower.ensures.lower_used c.split-lower.ensures.upper_used c.insert_reserved-fresh.new.self c.link.new.leaves c.insert_reserved-fresh.result c.insert_reserved-fresh.ensures.updates c.insert_reserved-fresh.ensures.was_vacant c.link.ensures.arrays (λ n. c.link.ensures.links n ∙ ap (λ (p : Option ℕ). linked_in c.insert_reserved-fresh.result p c.args.child (leaf_links c.insert_reserved-fresh.new.self) n) (c.split-lower.ensures.lower_prev ∙ sym c.split-lower.ensures.prev)) c.split-lower.ensures.prev c.split-lower.ensures.next (c.split-lower.ensures.lower_prev ∙ sym c.split-lower.ensures.prev) c.split-lower.ensures.lower_next c.insert.new.self c.insert.ensures.node c.insert.ensures.separators c.insert.ensures.last
-
-pub returns-clause-pairs : goal.returns-clause-pairs
-returns-clause-pairs g c =
-    let cmp = g.K.Ord.cmp in
-    let o = g.met.K.Ord.total in
-    let key = c.args.key.now in
-    let a = c.args.self.now in
-    let split_point = c.args.split_point in
-    let whole : Leaf g.row.K.Denot g.row.V.Denot = c.in-Some.leaf.now in
-    let upper : Leaf g.row.K.Denot g.row.V.Denot = c.split-lower.new.self in
-    let low : Leaf g.row.K.Denot g.row.V.Denot = c.split-lower.result in
-    let here : get a.leaves c.args.child ≡ Some whole = sym c.in-Some.ensures.value in
-    let same : c.requires.split_point.leaf ≡ whole = some_same (sym c.requires.split_point.there ∙ ap (get a.leaves) (sym c.requires.on) ∙ here) in
-    let fits : IsSplitPoint cmp key whole.array.pairs split_point = subst (λ (l : Leaf g.row.K.Denot g.row.V.Denot). IsSplitPoint cmp key l.array.pairs split_point) same c.requires.split_point.fits in
-    let old : InnerNode g.row.K.Denot = c.in-Some-get_mut.node.now in
-    let there : get a.nodes c.args.above ≡ Some old = sym c.in-Some-get_mut.ensures.value in
-    let thawed = was_thawed cmp o key a c.requires.sound c.requires.planted c.args.above c.args.child c.requires.lowest c.requires.on whole upper low here split_point fits c.split-lower.ensures.rising in
-    done_pairs cmp o key a c.requires.sound c.requires.planted c.args.above c.args.child c.requires.lowest c.requires.on whole upper low here split_point fits c.split-lower.ensures.rising old there c.split-lower.ensures.lower c.split-lower.ensures.upper c.split-lower.ensures.lower_rising c.split-lower.ensures.upper_rising (c.split-lower.ensures.lower_thawed thawed) (c.split-lower.ensures.upper_thawed thawed) c.split-lower.ensures.lower_living c.split-lower.ensures.upper_living c.split-lower.ensures.lower_used c.split-lower.ensures.upper_used c.insert_reserved-fresh.new.self c.link.new.leaves c.insert_reserved-fresh.result c.insert_reserved-fresh.ensures.updates c.insert_reserved-fresh.ensures.was_vacant c.link.ensures.arrays (λ n. c.link.ensures.links n ∙ ap (λ (p : Option ℕ). linked_in c.insert_reserved-fresh.result p c.args.child (leaf_links c.insert_reserved-fresh.new.self) n) (c.split-lower.ensures.lower_prev ∙ sym c.split-lower.ensures.prev)) c.split-lower.ensures.prev c.split-lower.ensures.next (c.split-lower.ensures.lower_prev ∙ sym c.split-lower.ensures.prev) c.split-lower.ensures.lower_next c.insert.new.self c.insert.ensures.node c.insert.ensures.separators c.insert.ensures.last
-
-pub returns-clause-room : goal.returns-clause-room
-returns-clause-room g c =
-    let cmp = g.K.Ord.cmp in
-    let o = g.met.K.Ord.total in
-    let key = c.args.key.now in
-    let a = c.args.self.now in
-    let split_point = c.args.split_point in
-    let whole : Leaf g.row.K.Denot g.row.V.Denot = c.in-Some.leaf.now in
-    let upper : Leaf g.row.K.Denot g.row.V.Denot = c.split-lower.new.self in
-    let low : Leaf g.row.K.Denot g.row.V.Denot = c.split-lower.result in
-    let here : get a.leaves c.args.child ≡ Some whole = sym c.in-Some.ensures.value in
-    let same : c.requires.split_point.leaf ≡ whole = some_same (sym c.requires.split_point.there ∙ ap (get a.leaves) (sym c.requires.on) ∙ here) in
-    let fits : IsSplitPoint cmp key whole.array.pairs split_point = subst (λ (l : Leaf g.row.K.Denot g.row.V.Denot). IsSplitPoint cmp key l.array.pairs split_point) same c.requires.split_point.fits in
-    let old : InnerNode g.row.K.Denot = c.in-Some-get_mut.node.now in
-    let there : get a.nodes c.args.above ≡ Some old = sym c.in-Some-get_mut.ensures.value in
-    let thawed = was_thawed cmp o key a c.requires.sound c.requires.planted c.args.above c.args.child c.requires.lowest c.requires.on whole upper low here split_point fits c.split-lower.ensures.rising in
-    done_room cmp o key a c.requires.sound c.requires.planted c.args.above c.args.child c.requires.lowest c.requires.on whole upper low here split_point fits c.split-lower.ensures.rising old there c.split-lower.ensures.lower c.split-lower.ensures.upper c.split-lower.ensures.lower_rising c.split-lower.ensures.upper_rising (c.split-lower.ensures.lower_thawed thawed) (c.split-lower.ensures.upper_thawed thawed) c.split-lower.ensures.lower_living c.split-lower.ensures.upper_living c.split-lower.ensures.lower_used c.split-lower.ensures.upper_used c.insert_reserved-fresh.new.self c.link.new.leaves c.insert_reserved-fresh.result c.insert_reserved-fresh.ensures.updates c.insert_reserved-fresh.ensures.was_vacant c.link.ensures.arrays (λ n. c.link.ensures.links n ∙ ap (λ (p : Option ℕ). linked_in c.insert_reserved-fresh.result p c.args.child (leaf_links c.insert_reserved-fresh.new.self) n) (c.split-lower.ensures.lower_prev ∙ sym c.split-lower.ensures.prev)) c.split-lower.ensures.prev c.split-lower.ensures.next (c.split-lower.ensures.lower_prev ∙ sym c.split-lower.ensures.prev) c.split-lower.ensures.lower_next c.insert.new.self c.insert.ensures.node c.insert.ensures.separators c.insert.ensures.last
-
-pub returns-clause-ascending : goal.returns-clause-ascending
-returns-clause-ascending g c crowd over_all some =
-    let cmp = g.K.Ord.cmp in
-    let o = g.met.K.Ord.total in
-    let key = c.args.key.now in
-    let a = c.args.self.now in
-    let split_point = c.args.split_point in
-    let whole : Leaf g.row.K.Denot g.row.V.Denot = c.in-Some.leaf.now in
-    let upper : Leaf g.row.K.Denot g.row.V.Denot = c.split-lower.new.self in
-    let low : Leaf g.row.K.Denot g.row.V.Denot = c.split-lower.result in
-    let here : get a.leaves c.args.child ≡ Some whole = sym c.in-Some.ensures.value in
-    let same : c.requires.split_point.leaf ≡ whole = some_same (sym c.requires.split_point.there ∙ ap (get a.leaves) (sym c.requires.on) ∙ here) in
-    let fits : IsSplitPoint cmp key whole.array.pairs split_point = subst (λ (l : Leaf g.row.K.Denot g.row.V.Denot). IsSplitPoint cmp key l.array.pairs split_point) same c.requires.split_point.fits in
-    let old : InnerNode g.row.K.Denot = c.in-Some-get_mut.node.now in
-    let there : get a.nodes c.args.above ≡ Some old = sym c.in-Some-get_mut.ensures.value in
-    let thawed = was_thawed cmp o key a c.requires.sound c.requires.planted c.args.above c.args.child c.requires.lowest c.requires.on whole upper low here split_point fits c.split-lower.ensures.rising in
-    headroom_more a.height _ _ (λ flat room. done_room_kept cmp o key a c.requires.sound c.requires.planted c.args.above c.args.child c.requires.lowest c.requires.on whole upper low here split_point fits c.split-lower.ensures.rising old there c.split-lower.ensures.lower c.split-lower.ensures.upper c.split-lower.ensures.lower_rising c.split-lower.ensures.upper_rising (c.split-lower.ensures.lower_thawed thawed) (c.split-lower.ensures.upper_thawed thawed) c.split-lower.ensures.lower_living c.split-lower.ensures.upper_living c.split-lower.ensures.lower_used c.split-lower.ensures.upper_used c.insert_reserved-fresh.new.self c.link.new.leaves c.insert_reserved-fresh.result c.insert_reserved-fresh.ensures.updates c.insert_reserved-fresh.ensures.was_vacant c.link.ensures.arrays (λ n. c.link.ensures.links n ∙ ap (λ (p : Option ℕ). linked_in c.insert_reserved-fresh.result p c.args.child (leaf_links c.insert_reserved-fresh.new.self) n) (c.split-lower.ensures.lower_prev ∙ sym c.split-lower.ensures.prev)) c.split-lower.ensures.prev c.split-lower.ensures.next (c.split-lower.ensures.lower_prev ∙ sym c.split-lower.ensures.prev) c.split-lower.ensures.lower_next c.insert.new.self c.insert.ensures.node c.insert.ensures.separators c.insert.ensures.last flat over_all crowd c.split-lower.ensures.upper_clear room) some
-
-pub returns-clause-on : goal.returns-clause-on
-returns-clause-on g c =
-    let cmp = g.K.Ord.cmp in
-    let o = g.met.K.Ord.total in
-    let key = c.args.key.now in
-    let a = c.args.self.now in
-    let split_point = c.args.split_point in
-    let whole : Leaf g.row.K.Denot g.row.V.Denot = c.in-Some.leaf.now in
-    let upper : Leaf g.row.K.Denot g.row.V.Denot = c.split-lower.new.self in
-    let low : Leaf g.row.K.Denot g.row.V.Denot = c.split-lower.result in
-    let here : get a.leaves c.args.child ≡ Some whole = sym c.in-Some.ensures.value in
-    let same : c.requires.split_point.leaf ≡ whole = some_same (sym c.requires.split_point.there ∙ ap (get a.leaves) (sym c.requires.on) ∙ here) in
-    let fits : IsSplitPoint cmp key whole.array.pairs split_point = subst (λ (l : Leaf g.row.K.Denot g.row.V.Denot). IsSplitPoint cmp key l.array.pairs split_point) same c.requires.split_point.fits in
-    let old : InnerNode g.row.K.Denot = c.in-Some-get_mut.node.now in
-    let there : get a.nodes c.args.above ≡ Some old = sym c.in-Some-get_mut.ensures.value in
-    let thawed = was_thawed cmp o key a c.requires.sound c.requires.planted c.args.above c.args.child c.requires.lowest c.requires.on whole upper low here split_point fits c.split-lower.ensures.rising in
-    c.chosen.ensures ∙ ap (λ b. cond b c.args.child c.insert_reserved-fresh.result) c.is_lt-is_upper.ensures ∙ ap (λ r. cond (is_lt r) c.args.child c.insert_reserved-fresh.result) c.cmp.ensures ∙ done_on cmp o key a c.requires.sound c.requires.planted c.args.above c.args.child c.requires.lowest c.requires.on whole upper low here split_point fits c.split-lower.ensures.rising old there c.split-lower.ensures.lower c.split-lower.ensures.upper c.split-lower.ensures.lower_rising c.split-lower.ensures.upper_rising (c.split-lower.ensures.lower_thawed thawed) (c.split-lower.ensures.upper_thawed thawed) c.split-lower.ensures.lower_living c.split-lower.ensures.upper_living c.split-lower.ensures.lower_used c.split-lower.ensures.upper_used c.insert_reserved-fresh.new.self c.link.new.leaves c.insert_reserved-fresh.result c.insert_reserved-fresh.ensures.updates c.insert_reserved-fresh.ensures.was_vacant c.link.ensures.arrays (λ n. c.link.ensures.links n ∙ ap (λ (p : Option ℕ). linked_in c.insert_reserved-fresh.result p c.args.child (leaf_links c.insert_reserved-fresh.new.self) n) (c.split-lower.ensures.lower_prev ∙ sym c.split-lower.ensures.prev)) c.split-lower.ensures.prev c.split-lower.ensures.next (c.split-lower.ensures.lower_prev ∙ sym c.split-lower.ensures.prev) c.split-lower.ensures.lower_next c.insert.new.self c.insert.ensures.node c.insert.ensures.separators c.insert.ensures.last
+insert-requires-clause-absent g c = absent_above (found g (goal.at.insert-requires-clause-absent g c).In-Some-get_mut)
 
 pub insert-requires-clause-room : goal.insert-requires-clause-room
 insert-requires-clause-room g c =
     let parent = c.requires.parent in
     let same : parent.node ≡ c.in-Some-get_mut.node.now = some_same (sym parent.there ∙ ap (get c.args.self.now.nodes) (sym c.requires.lowest) ∙ sym c.in-Some-get_mut.ensures.value) in
     subst (λ (n : InnerNode g.row.K.Denot). n.children.used < 15) same parent.room
+
+pub returns-clause-sound : goal.returns-clause-sound
+returns-clause-sound g c = let at = goal.at.returns-clause-sound g c in (done g at.After-insert (found g at.In-Some-get_mut)).sound
+
+pub returns-clause-pairs : goal.returns-clause-pairs
+returns-clause-pairs g c = let at = goal.at.returns-clause-pairs g c in (done g at.After-insert (found g at.In-Some-get_mut)).pairs
+
+pub returns-clause-room : goal.returns-clause-room
+returns-clause-room g c = let at = goal.at.returns-clause-room g c in (done g at.After-insert (found g at.In-Some-get_mut)).room
+
+pub returns-clause-ascending : goal.returns-clause-ascending
+returns-clause-ascending g c = let at = goal.at.returns-clause-ascending g c in (done g at.After-insert (found g at.In-Some-get_mut)).ascending
+
+pub returns-clause-on : goal.returns-clause-on
+returns-clause-on g c =
+    let at = goal.at.returns-clause-on g c in
+    let fresh = c.insert_reserved-fresh.result in
+    c.chosen.ensures ∙ ap (λ b. cond b c.args.child fresh) c.is_lt-is_upper.ensures ∙ ap (λ r. cond (is_lt r) c.args.child fresh) c.cmp.ensures ∙ (done g at.After-insert (found g at.In-Some-get_mut)).on
 
 pub unreachable-unreachable : goal.unreachable-unreachable
 unreachable-unreachable g c = none-some _ (c.in-None.ensures.value ∙ ap (get c.args.self.now.leaves) c.requires.on ∙ c.requires.split_point.there)

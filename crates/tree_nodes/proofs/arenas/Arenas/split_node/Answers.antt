@@ -5,100 +5,77 @@ use Rattle.slab.proofs.SlabLemmas.{Updates-with_value}
 use Rattle.tree_nodes.specs.declared.node.InnerNode.{InnerNode}
 use Rattle.tree_nodes.proofs.WayLemmas.{some_same}
 use Rattle.tree_nodes.proofs.NodeLemmas.{node_is, same_len}
-use Rattle.tree_nodes.proofs.NodeArenaLemmas.{none_before, old_node, old_there, absent_above, done_pairs, done_sound, done_way, done_room}
+use Rattle.tree_nodes.proofs.NodeArenaLemmas.{IsNodeCut, none_before, old_node, old_there, absent_above, done_pairs, done_sound, done_way, done_room}
+use Rattle.tree_nodes.proofs.arenas.Arenas.split_node.Given.{Over}
+use Rattle.tree_nodes.proofs.arenas.Arenas.split_node.Goals.{In-Some-get_mut}
 use Rattle.tree_nodes.proofs.arenas.Arenas.split_node.Goals as goal
+
+-- the node that was split, and the one above it, where both are found
+abbrev found : (g : Over) (c : In-Some-get_mut g) → IsNodeCut g.K.Ord.cmp c.args.key.now c.args.self.now c.args.left c.node_at-above.result c.node_at-child.result c.in-Some.node.now c.split.new.self c.split.result.1 c.in-Some-get_mut.node.now c.split.result.0 c.insert_reserved-fresh.new.self c.insert_reserved-fresh.result
+found g c =
+    let e = c.split.ensures in
+    record {
+      total = g.met.K.Ord.total;
+      sound = c.requires.sound;
+      least = c.requires.least;
+      most = c.requires.most;
+      on_above = c.node_at-above.ensures;
+      on = c.node_at-child.ensures;
+      here = sym c.in-Some.ensures.value;
+      parts = e.parts;
+      low_node = e.lower;
+      up_node = e.upper;
+      up_used = e.upper_room;
+      low_used = e.lower_room;
+      up_last = e.last;
+      added = c.insert_reserved-fresh.ensures.updates;
+      vacant = c.insert_reserved-fresh.ensures.was_vacant;
+      there = sym c.in-Some-get_mut.ensures.value;
+    }
 
 pub split-requires-clause-node : goal.split-requires-clause-node
 split-requires-clause-node g c =
     node_is g.K.Ord.cmp g.met.K.Ord.total c.args.key.now c.args.self.now c.requires.sound c.args.left c.requires.least (omega (arith, c.requires.most)) c.node_at-child.result c.node_at-child.ensures c.in-Some.node.now (sym c.in-Some.ensures.value)
 
 pub insert-requires-clause-node : goal.insert-requires-clause-node
-insert-requires-clause-node g c =
-    let cmp = g.K.Ord.cmp in
-    let o = g.met.K.Ord.total in
-    let key = c.args.key.now in
-    let a = c.args.self.now in
-    let whole : InnerNode g.row.K.Denot = c.in-Some.node.now in
-    let here : get a.nodes c.node_at-child.result ≡ Some whole = sym c.in-Some.ensures.value in
-    let old : InnerNode g.row.K.Denot = c.in-Some-get_mut.node.now in
-    let there : get c.insert_reserved-fresh.new.self c.node_at-above.result ≡ Some old = sym c.in-Some-get_mut.ensures.value in
-    old_node cmp o key a c.requires.sound c.args.left c.requires.least c.requires.most c.node_at-above.result c.node_at-child.result c.node_at-above.ensures c.node_at-child.ensures whole c.split.new.self c.split.result.1 here c.split.result.0 c.split.ensures.parts c.split.ensures.lower c.split.ensures.upper c.split.ensures.upper_room c.split.ensures.lower_room c.split.ensures.last c.insert_reserved-fresh.new.self c.insert_reserved-fresh.result c.insert_reserved-fresh.ensures.updates c.insert_reserved-fresh.ensures.was_vacant old there
+insert-requires-clause-node g c = old_node (found g (goal.at.insert-requires-clause-node g c).In-Some-get_mut)
 
 pub insert-requires-clause-absent : goal.insert-requires-clause-absent
-insert-requires-clause-absent g c =
-    let cmp = g.K.Ord.cmp in
-    let o = g.met.K.Ord.total in
-    let key = c.args.key.now in
-    let a = c.args.self.now in
-    let whole : InnerNode g.row.K.Denot = c.in-Some.node.now in
-    let here : get a.nodes c.node_at-child.result ≡ Some whole = sym c.in-Some.ensures.value in
-    let old : InnerNode g.row.K.Denot = c.in-Some-get_mut.node.now in
-    let there : get c.insert_reserved-fresh.new.self c.node_at-above.result ≡ Some old = sym c.in-Some-get_mut.ensures.value in
-    absent_above cmp o key a c.requires.sound c.args.left c.requires.least c.requires.most c.node_at-above.result c.node_at-child.result c.node_at-above.ensures c.node_at-child.ensures whole c.split.new.self c.split.result.1 here c.split.result.0 c.split.ensures.parts c.split.ensures.lower c.split.ensures.upper c.split.ensures.upper_room c.split.ensures.lower_room c.split.ensures.last c.insert_reserved-fresh.new.self c.insert_reserved-fresh.result c.insert_reserved-fresh.ensures.updates c.insert_reserved-fresh.ensures.was_vacant old there
+insert-requires-clause-absent g c = absent_above (found g (goal.at.insert-requires-clause-absent g c).In-Some-get_mut)
 
-pub returns-clause-sound : goal.returns-clause-sound
-returns-clause-sound g c =
-    let cmp = g.K.Ord.cmp in
-    let o = g.met.K.Ord.total in
-    let key = c.args.key.now in
-    let a = c.args.self.now in
-    let whole : InnerNode g.row.K.Denot = c.in-Some.node.now in
-    let here : get a.nodes c.node_at-child.result ≡ Some whole = sym c.in-Some.ensures.value in
-    let old : InnerNode g.row.K.Denot = c.in-Some-get_mut.node.now in
-    let there : get c.insert_reserved-fresh.new.self c.node_at-above.result ≡ Some old = sym c.in-Some-get_mut.ensures.value in
-    let same = same_len c.insert_reserved-fresh.new.self c.node_at-above.result old c.insert.new.self there in
-    let first = same_len a.nodes c.node_at-child.result whole c.split.new.self here in
-    done_sound cmp o key a c.requires.sound c.args.left c.requires.least c.requires.most c.node_at-above.result c.node_at-child.result c.node_at-above.ensures c.node_at-child.ensures whole c.split.new.self c.split.result.1 here c.split.result.0 c.split.ensures.parts c.split.ensures.lower c.split.ensures.upper c.split.ensures.upper_room c.split.ensures.lower_room c.split.ensures.last c.insert_reserved-fresh.new.self c.insert_reserved-fresh.result c.insert_reserved-fresh.ensures.updates c.insert_reserved-fresh.ensures.was_vacant old there c.insert.new.self c.insert.ensures.node c.insert.ensures.separators c.insert.ensures.last (omega (arith, same, first, c.insert_reserved-fresh.ensures.len))
+pub insert-requires-clause-room : goal.insert-requires-clause-room
+insert-requires-clause-room g c =
+    let parent = c.requires.parent in
+    let there = old_there (found g (goal.at.insert-requires-clause-room g c).In-Some-get_mut) in
+    let same : parent.node ≡ c.in-Some-get_mut.node.now = some_same (sym parent.there ∙ ap (get c.args.self.now.nodes) (sym c.node_at-above.ensures) ∙ there) in
+    subst (λ (n : InnerNode g.row.K.Denot). n.children.used < 15) same parent.room
 
 pub returns-clause-pairs : goal.returns-clause-pairs
 returns-clause-pairs g c =
-    let cmp = g.K.Ord.cmp in
-    let o = g.met.K.Ord.total in
-    let key = c.args.key.now in
-    let a = c.args.self.now in
-    let whole : InnerNode g.row.K.Denot = c.in-Some.node.now in
-    let here : get a.nodes c.node_at-child.result ≡ Some whole = sym c.in-Some.ensures.value in
-    let old : InnerNode g.row.K.Denot = c.in-Some-get_mut.node.now in
-    let there : get c.insert_reserved-fresh.new.self c.node_at-above.result ≡ Some old = sym c.in-Some-get_mut.ensures.value in
-    done_pairs cmp o key a c.requires.sound c.args.left c.requires.least c.requires.most c.node_at-above.result c.node_at-child.result c.node_at-above.ensures c.node_at-child.ensures whole c.split.new.self c.split.result.1 here c.split.result.0 c.split.ensures.parts c.split.ensures.lower c.split.ensures.upper c.split.ensures.upper_room c.split.ensures.lower_room c.split.ensures.last c.insert_reserved-fresh.new.self c.insert_reserved-fresh.result c.insert_reserved-fresh.ensures.updates c.insert_reserved-fresh.ensures.was_vacant old there c.insert.new.self c.insert.ensures.node c.insert.ensures.separators c.insert.ensures.last
+    let e = c.insert.ensures in
+    done_pairs (found g (goal.at.returns-clause-pairs g c).In-Some-get_mut) c.insert.new.self e.node e.separators e.last
 
 pub returns-clause-leaf : goal.returns-clause-leaf
 returns-clause-leaf g c =
-    let cmp = g.K.Ord.cmp in
-    let o = g.met.K.Ord.total in
-    let key = c.args.key.now in
-    let a = c.args.self.now in
-    let whole : InnerNode g.row.K.Denot = c.in-Some.node.now in
-    let here : get a.nodes c.node_at-child.result ≡ Some whole = sym c.in-Some.ensures.value in
-    let old : InnerNode g.row.K.Denot = c.in-Some-get_mut.node.now in
-    let there : get c.insert_reserved-fresh.new.self c.node_at-above.result ≡ Some old = sym c.in-Some-get_mut.ensures.value in
-    done_way cmp o key a c.requires.sound c.args.left c.requires.least c.requires.most c.node_at-above.result c.node_at-child.result c.node_at-above.ensures c.node_at-child.ensures whole c.split.new.self c.split.result.1 here c.split.result.0 c.split.ensures.parts c.split.ensures.lower c.split.ensures.upper c.split.ensures.upper_room c.split.ensures.lower_room c.split.ensures.last c.insert_reserved-fresh.new.self c.insert_reserved-fresh.result c.insert_reserved-fresh.ensures.updates c.insert_reserved-fresh.ensures.was_vacant old there c.insert.new.self c.insert.ensures.node c.insert.ensures.separators c.insert.ensures.last
+    let e = c.insert.ensures in
+    done_way (found g (goal.at.returns-clause-leaf g c).In-Some-get_mut) c.insert.new.self e.node e.separators e.last
 
 pub returns-clause-node : goal.returns-clause-node
 returns-clause-node g c =
-    let cmp = g.K.Ord.cmp in
-    let o = g.met.K.Ord.total in
-    let key = c.args.key.now in
-    let a = c.args.self.now in
-    let whole : InnerNode g.row.K.Denot = c.in-Some.node.now in
-    let here : get a.nodes c.node_at-child.result ≡ Some whole = sym c.in-Some.ensures.value in
-    let old : InnerNode g.row.K.Denot = c.in-Some-get_mut.node.now in
-    let there : get c.insert_reserved-fresh.new.self c.node_at-above.result ≡ Some old = sym c.in-Some-get_mut.ensures.value in
-    done_room cmp o key a c.requires.sound c.args.left c.requires.least c.requires.most c.node_at-above.result c.node_at-child.result c.node_at-above.ensures c.node_at-child.ensures whole c.split.new.self c.split.result.1 here c.split.result.0 c.split.ensures.parts c.split.ensures.lower c.split.ensures.upper c.split.ensures.upper_room c.split.ensures.lower_room c.split.ensures.last c.insert_reserved-fresh.new.self c.insert_reserved-fresh.result c.insert_reserved-fresh.ensures.updates c.insert_reserved-fresh.ensures.was_vacant old there c.insert.new.self c.insert.ensures.node c.insert.ensures.separators c.insert.ensures.last
+    let e = c.insert.ensures in
+    done_room (found g (goal.at.returns-clause-node g c).In-Some-get_mut) c.insert.new.self e.node e.separators e.last
 
 pub returns-clause-used : goal.returns-clause-used
 returns-clause-used g c =
-    let cmp = g.K.Ord.cmp in
-    let o = g.met.K.Ord.total in
-    let key = c.args.key.now in
-    let a = c.args.self.now in
-    let whole : InnerNode g.row.K.Denot = c.in-Some.node.now in
-    let here : get a.nodes c.node_at-child.result ≡ Some whole = sym c.in-Some.ensures.value in
-    let old : InnerNode g.row.K.Denot = c.in-Some-get_mut.node.now in
-    let there : get c.insert_reserved-fresh.new.self c.node_at-above.result ≡ Some old = sym c.in-Some-get_mut.ensures.value in
-    let same = same_len c.insert_reserved-fresh.new.self c.node_at-above.result old c.insert.new.self there in
-    let first = same_len a.nodes c.node_at-child.result whole c.split.new.self here in
+    let same = same_len c.insert_reserved-fresh.new.self c.node_at-above.result c.in-Some-get_mut.node.now c.insert.new.self (sym c.in-Some-get_mut.ensures.value) in
+    let first = same_len c.args.self.now.nodes c.node_at-child.result c.in-Some.node.now c.split.new.self (sym c.in-Some.ensures.value) in
     omega (arith, same, first, c.insert_reserved-fresh.ensures.len)
+
+pub returns-clause-sound : goal.returns-clause-sound
+returns-clause-sound g c =
+    let e = c.insert.ensures in
+    let used = returns-clause-used g c in
+    done_sound (found g (goal.at.returns-clause-sound g c).In-Some-get_mut) c.insert.new.self e.node e.separators e.last (omega (arith, used))
 
 pub node_at-above-requires-clause-sound : goal.node_at-above-requires-clause-sound
 node_at-above-requires-clause-sound g c = c.requires.sound
@@ -126,21 +103,6 @@ split-requires-clause-full g c =
 
 pub unreachable-unreachable : goal.unreachable-unreachable
 unreachable-unreachable g c = none-some _ (c.in-None.ensures.value ∙ ap (get c.args.self.now.nodes) c.node_at-child.ensures ∙ c.requires.full.there)
-
-pub insert-requires-clause-room : goal.insert-requires-clause-room
-insert-requires-clause-room g c =
-    let cmp = g.K.Ord.cmp in
-    let o = g.met.K.Ord.total in
-    let key = c.args.key.now in
-    let a = c.args.self.now in
-    let whole : InnerNode g.row.K.Denot = c.in-Some.node.now in
-    let here : get a.nodes c.node_at-child.result ≡ Some whole = sym c.in-Some.ensures.value in
-    let old : InnerNode g.row.K.Denot = c.in-Some-get_mut.node.now in
-    let there : get c.insert_reserved-fresh.new.self c.node_at-above.result ≡ Some old = sym c.in-Some-get_mut.ensures.value in
-    let at : get a.nodes c.node_at-above.result ≡ Some old = old_there cmp o key a c.requires.sound c.args.left c.requires.least c.requires.most c.node_at-above.result c.node_at-child.result c.node_at-above.ensures c.node_at-child.ensures whole c.split.new.self c.split.result.1 here c.split.result.0 c.split.ensures.parts c.split.ensures.lower c.split.ensures.upper c.split.ensures.upper_room c.split.ensures.lower_room c.split.ensures.last c.insert_reserved-fresh.new.self c.insert_reserved-fresh.result c.insert_reserved-fresh.ensures.updates c.insert_reserved-fresh.ensures.was_vacant old there in
-    let parent = c.requires.parent in
-    let same : parent.node ≡ old = some_same (sym parent.there ∙ ap (get a.nodes) (sym c.node_at-above.ensures) ∙ at) in
-    subst (λ (n : InnerNode g.row.K.Denot). n.children.used < 15) same parent.room
 
 pub insert_reserved-fresh-requires : goal.insert_reserved-fresh-requires
 insert_reserved-fresh-requires g c =
