@@ -57,6 +57,8 @@ pub fn open<T, H: Holding<T>>(words: &Words<T, H>, seat: &mut Seat<T>)
     ensures inside { (w : Garbage) (ws : List Garbage) → seat.old.me.0.waits ≡ ws ++ w ∷ [] → w.slot < seat.old.me.0.sizes.slots }
     ensures opened { TakesDeed (IsIn H.holds) seat.old.me seat.new.me }
 {
+    // A home comes out only in a step on a word, and this step needs none: the count is read, and its value isn't used.
+    // The proof gets the owners that the item held from the deed, and that its slot is one of the place.
     let _ = words.load::<OnOpen<H>>(seat, 0);
 }
 
@@ -70,6 +72,7 @@ pub fn open_noted<T, H: Holding<T>>(words: &Words<T, H>, seat: &mut Seat<T>)
     ensures inside { (w : Garbage) (ws : List Garbage) → seat.old.me.0.collected ≡ ws ++ w ∷ [] → w.slot < seat.old.me.0.sizes.slots }
     ensures opened { TakesNoted (IsIn H.holds) seat.old.me seat.new.me }
 {
+    // The value isn't used: the deed comes out in this step, as in `open`, for an item of the private bag.
     let _ = words.load::<OnOpenNoted<H>>(seat, 0);
 }
 
@@ -81,6 +84,7 @@ pub fn gather<T, H: Holding<T>>(words: &Words<T, H>, seat: &mut Seat<T>)
     ensures seat { (seat.new.table_id ≡ seat.old.table_id) × (seat.new.id ≡ seat.old.id) }
     ensures taken { TakesNext (IsIn H.holds) seat.old.me seat.new.me }
 {
+    // The value isn't used: the home comes out in this step. With the last one the proof gets that all parts are in hand.
     let _ = words.load::<OnGather<H>>(seat, 0);
 }
 
@@ -91,6 +95,7 @@ pub fn empty<T, H: Holding<T>>(words: &Words<T, H>, seat: &mut Seat<T>)
     ensures seat { (seat.new.table_id ≡ seat.old.table_id) × (seat.new.id ≡ seat.old.id) }
     ensures given { GivesHome (IsIn H.holds) seat.old.me seat.new.me }
 {
+    // The value isn't used: the home goes back in this step, so that the next one can come out.
     let _ = words.load::<OnEmpty<H>>(seat, 0);
 }
 

@@ -147,6 +147,7 @@ pub fn hand_all<T, H: Holding<T>>(
     ensures waits { WaitsIn sizes.now.slots seat.new.me.0.waits bags.new }
     ensures bags { bags.new.due ≡ bags.old.due }
 {
+    // The value isn't used: in this step all that the private bag has is retired by the participant.
     let _ = words.load::<OnHandAll>(seat, 1);
     bags.take_over(words, seat, sizes, kept.chain);
 }

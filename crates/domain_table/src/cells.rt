@@ -140,6 +140,8 @@ pub(crate) fn load_own<T, H: Holding<T>>(words: &Words<T, H>, seat: &mut Seat<T>
     ensures seat { (seat.new.table_id ≡ seat.old.table_id) × (seat.new.id ≡ seat.old.id) }
     ensures loaded { (o : Owner) (os : List Owner) → seat.old.me.0.hand ≡ o ∷ os → HasLeasedAt (IsIn H.holds) seat.old.me o.slot seat.new.me × HasRound seat.new.me.0.leases o }
 {
+    // A home comes out only in a step on a word, and this step needs none: the count is read, and its value isn't used.
+    // The home has the round of the owner, which the proof gets here.
     let _ = words.load::<OnLoadOwn<H>>(seat, 0);
 }
 
@@ -236,6 +238,7 @@ pub(crate) fn begin_release<T, H: Holding<T>>(words: &Words<T, H>, seat: &mut Se
     ensures seat { (seat.new.table_id ≡ seat.old.table_id) × (seat.new.id ≡ seat.old.id) }
     ensures begun { (o : Owner) (os : List Owner) → seat.old.me.0.hand ≡ o ∷ os → HasBegun (IsIn H.holds) seat.old.me o seat.new.me }
 {
+    // The value isn't used: the home comes out in this step, and nobody else has it until it is put back.
     let _ = words.load::<OnBegin<H>>(seat, 0);
 }
 
@@ -247,6 +250,7 @@ pub(crate) fn keep_home<T, H: Holding<T>>(words: &Words<T, H>, seat: &mut Seat<T
     ensures seat { (seat.new.table_id ≡ seat.old.table_id) × (seat.new.id ≡ seat.old.id) }
     ensures kept { KeepsLease (IsIn H.holds) seat.old.me seat.new.me }
 {
+    // The value isn't used: the home goes back in this step, with all parts of its lease.
     let _ = words.load::<OnKeep<H>>(seat, 0);
 }
 

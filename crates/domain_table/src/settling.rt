@@ -96,6 +96,7 @@ fn settle_all<T, H: Holding<T>>(words: &Words<T, H>, seat: &mut Seat<T>, epoch: 
     requires all { (q : ℕ) → q < words.now.key.sizes.participants → q ≢ seat.old.me.0.number → Has seat.old.me.0.known.looked q }
     ensures { (seat.new.table_id ≡ seat.old.table_id) × (seat.new.id ≡ seat.old.id) × (seat.new.me ≡ (settling epoch seat.old.me.0, seat.old.me.1)) }
 {
+    // The value isn't used: in this step all that waits becomes due, since each other participant was seen without a guard.
     let _ = words.load::<OnSettle>(seat, COUNT);
 }
 

@@ -88,6 +88,7 @@ pub(crate) fn take_next<T, H: Holding<T>>(words: &Words<T, H>, seat: &mut Seat<T
     ensures seat { (seat.new.table_id ≡ seat.old.table_id) × (seat.new.id ≡ seat.old.id) }
     ensures taken { (f : Filling) → seat.old.me.0.filling ≡ Some f → HasTaken (IsIn H.holds) seat.old.me f seat.new.me }
 {
+    // The value isn't used: the home comes out in this step, and the proof gets that it is empty.
     let _ = words.load::<OnTake<H>>(seat, 0);
 }
 
@@ -98,6 +99,7 @@ pub(crate) fn give_next<T, H: Holding<T>>(words: &Words<T, H>, seat: &mut Seat<T
     ensures seat { (seat.new.table_id ≡ seat.old.table_id) × (seat.new.id ≡ seat.old.id) }
     ensures given { Fills (IsIn H.holds) seat.old.me seat.new.me }
 {
+    // The value isn't used: the home goes back in this step, and the proof notes the round of its parts and how many they are.
     let _ = words.load::<OnGive<H>>(seat, 0);
 }
 

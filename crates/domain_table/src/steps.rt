@@ -153,6 +153,7 @@ pub fn learn<T, H: Holding<T>>(words: &Words<T, H>, seat: &mut Seat<T>, sizes: S
     ensures learned { seat.new.me.0.sizes ≡ sizes }
 {
     let said = Home::Announced(sizes);
+    // A word that is always 0 stays so: the step is made for what is said in it, from which the seat knows the sizes.
     words.compare_exchange_with::<OnLearn>(seat, STILL, 0, 0, &said);
     let_go(said);
 }
