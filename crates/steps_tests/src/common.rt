@@ -141,6 +141,8 @@ pub(crate) enum Row {
     Cell(usize, Cell),
     /// How many participants, cells and items there are.
     Sizes(usize, usize, usize),
+    /// Which of the first items are left: placed, and not reclaimed.
+    Left([bool; 4]),
 }
 
 fn sizes(state: &State) -> (usize, usize, usize) {
@@ -159,6 +161,13 @@ fn in_hand(state: &State, i: usize) -> Option<u64> {
     state.items().get(i).map(|item| item.hand)
 }
 
+fn is_left(state: &State, i: usize) -> bool {
+    match state_of(state, i) {
+        None | Some(ItemState::Reclaimed(_)) => false,
+        Some(_) => true,
+    }
+}
+
 /// Whether a row comes out right.
 fn is_right<R: Abort>(rt: &R, alloc: Global, state: &mut State, row: Row) -> bool {
     match row {
@@ -170,19 +179,29 @@ fn is_right<R: Abort>(rt: &R, alloc: Global, state: &mut State, row: Row) -> boo
         Row::InHand(i, wanted) => in_hand(state, i) == Some(wanted),
         Row::Cell(c, wanted) => state.cells().get(c).copied() == Some(wanted),
         Row::Sizes(participants, cells, items) => sizes(state) == (participants, cells, items),
+        Row::Left(wanted) => [0, 1, 2, 3].map(|i| is_left(state, i)) == wanted,
     }
 }
 
 /// Plays a table from a state on: each row has to come out right.
 pub(crate) fn plays<R: Abort>(rt: &R, alloc: Global, start: State, rows: &[Row]) {
+    plays_each(rt, alloc, start, &[rows]);
+}
+
+/// Plays tables, each from what the one before leaves.
+pub(crate) fn plays_each<R: Abort>(rt: &R, alloc: Global, start: State, tables: &[&[Row]]) {
     let mut state = start;
+    let mut played = 0usize;
     let mut right = 0usize;
-    for at in 0..rows.len() {
-        if right == at && is_right(rt, alloc, &mut state, rows[at]) {
-            right = right.saturating_add(1);
+    for rows in tables {
+        for row in *rows {
+            if right == played && is_right(rt, alloc, &mut state, *row) {
+                right = right.saturating_add(1);
+            }
+            played = played.saturating_add(1);
         }
     }
-    assert!(rt; right == rows.len(), "row {right}");
+    assert!(rt; right == played, "row {right}");
 }
 
 /// A place at its start.

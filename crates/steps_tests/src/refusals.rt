@@ -19,7 +19,7 @@ fn start<R: Abort>(rt: &R, alloc: Global, met: &mut bool) -> State {
 }
 
 // Moves of each kind that takes memory, one after the other.
-const MOVES: [Move; 12] = [
+const MOVES: &[Move] = &[
     Move::Place(0, 7, None, None),
     Move::Place(0, 8, Some(0), Some(1)),
     Move::SwapCell(0, 0, Some(1)),
@@ -84,7 +84,7 @@ fn takes_steps<R: Abort>(rt: &R, alloc: Global) -> bool {
     let mut met = false;
     let mut state = start(rt, alloc, &mut met);
     for one in MOVES {
-        state = taken(rt, alloc, &state, one, &mut met);
+        state = taken(rt, alloc, &state, *one, &mut met);
     }
     plays(rt, alloc, state, TAKEN);
     met

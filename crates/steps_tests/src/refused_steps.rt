@@ -36,7 +36,7 @@ const GUARD: &[Move] = &[
 ];
 
 // Steps that leave items of each state.
-const PREPARED: [&[Move]; 12] = [
+const PREPARED: &[&[Move]] = &[
     PLACED,
     &[Move::Release(0, 4), Move::Retire(0, 4)],
     // The first guard finds the count 0, so no rotation is due.
@@ -129,7 +129,7 @@ const PHASES: &[&[Move]] = &[
 ];
 
 // A close takes away what the guard had.
-const CLOSED: [Row; 2] = [
+const CLOSED: &[Row] = &[
     Row::Does(&[Move::Close(0), Move::ReadEpoch(0), Move::Publish(0)]),
     Row::Refuses(&[
         Move::Raise(0),
@@ -146,7 +146,7 @@ fn each_step_is_refused_in_each_phase_where_it_isnt_enabled(rt: HostRuntime) {
         let right = are_as_said(&rt, rt.alloc(), &state, phase, STEPS);
         assert!(rt; moved && right, "phase {phase}");
     }
-    plays(&rt, rt.alloc(), state, &CLOSED);
+    plays(&rt, rt.alloc(), state, CLOSED);
 }
 
 const NOWHERE: &[Row] = &[
@@ -189,7 +189,7 @@ fn items_cells_and_participants_that_arent_there_are_refused(rt: HostRuntime) {
     plays(&rt, rt.alloc(), state, NOWHERE);
 }
 
-const OF_ANOTHER_FATE: [Row; 1] = [Row::Refuses(&[
+const OF_ANOTHER_FATE: &[Row] = &[Row::Refuses(&[
     // Not in hand: the version is in the root. One owner of the segment is in hand, and no more.
     Move::Release(0, 1),
     Move::SwapCell(0, 0, Some(1)),
@@ -238,7 +238,7 @@ const OF_ANOTHER_FATE: [Row; 1] = [Row::Refuses(&[
 #[test]
 fn steps_on_items_in_another_state_are_refused(rt: HostRuntime) {
     let state = prepared(&rt, rt.alloc());
-    plays(&rt, rt.alloc(), state, &OF_ANOTHER_FATE);
+    plays(&rt, rt.alloc(), state, OF_ANOTHER_FATE);
 }
 
 // Item 0 is in cell 1, which item 1 holds; item 1 is in hand.

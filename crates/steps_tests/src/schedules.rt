@@ -1,9 +1,7 @@
 //! Two schedules of a reader and a writer, as lists of steps, with what is left after each list.
 
-use crate::common::{Move, Row, plays, refuses, takes};
-use sdd_steps::{ItemState, State};
-use std::alloc::Global;
-use std::process::Abort;
+use crate::common::{Move, Row, plays, plays_each, started};
+use sdd_steps::ItemState;
 
 // The reader and the writer, the root, and the items of the two versions in the order of placing.
 const READER: usize = 0;
@@ -20,216 +18,169 @@ const OTHER_SEGMENT: usize = 2;
 
 const OTHER_VERSION: usize = 3;
 
-// What the moves of a list leave, each of which has to be enabled.
-fn play<R: Abort>(rt: &R, alloc: Global, state: State, moves: &[Move]) -> State {
-    let mut state = state;
-    assert!(rt; takes(rt, alloc, &mut state, moves));
-    state
-}
-
-fn is_left(state: &State, i: usize) -> bool {
-    match state.items().get(i) {
-        None
-        | Some(
-            sdd_steps::Item {
-                state: ItemState::Reclaimed(_),
-                ..
-            },
-        ) => false,
-        Some(_) => true,
-    }
-}
-
-// Whether the segments and versions are left, in the order of placing.
-fn left(state: &State) -> [bool; 4] {
-    [
-        is_left(state, SEGMENT),
-        is_left(state, VERSION),
-        is_left(state, OTHER_SEGMENT),
-        is_left(state, OTHER_VERSION),
-    ]
-}
-
 // The writer places a segment and a version that holds it, and the root takes the version.
-fn first_version<R: Abort>(rt: &R, alloc: Global, state: State) -> State {
-    let moves = [
-        Move::Place(WRITER, 10, None, None),
-        Move::Place(WRITER, 11, Some(SEGMENT), None),
-        Move::SwapCell(WRITER, ROOT, Some(VERSION)),
-    ];
-    play(rt, alloc, state, &moves)
-}
+const FIRST_VERSION: Row = Row::Does(&[
+    Move::Place(WRITER, 10, None, None),
+    Move::Place(WRITER, 11, Some(SEGMENT), None),
+    Move::SwapCell(WRITER, ROOT, Some(VERSION)),
+]);
 
 // Another version takes its place, and the first one is retired.
-fn second_version<R: Abort>(rt: &R, alloc: Global, state: State) -> State {
-    let moves = [
-        Move::Place(WRITER, 20, None, None),
-        Move::Place(WRITER, 21, Some(OTHER_SEGMENT), None),
-        Move::SwapCell(WRITER, ROOT, Some(OTHER_VERSION)),
-        Move::Release(WRITER, VERSION),
-        Move::Retire(WRITER, VERSION),
-    ];
-    play(rt, alloc, state, &moves)
-}
+const SECOND_VERSION: Row = Row::Does(&[
+    Move::Place(WRITER, 20, None, None),
+    Move::Place(WRITER, 21, Some(OTHER_SEGMENT), None),
+    Move::SwapCell(WRITER, ROOT, Some(OTHER_VERSION)),
+    Move::Release(WRITER, VERSION),
+    Move::Retire(WRITER, VERSION),
+]);
 
-fn open<R: Abort>(rt: &R, alloc: Global, state: State, turns: bool) -> State {
-    let state = play(
-        rt,
-        alloc,
-        state,
-        &[Move::ReadEpoch(WRITER), Move::Publish(WRITER)],
-    );
-    if turns {
-        play(rt, alloc, state, &[Move::Rotate(WRITER)])
-    } else {
-        state
-    }
-}
+const OPEN: Row = Row::Does(&[Move::ReadEpoch(WRITER), Move::Publish(WRITER)]);
 
-// An accelerated guard of the writer, with or without a rotation, that raises the count.
-fn guard<R: Abort>(rt: &R, alloc: Global, state: State, turns: bool) -> State {
-    let state = open(rt, alloc, state, turns);
-    play(
-        rt,
-        alloc,
-        state,
-        &[
-            Move::Look(WRITER, READER),
-            Move::Raise(WRITER),
-            Move::Close(WRITER),
-        ],
-    )
-}
+const OPEN_AND_ROTATE: Row = Row::Does(&[
+    Move::ReadEpoch(WRITER),
+    Move::Publish(WRITER),
+    Move::Rotate(WRITER),
+]);
+
+const RAISE: Row = Row::Does(&[
+    Move::Look(WRITER, READER),
+    Move::Raise(WRITER),
+    Move::Close(WRITER),
+]);
+
+const RAISE_IS_REFUSED: Row = Row::Refuses(&[Move::Look(WRITER, READER), Move::Raise(WRITER)]);
+
+// An accelerated guard of the writer, without a rotation or with one, that raises the count.
+const GUARD: &[Row] = &[OPEN, RAISE];
+
+const ROTATING: &[Row] = &[OPEN_AND_ROTATE, RAISE];
 
 // One that can't raise it while the reader's guard is open with an older one.
-fn held_guard<R: Abort>(rt: &R, alloc: Global, state: State, turns: bool) -> State {
-    let state = open(rt, alloc, state, turns);
-    let looks = [Move::Look(WRITER, READER), Move::Raise(WRITER)];
-    assert!(rt; refuses(rt, alloc, &state, &looks));
-    play(rt, alloc, state, &[Move::Close(WRITER)])
-}
+const HELD: &[Row] = &[OPEN, RAISE_IS_REFUSED, Row::Does(&[Move::Close(WRITER)])];
+
+const HELD_ROTATING: &[Row] = &[
+    OPEN_AND_ROTATE,
+    RAISE_IS_REFUSED,
+    Row::Does(&[Move::Close(WRITER)]),
+];
 
 // One under which the first version is reclaimed, and the last owner of its segment is retired.
-fn version_goes<R: Abort>(rt: &R, alloc: Global, state: State) -> State {
-    let state = open(rt, alloc, state, true);
-    let moves = [
+const VERSION_GOES: &[Row] = &[
+    OPEN_AND_ROTATE,
+    Row::Does(&[
         Move::Reclaim(WRITER, VERSION),
         Move::GiveUp(WRITER, VERSION, SEGMENT),
         Move::Release(WRITER, SEGMENT),
         Move::Retire(WRITER, SEGMENT),
-        Move::Look(WRITER, READER),
-        Move::Raise(WRITER),
-        Move::Close(WRITER),
-    ];
-    play(rt, alloc, state, &moves)
-}
+    ]),
+    RAISE,
+];
 
 // One under which the segment is reclaimed.
-fn segment_goes<R: Abort>(rt: &R, alloc: Global, state: State) -> State {
-    let state = open(rt, alloc, state, true);
-    let moves = [
-        Move::Reclaim(WRITER, SEGMENT),
-        Move::Look(WRITER, READER),
-        Move::Raise(WRITER),
-        Move::Close(WRITER),
-    ];
-    play(rt, alloc, state, &moves)
-}
+const SEGMENT_GOES: &[Row] = &[
+    OPEN_AND_ROTATE,
+    Row::Does(&[Move::Reclaim(WRITER, SEGMENT)]),
+    RAISE,
+];
 
-// The writer raises the count five times; its last opening reads 4.
-fn raised_five_times<R: Abort>(rt: &R, alloc: Global, state: State) -> State {
-    let mut state = guard(rt, alloc, state, false);
-    for _i in 1..5 {
-        state = guard(rt, alloc, state, true);
-    }
-    state
-}
+// Which segments and versions are left, in the order of placing.
+const FIRST_IS_LEFT: Row = Row::Left([true, true, false, false]);
+
+const ALL_ARE_LEFT: Row = Row::Left([true; 4]);
+
+const SEGMENTS_ARE_LEFT: Row = Row::Left([true, false, true, true]);
+
+const SECOND_IS_LEFT: Row = Row::Left([false, false, true, true]);
+
+const READ_ON: Row = Row::Does(&[
+    Move::ReadSegment(READER, VERSION, SEGMENT),
+    Move::Close(READER),
+]);
+
+// The reader reads the count before the writer raises it five times; the last opening of that reads 4.
+const OLD_COUNT: &[&[Row]] = &[
+    &[FIRST_VERSION, Row::Does(&[Move::ReadEpoch(READER)])],
+    GUARD,
+    ROTATING,
+    ROTATING,
+    ROTATING,
+    ROTATING,
+    &[
+        Row::Count(5),
+        FIRST_IS_LEFT,
+        Row::Does(&[Move::Publish(READER), Move::LoadCell(READER, ROOT)]),
+        SECOND_VERSION,
+    ],
+    // One rotation, no raise.
+    HELD_ROTATING,
+    HELD,
+    HELD,
+    HELD,
+    HELD,
+    HELD,
+    HELD,
+    HELD,
+    &[Row::Count(5), ALL_ARE_LEFT, READ_ON],
+    GUARD,
+    ROTATING,
+    VERSION_GOES,
+    &[SEGMENTS_ARE_LEFT],
+    ROTATING,
+    ROTATING,
+    SEGMENT_GOES,
+    ROTATING,
+    ROTATING,
+    &[Row::Count(13), SECOND_IS_LEFT],
+];
 
 #[test]
 fn a_reader_that_published_an_old_count_keeps_its_version(rt: HostRuntime) {
-    let alloc = rt.alloc();
-    let mut state = State::start(alloc, 2, 1).expect(&rt, "memory");
-    state = first_version(&rt, alloc, state);
-    state = play(&rt, alloc, state, &[Move::ReadEpoch(READER)]);
-    state = raised_five_times(&rt, alloc, state);
-    assert!(rt; state.count() == 5);
-    assert!(rt; left(&state) == [true, true, false, false]);
-    state = play(
-        &rt,
-        alloc,
-        state,
-        &[Move::Publish(READER), Move::LoadCell(READER, ROOT)],
-    );
-    state = second_version(&rt, alloc, state);
-    // One rotation, no raise.
-    for i in 0..8 {
-        state = held_guard(&rt, alloc, state, i == 0);
-    }
-    assert!(rt; state.count() == 5);
-    assert!(rt; left(&state) == [true, true, true, true]);
-    state = play(
-        &rt,
-        alloc,
-        state,
-        &[
-            Move::ReadSegment(READER, VERSION, SEGMENT),
-            Move::Close(READER),
-        ],
-    );
-    state = guard(&rt, alloc, state, false);
-    state = guard(&rt, alloc, state, true);
-    state = version_goes(&rt, alloc, state);
-    assert!(rt; left(&state) == [true, false, true, true]);
-    state = guard(&rt, alloc, state, true);
-    state = guard(&rt, alloc, state, true);
-    state = segment_goes(&rt, alloc, state);
-    state = guard(&rt, alloc, state, true);
-    state = guard(&rt, alloc, state, true);
-    assert!(rt; state.count() == 13);
-    assert!(rt; left(&state) == [false, false, true, true]);
+    let start = started(&rt, rt.alloc(), 2, 1);
+    plays_each(&rt, rt.alloc(), start, OLD_COUNT);
 }
+
+const PRESENT_COUNT: &[&[Row]] = &[
+    &[FIRST_VERSION],
+    GUARD,
+    ROTATING,
+    ROTATING,
+    ROTATING,
+    ROTATING,
+    &[
+        Row::Does(&[
+            Move::ReadEpoch(READER),
+            Move::Publish(READER),
+            Move::Rotate(READER),
+            Move::LoadCell(READER, ROOT),
+        ]),
+        SECOND_VERSION,
+    ],
+    // Two rotations, one raise.
+    ROTATING,
+    HELD_ROTATING,
+    HELD,
+    HELD,
+    HELD,
+    HELD,
+    HELD,
+    HELD,
+    &[Row::Count(6), ALL_ARE_LEFT, READ_ON],
+    GUARD,
+    VERSION_GOES,
+    &[SEGMENTS_ARE_LEFT],
+    ROTATING,
+    ROTATING,
+    SEGMENT_GOES,
+    ROTATING,
+    ROTATING,
+    ROTATING,
+    &[Row::Count(14), SECOND_IS_LEFT],
+];
 
 #[test]
 fn a_reader_that_published_the_present_count_keeps_its_version(rt: HostRuntime) {
-    let alloc = rt.alloc();
-    let mut state = State::start(alloc, 2, 1).expect(&rt, "memory");
-    state = first_version(&rt, alloc, state);
-    state = raised_five_times(&rt, alloc, state);
-    let moves = [
-        Move::ReadEpoch(READER),
-        Move::Publish(READER),
-        Move::Rotate(READER),
-        Move::LoadCell(READER, ROOT),
-    ];
-    state = play(&rt, alloc, state, &moves);
-    state = second_version(&rt, alloc, state);
-    // Two rotations, one raise.
-    state = guard(&rt, alloc, state, true);
-    for i in 0..7 {
-        state = held_guard(&rt, alloc, state, i == 0);
-    }
-    assert!(rt; state.count() == 6);
-    assert!(rt; left(&state) == [true, true, true, true]);
-    state = play(
-        &rt,
-        alloc,
-        state,
-        &[
-            Move::ReadSegment(READER, VERSION, SEGMENT),
-            Move::Close(READER),
-        ],
-    );
-    state = guard(&rt, alloc, state, false);
-    state = version_goes(&rt, alloc, state);
-    assert!(rt; left(&state) == [true, false, true, true]);
-    state = guard(&rt, alloc, state, true);
-    state = guard(&rt, alloc, state, true);
-    state = segment_goes(&rt, alloc, state);
-    for _i in 0..3 {
-        state = guard(&rt, alloc, state, true);
-    }
-    assert!(rt; state.count() == 14);
-    assert!(rt; left(&state) == [false, false, true, true]);
+    let start = started(&rt, rt.alloc(), 2, 1);
+    plays_each(&rt, rt.alloc(), start, PRESENT_COUNT);
 }
 
 // Three guards that raise the count.
@@ -284,6 +235,6 @@ const SETTLES: &[Row] = &[
 
 #[test]
 fn what_waits_is_due_where_no_other_guard_is_open(rt: HostRuntime) {
-    let start = State::start(rt.alloc(), 2, 1).expect(&rt, "memory");
+    let start = started(&rt, rt.alloc(), 2, 1);
     plays(&rt, rt.alloc(), start, SETTLES);
 }
