@@ -60,23 +60,6 @@ pub(crate) fn read(hand: &Hand) -> Found {
     }
 }
 
-fn swap(
-    domain: &Domain<u64>,
-    local: &mut Local<u64>,
-    hand: Hand,
-    cell: &AtomicShared<u64>,
-    tag: Tag,
-) -> (Hand, Found)
-    requires home { IsHome domain.now local.old }
-    requires ours { IsOurs domain.now hand }
-    requires inside { cell_number cell.now < cell_count domain.now }
-    ensures ours { IsOurs domain.now result.0 }
-    ensures stays { Stays local.old local.new }
-{
-    let (old, tag) = cell.swap(domain, (hand, tag), local);
-    (old, Found::Tagged(tag))
-}
-
 /// Puts an owner into the cell, and releases the one that it had.
 pub(crate) fn put(
     domain: &Domain<u64>,
@@ -138,71 +121,26 @@ pub(crate) fn handled(
         (Act::Release, hand, cell) => (None, cell, release(domain, local, hand)),
         (Act::Retire, hand, cell) => (hand, None, retire(domain, local, cell)),
         (Act::Swap(tag), hand, Some(cell)) => {
-            let (hand, found) = swap(domain, local, hand, &cell, tag);
-            (hand, Some(cell), found)
+            let (hand, tag) = cell.swap(domain, (hand, tag), local);
+            (hand, Some(cell), Found::Tagged(tag))
         }
-        (Act::Take, None, cell) => (take(domain, local, cell), None, Found::Nothing),
+        (Act::Take, None, Some(cell)) => (cell.into_shared(domain, local), None, Found::Nothing),
+        (Act::Take, None, None) => (None, None, Found::Nothing),
         (Act::Null, hand, None) => {
             let cell = AtomicShared::null(domain, local).ok();
             let found = told(cell.is_some());
             (hand, cell, found)
         }
-        (Act::Own, hand, None) => own(domain, local, hand),
-        (Act::Make(item), hand, None) => {
-            let (cell, found) = make(domain, local, item);
-            (hand, cell, found)
-        }
-        (_, hand, cell) => (hand, cell, Found::No),
-    }
-}
-
-/// A new cell that owns what the hand did, where the participant has none.
-fn own(
-    domain: &Domain<u64>,
-    local: &mut Local<u64>,
-    hand: Hand,
-) -> (Hand, Option<AtomicShared<u64>>, Found)
-    requires home { IsHome domain.now local.old }
-    requires ours { IsOurs domain.now hand }
-    ensures ours { IsOurs domain.now result.0 }
-    ensures inside { IsInside domain.now result.1 }
-    ensures stays { Stays local.old local.new }
-{
-    match hand {
-        Some(owner) => match AtomicShared::from(domain, owner, local) {
+        (Act::Own, Some(owner), None) => match AtomicShared::from(domain, owner, local) {
             Ok(cell) => (None, Some(cell), Found::Yes),
             Err(owner) => (Some(owner), None, Found::No),
         },
-        None => (None, None, Found::Nothing),
-    }
-}
-
-/// A new cell of an item, which is returned where there is none.
-fn make(
-    domain: &Domain<u64>,
-    local: &mut Local<u64>,
-    item: u64,
-) -> (Option<AtomicShared<u64>>, Found)
-    requires home { IsHome domain.now local.old }
-    ensures inside { IsInside domain.now result.0 }
-    ensures stays { Stays local.old local.new }
-{
-    match AtomicShared::new(domain, item, local) {
-        Ok(cell) => (Some(cell), Found::Nothing),
-        Err(item) => (None, Found::Is(item)),
-    }
-}
-
-/// What the cell owned, which is given back.
-fn take(domain: &Domain<u64>, local: &mut Local<u64>, cell: Option<AtomicShared<u64>>) -> Hand
-    requires home { IsHome domain.now local.old }
-    requires inside { IsInside domain.now cell }
-    ensures ours { IsOurs domain.now result }
-    ensures stays { Stays local.old local.new }
-{
-    match cell {
-        Some(cell) => cell.into_shared(domain, local),
-        None => None,
+        (Act::Own, None, None) => (None, None, Found::Nothing),
+        (Act::Make(item), hand, None) => match AtomicShared::new(domain, item, local) {
+            Ok(cell) => (hand, Some(cell), Found::Nothing),
+            Err(item) => (hand, None, Found::Is(item)),
+        },
+        (_, hand, cell) => (hand, cell, Found::No),
     }
 }
 
@@ -222,53 +160,8 @@ pub(crate) fn retire(
     }
 }
 
-/// Changes the hand's owner, or none, and a tag for what the cell has where that is as the pointer; or the cell's item.
-pub(crate) fn exchange(
-    domain: &Domain<u64>,
-    guard: &Guard,
-    local: &mut Local<u64>,
-    hand: Hand,
-    cell: &AtomicShared<u64>,
-    current: Ptr<u64>,
-    tag: Tag,
-) -> (Hand, Found)
-    requires home { IsHome domain.now local.old }
-    requires open { IsOpen guard.now local.old }
-    requires ours { IsOurs domain.now hand }
-    requires inside { cell_number cell.now < cell_count domain.now }
-    ensures ours { IsOurs domain.now result.0 }
-    ensures stays { Stays local.old local.new }
-{
-    match cell.compare_exchange(domain, current, (hand, tag), guard, local) {
-        Ok((old, _)) => (old, Found::Yes),
-        Err((back, found)) => (back, item(found.as_ref())),
-    }
-}
-
-/// The same by the call that may fail: whether the cell is told to be as it is loaded then.
-pub(crate) fn exchange_weak(
-    domain: &Domain<u64>,
-    guard: &Guard,
-    local: &mut Local<u64>,
-    hand: Hand,
-    cell: &AtomicShared<u64>,
-    current: Ptr<u64>,
-    tag: Tag,
-) -> (Hand, Found)
-    requires home { IsHome domain.now local.old }
-    requires open { IsOpen guard.now local.old }
-    requires ours { IsOurs domain.now hand }
-    requires inside { cell_number cell.now < cell_count domain.now }
-    ensures ours { IsOurs domain.now result.0 }
-    ensures stays { Stays local.old local.new }
-{
-    match cell.compare_exchange_weak(domain, current, (hand, tag), guard, local) {
-        Ok((old, named)) => (old, told(named == cell.load(domain, guard, local).named())),
-        Err((back, _)) => (back, Found::Nothing),
-    }
-}
-
-/// The exchange that a step is.
+/// Changes the hand's owner, or none, and a tag for what the cell has where that is as the pointer; or the cell's item. By the
+/// call that may fail: whether the cell is told to be as it is loaded then.
 pub(crate) fn exchanging(
     domain: &Domain<u64>,
     guard: &Guard,
@@ -286,8 +179,18 @@ pub(crate) fn exchanging(
     ensures stays { Stays local.old local.new }
 {
     match step {
-        View::Exchange(tag) => exchange(domain, guard, local, hand, cell, current, tag),
-        View::ExchangeWeak(tag) => exchange_weak(domain, guard, local, hand, cell, current, tag),
+        View::Exchange(tag) => {
+            match cell.compare_exchange(domain, current, (hand, tag), guard, local) {
+                Ok((old, _)) => (old, Found::Yes),
+                Err((back, found)) => (back, item(found.as_ref())),
+            }
+        }
+        View::ExchangeWeak(tag) => {
+            match cell.compare_exchange_weak(domain, current, (hand, tag), guard, local) {
+                Ok((old, named)) => (old, told(named == cell.load(domain, guard, local).named())),
+                Err((back, _)) => (back, Found::Nothing),
+            }
+        }
         _ => (hand, Found::No),
     }
 }
@@ -315,36 +218,32 @@ pub(crate) fn load_within(
     item(loaded.as_ref(outer))
 }
 
-/// One more owner of the pointer's item.
-pub(crate) fn share(
+/// One more owner of the pointer's item or of what the cell owns, if there is one; by the call that hands the pointer back, too.
+pub(crate) fn sharing(
     domain: &Domain<u64>,
+    guard: &Guard,
     local: &mut Local<u64>,
+    cell: &Option<AtomicShared<u64>>,
     pointer: Ptr<u64>,
+    step: View,
 ) -> (Hand, Found)
     requires home { IsHome domain.now local.old }
+    requires open { IsOpen guard.now local.old }
+    requires inside { IsInside domain.now cell.now }
     ensures ours { IsOurs domain.now result.0 }
     ensures stays { Stays local.old local.new }
 {
-    let owner = pointer.get_shared(domain, local);
+    let owner = match (step, cell) {
+        (View::ShareCell, Some(cell)) => cell.get_shared(domain, guard, local),
+        (View::TryShare, _) => match Shared::try_from(domain, pointer, local) {
+            Ok(owner) => Some(owner),
+            Err(back) if back == pointer => None,
+            Err(_) => return (None, Found::Nothing),
+        },
+        _ => pointer.get_shared(domain, local),
+    };
     let found = told(owner.is_some());
     (owner, found)
-}
-
-/// The same, where the pointer is returned if there is none.
-pub(crate) fn try_share(
-    domain: &Domain<u64>,
-    local: &mut Local<u64>,
-    pointer: Ptr<u64>,
-) -> (Hand, Found)
-    requires home { IsHome domain.now local.old }
-    ensures ours { IsOurs domain.now result.0 }
-    ensures stays { Stays local.old local.new }
-{
-    match Shared::try_from(domain, pointer, local) {
-        Ok(owner) => (Some(owner), Found::Yes),
-        Err(back) if back == pointer => (None, Found::No),
-        Err(_) => (None, Found::Nothing),
-    }
 }
 
 /// An owner of an item that a closure gives, or whether the closure is called where no slot is free.
@@ -362,22 +261,4 @@ pub(crate) fn place_with(domain: &Domain<u64>, local: &mut Local<u64>, item: u64
         Ok(owner) => (Some(owner), Found::Nothing),
         Err(NoSlot) => (None, told(is_called)),
     }
-}
-
-/// One more owner of what the cell owns.
-pub(crate) fn share_cell(
-    domain: &Domain<u64>,
-    guard: &Guard,
-    local: &mut Local<u64>,
-    cell: &AtomicShared<u64>,
-) -> (Hand, Found)
-    requires home { IsHome domain.now local.old }
-    requires open { IsOpen guard.now local.old }
-    requires inside { cell_number cell.now < cell_count domain.now }
-    ensures ours { IsOurs domain.now result.0 }
-    ensures stays { Stays local.old local.new }
-{
-    let owner = cell.get_shared(domain, guard, local);
-    let found = told(owner.is_some());
-    (owner, found)
 }

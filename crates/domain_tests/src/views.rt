@@ -185,16 +185,8 @@ impl<'d> Stage<'d> {
         requires open { IsOpen guard.now self.old.here }
         ensures stays { Stays self.old.here self.new.here }
     {
-        let (hand, found) = match (&self.cell, step) {
-            (Some(cell), View::ShareCell) => hands::share_cell(
-                self.domain,
-                guard,
-                &mut self.here,
-                cell,
-            ),
-            (_, View::TryShare) => hands::try_share(self.domain, &mut self.here, pointer),
-            _ => hands::share(self.domain, &mut self.here, pointer),
-        };
+        let (domain, local) = (self.domain, &mut self.here);
+        let (hand, found) = hands::sharing(domain, guard, local, &self.cell, pointer, step);
         self.put(hand);
         found
     }
