@@ -58,8 +58,8 @@ const ELEVEN: &[u64] = &[0, 1, 2, 3, 4, 5, 6, 7, 8, 9, 10];
 
 const ROWS: &[Row] = &[
     // the boundary follows the order of insertion
-    (&ASCENDING, (14, 15, true)),
-    (&DESCENDING, (1, 15, false)),
+    (ASCENDING, (14, 15, true)),
+    (DESCENDING, (1, 15, false)),
     (FALLING_THEN_RISING, (7, 15, false)),
     (MIXED, (9, 15, false)),
     (MIXED_BACK, (6, 15, false)),

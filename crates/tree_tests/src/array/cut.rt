@@ -17,7 +17,7 @@ fn shown(array: &Array<u64, u64>) -> (u64, usize) {
 
 /// An array of the keys up to 14 without 9, which came in the reverse order.
 fn without_nine() -> Array<u64, u64> {
-    let mut array = holding(&DESCENDING);
+    let mut array = holding(DESCENDING);
     let _removed = make(&mut array, Remove(9));
     array
 }

@@ -17,7 +17,7 @@ const REMOVED: Told = Removed(RemoveResult::Success);
 
 /// A removed pair keeps its place.
 pub(super) const WITH_A_TOMBSTONE: Table = (
-    &ASCENDING,
+    ASCENDING,
     &[
         (Remove(3), REMOVED),
         (Len, Number(14)),

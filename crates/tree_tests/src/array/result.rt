@@ -12,7 +12,7 @@ fn is_written<T: Debug>(alloc: Global, told: &T, wanted: &str) -> bool {
     }
 }
 
-const NAMES: [(RemoveResult, &str); 4] = [
+const NAMES: &[(RemoveResult, &str)] = &[
     (RemoveResult::Success, "Success"),
     (RemoveResult::Retired, "Retired"),
     (RemoveResult::Fail, "Fail"),
@@ -23,7 +23,7 @@ const NAMES: [(RemoveResult, &str); 4] = [
 fn are_named(alloc: Global) -> bool {
     let mut named = true;
     for (told, name) in NAMES {
-        named = is_written(alloc, &told, name) && named;
+        named = is_written(alloc, told, name) && named;
     }
     named
 }

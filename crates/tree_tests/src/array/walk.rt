@@ -98,7 +98,7 @@ fn a_distributed_array_gives_its_pairs_to_others_and_stays_frozen(rt: HostRuntim
     assert!(rt; dealt && others == [None; 3]);
 }
 
-const CHANGED: [(Call, Told); 2] = [
+const CHANGED: &[(Call, Told)] = &[
     (Insert(3, 7), Done),
     (Remove(1), Removed(RemoveResult::Success)),
 ];
@@ -106,7 +106,7 @@ const CHANGED: [(Call, Told); 2] = [
 #[test]
 fn a_showing_tells_removed_pairs_from_others(rt: HostRuntime) {
     let mut array = mixed();
-    let other = first_other(&mut array, &CHANGED);
+    let other = first_other(&mut array, CHANGED);
     let mut gone: u64 = 0;
     let mut there: u64 = 0;
     let shown = array.for_each_all(

@@ -119,9 +119,9 @@ fn both_ends_go_through_three_pairs(rt: HostRuntime) {
 const DOUBLING: &[(u64, u64)] = &[(1, 2), (2, 3), (4, 6), (8, 12)];
 
 // Steps of a range, of the cursor without bounds that its copy becomes, and of the range then.
-const WITHIN: [(Step, Seen); 2] = [(Next, Some((4, 6))), (Get, Some((4, 6)))];
+const WITHIN: &[(Step, Seen)] = &[(Next, Some((4, 6))), (Get, Some((4, 6)))];
 
-const BEYOND: [(Step, Seen); 1] = [(Next, Some((8, 12)))];
+const BEYOND: &[(Step, Seen)] = &[(Next, Some((8, 12)))];
 
 const AT_ITS_END: &[(Step, Seen)] = &[
     (Next, None),
@@ -133,8 +133,8 @@ const AT_ITS_END: &[(Step, Seen)] = &[
 /// The first step of each of these that gives something else.
 fn within_and_beyond(tree: &Tree) -> [Option<usize>; 3] {
     let mut range = tree.range(Bound::Included(&3), Bound::Included(&4));
-    let within = first_other_within(&mut range, &WITHIN);
-    let beyond = first_other_step(&mut Iter::from(range.clone()), &BEYOND);
+    let within = first_other_within(&mut range, WITHIN);
+    let beyond = first_other_step(&mut Iter::from(range.clone()), BEYOND);
     [within, beyond, first_other_within(&mut range, AT_ITS_END)]
 }
 
@@ -177,7 +177,7 @@ const ALIKE: Pairs = Pairs {
 };
 
 /// An excluded bound is left out.
-pub(super) const COUNTS: [(Call, Told); 5] = [
+pub(super) const COUNTS: &[(Call, Told)] = &[
     (Fill(ALIKE, 1, 10), Is(true)),
     (
         CountWithin(Bound::Included(1), Bound::Excluded(1)),

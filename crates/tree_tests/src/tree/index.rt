@@ -16,7 +16,7 @@ use std::alloc::{AllocError, Global};
 use std::collections::BTreeMap;
 
 /// A new tree has depth 0, and one pair makes it 1.
-pub(super) const ONE_PAIR: [(Call, Told); 5] = [
+pub(super) const ONE_PAIR: &[(Call, Told)] = &[
     (Depth, Number(0)),
     (Insert(1, 10), Done),
     (Insert(1, 11), Duplicate(1, 11)),
@@ -25,7 +25,7 @@ pub(super) const ONE_PAIR: [(Call, Told); 5] = [
 ];
 
 /// Rising keys up to 225 make one node.
-pub(super) const ONE_NODE: [(Call, Told); 6] = [
+pub(super) const ONE_NODE: &[(Call, Told)] = &[
     (Fill(EACH, 1, 226), Is(true)),
     (Depth, Number(1)),
     (Holds(EACH, 1, 226), Is(true)),
@@ -44,7 +44,7 @@ const SEVEN: Pairs = Pairs {
 };
 
 /// An upsert replaces the value.
-pub(super) const REPLACED: [(Call, Told); 8] = [
+pub(super) const REPLACED: &[(Call, Told)] = &[
     (Upsert(1, 10), Done),
     (Peek(1), Val(Some(10))),
     (Upsert(1, 11), Done),
@@ -81,7 +81,7 @@ const LAST_ROUND: Pairs = Pairs {
 };
 
 /// Upserts of keys that are there take no place.
-pub(super) const UPSERTED_OFTEN: [(Call, Told); 5] = [
+pub(super) const UPSERTED_OFTEN: &[(Call, Told)] = &[
     (Fill(EACH, 0, 15), Is(true)),
     (UpsertInRounds, Is(true)),
     (HasFullLeaf(0), Is(true)),
@@ -90,7 +90,7 @@ pub(super) const UPSERTED_OFTEN: [(Call, Told); 5] = [
 ];
 
 /// Functions are asked of the pair that is there.
-pub(super) const ASKED: [(Call, Told); 12] = [
+pub(super) const ASKED: &[(Call, Told)] = &[
     (Insert(3, 30), Done),
     (PeekEntry(3), Pair(Some((3, 30)))),
     (PeekWith(3), Pair(Some((3, 30)))),
@@ -146,7 +146,7 @@ pub(super) fn upsert_stirred(tree: &mut Tree) -> bool {
 }
 
 /// Keys in any order are found and removed, in a tree of three levels at least.
-pub(super) const STIRRED: [(Call, Told); 9] = [
+pub(super) const STIRRED: &[(Call, Told)] = &[
     (TakeStirred, Is(true)),
     (Len, Number(6000)),
     (IsDeeper(2), Is(true)),
@@ -168,14 +168,14 @@ const FALLING: Pairs = Pairs {
 };
 
 /// Falling keys are found.
-pub(super) const FALLEN: [(Call, Told); 3] = [
+pub(super) const FALLEN: &[(Call, Told)] = &[
     (Fill(FALLING, 0, 2000), Is(true)),
     (Holds(FALLING, 0, 2000), Is(true)),
     (Peek(0), Val(None)),
 ];
 
 /// Trees are equal by their lists.
-pub(super) const RISEN_AND_FALLEN: [(Call, Told); 16] = [
+pub(super) const RISEN_AND_FALLEN: &[(Call, Told)] = &[
     (Equal, Is(true)),
     (FillBoth, Is(true)),
     (Swap, Done),
@@ -195,7 +195,7 @@ pub(super) const RISEN_AND_FALLEN: [(Call, Told); 16] = [
 ];
 
 /// A clone is equal until one of them changes.
-pub(super) const CLONED: [(Call, Told); 6] = [
+pub(super) const CLONED: &[(Call, Told)] = &[
     (Fill(EACH, 1, 10), Is(true)),
     (Copy, Done),
     (Swap, Done),
@@ -214,7 +214,7 @@ const SEVENS: Pairs = Pairs {
 };
 
 /// A tree of keys in no order is equal to its clone.
-pub(super) const CLONED_IN_NO_ORDER: [(Call, Told); 5] = [
+pub(super) const CLONED_IN_NO_ORDER: &[(Call, Told)] = &[
     (Fill(SEVENS, 1, 500), Is(true)),
     (Copy, Done),
     (Swap, Done),
@@ -359,7 +359,7 @@ fn left_after(alloc: Global, count: u64) -> Result<(bool, usize), AllocError> {
 }
 
 // How many pairs come, and how many are left without a third of them.
-const LEFT: [(u64, usize); 12] = [
+const LEFT: &[(u64, usize)] = &[
     (0, 0),
     (1, 1),
     (14, 10),
@@ -377,6 +377,6 @@ const LEFT: [(u64, usize); 12] = [
 #[test]
 fn clones_of_trees_that_lost_pairs_go_on_by_themselves(rt: HostRuntime) {
     for (count, left) in LEFT {
-        assert!(rt; left_after(rt.alloc(), count) == Ok((true, left)));
+        assert!(rt; left_after(rt.alloc(), *count) == Ok((true, *left)));
     }
 }

@@ -90,7 +90,7 @@ const WITHOUT_A_RANGE: &[(Call, Told)] = &[
     (Lacks(EACH, 1000, 99000), Is(true)),
 ];
 
-const FEWER: [&[(Call, Told)]; 2] = [A_HUNDRED_THOUSAND, WITHOUT_A_RANGE];
+const FEWER: &[&[(Call, Told)]] = &[A_HUNDRED_THOUSAND, WITHOUT_A_RANGE];
 
 #[test]
 fn a_million_pairs_are_inserted_and_found(rt: HostRuntime) {
@@ -99,5 +99,5 @@ fn a_million_pairs_are_inserted_and_found(rt: HostRuntime) {
 
 #[test]
 fn large_trees_answer_as_the_tables_say(rt: HostRuntime) {
-    assert_eq!(rt; first_other_of(rt.alloc(), &FEWER), None);
+    assert_eq!(rt; first_other_of(rt.alloc(), FEWER), None);
 }

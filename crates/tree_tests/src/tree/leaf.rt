@@ -192,7 +192,7 @@ const THEN: &[(Step, Seen)] = &[
     (Step::Next, Some((2049, 2))),
 ];
 
-const OF_THE_COPY: [(Step, Seen); 1] = [(Step::Get, Some((2049, 2)))];
+const OF_THE_COPY: &[(Step, Seen)] = &[(Step::Get, Some((2049, 2)))];
 
 /// Whether a falling cursor and its copy go so.
 fn part(leaf: &Leaf<u64, u64>, tree: &Tree) -> bool {
@@ -202,7 +202,7 @@ fn part(leaf: &Leaf<u64, u64>, tree: &Tree) -> bool {
         Cursor::Falling(falling) => {
             let copy = Cursor::Falling(falling.clone());
             let then = goes(Cursor::Falling(falling), tree, THEN).1;
-            first && then && goes(copy, tree, &OF_THE_COPY).1
+            first && then && goes(copy, tree, OF_THE_COPY).1
         },
     }
 }
@@ -517,7 +517,7 @@ fn jumps_through(alloc: Global, walk: Walk) -> bool {
     taken && gone && forth && back && leads_to_pairs(&tree, walk)
 }
 
-const WALKS: [Walk; 3] = [
+const WALKS: &[Walk] = &[
     Walk {
         pairs: EACH,
         count: 150,
@@ -538,7 +538,7 @@ const WALKS: [Walk; 3] = [
 #[test]
 fn jumps_go_over_keys_whose_leaves_left_the_tree(rt: HostRuntime) {
     for walk in WALKS {
-        assert!(rt; jumps_through(rt.alloc(), walk));
+        assert!(rt; jumps_through(rt.alloc(), *walk));
     }
 }
 

@@ -11,7 +11,7 @@ use std::collections::BTreeMap;
 use std::ops::Bound;
 
 /// A range is removed, and its edges are kept.
-pub(super) const EDGES: [(Call, Told); 5] = [
+pub(super) const EDGES: &[(Call, Told)] = &[
     (Fill(EACH, 1, 8), Is(true)),
     (RemoveRange(Bound::Included(3), Bound::Excluded(8)), Done),
     (Contains(2), Is(true)),

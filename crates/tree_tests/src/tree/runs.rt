@@ -8,7 +8,10 @@ use super::push::{BELOW_300, first_leaf};
 use std::alloc::Global;
 
 /// How many pairs fill a leaf, fifteen leaves and sixteen, and one more of each.
-const LENGTHS: [u64; 6] = [15, 16, 225, 226, 240, 241];
+const LENGTHS: &[u64] = &[15, 16, 225, 226, 240, 241];
+
+/// How many of them the first of two runs has.
+const FIRST_RUNS: &[usize] = &[0, 1, 14, 15, 16];
 
 /// A tree of so many keys from 0 on, each with its complement, and whether memory was refused to it.
 fn rising(alloc: Global, count: u64) -> (Tree, bool) {
@@ -55,8 +58,8 @@ fn takes_two(alloc: Global, count: u64, first: usize) -> bool {
 #[test]
 fn two_runs_fill_their_leaves(rt: HostRuntime) {
     for count in LENGTHS {
-        for first in [0usize, 1, 14, 15, 16] {
-            assert!(rt; takes_two(rt.alloc(), count, first));
+        for first in FIRST_RUNS {
+            assert!(rt; takes_two(rt.alloc(), *count, *first));
         }
     }
 }
@@ -77,7 +80,7 @@ fn tries_two(alloc: Global, count: u64) -> bool {
 #[test]
 fn a_refusal_of_memory_to_two_runs_leaves_no_pair(rt: HostRuntime) {
     for count in LENGTHS {
-        assert!(rt; tries_two(rt.alloc(), count));
+        assert!(rt; tries_two(rt.alloc(), *count));
     }
 }
 

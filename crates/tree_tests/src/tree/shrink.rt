@@ -76,7 +76,7 @@ pub(super) fn shrink(tree: &mut Tree, step: u64) -> bool {
 // Leaves go with their pairs whatever the order: rising, falling, and in no order, as 1000 and 389 have no common
 // divisor. One leaf under one node is left.
 
-pub(super) const SHRUNK_RISING: [(Call, Told); 6] = [
+pub(super) const SHRUNK_RISING: &[(Call, Told)] = &[
     (Fill(EACH, 0, 1000), Is(true)),
     (IsDeeper(1), Is(true)),
     (Shrink(1), Is(true)),
@@ -85,7 +85,7 @@ pub(super) const SHRUNK_RISING: [(Call, Told); 6] = [
     (First, Pair(None)),
 ];
 
-pub(super) const SHRUNK_FALLING: [(Call, Told); 6] = [
+pub(super) const SHRUNK_FALLING: &[(Call, Told)] = &[
     (Fill(EACH, 0, 1000), Is(true)),
     (IsDeeper(1), Is(true)),
     (Shrink(999), Is(true)),
@@ -94,7 +94,7 @@ pub(super) const SHRUNK_FALLING: [(Call, Told); 6] = [
     (First, Pair(None)),
 ];
 
-pub(super) const SHRUNK_IN_NO_ORDER: [(Call, Told); 6] = [
+pub(super) const SHRUNK_IN_NO_ORDER: &[(Call, Told)] = &[
     (Fill(EACH, 0, 1000), Is(true)),
     (IsDeeper(1), Is(true)),
     (Shrink(389), Is(true)),
@@ -120,7 +120,7 @@ pub(super) fn go_through(queue: &mut Tree) -> bool {
 }
 
 /// A queue keeps no leaf of what went through it.
-pub(super) const QUEUE: [(Call, Told); 5] = [
+pub(super) const QUEUE: &[(Call, Told)] = &[
     (Fill(EACH, 0, 100), Is(true)),
     (GoThrough, Is(true)),
     (Len, Number(100)),
@@ -154,10 +154,10 @@ pub(super) fn stir_often(tree: &mut Tree) -> bool {
 }
 
 /// As many pairs go as come at random.
-pub(super) const STIRRED: [(Call, Told); 1] = [(StirOften, Is(true))];
+pub(super) const STIRRED: &[(Call, Told)] = &[(StirOften, Is(true))];
 
 /// A range takes its leaves along, in a tree of three levels at least, which is filled again then.
-pub(super) const WITHOUT_RANGES: [(Call, Told); 12] = [
+pub(super) const WITHOUT_RANGES: &[(Call, Told)] = &[
     (Fill(EACH, 0, 5000), Is(true)),
     (IsDeeper(2), Is(true)),
     (
@@ -226,7 +226,7 @@ const ROUND_5: Pairs = Pairs {
 };
 
 /// A leaf that was freed takes new pairs, which take no more places than the first round took.
-pub(super) const ROUNDS: [(Call, Told); 24] = [
+pub(super) const ROUNDS: &[(Call, Told)] = &[
     (Fill(ROUND_0, 0, 200), Is(true)),
     (HasFewLeaves(40, 40), Is(true)),
     (Lose(ROUND_0, 0, 200), Is(true)),
