@@ -99,19 +99,19 @@ const JOBS: Table = Table {
     parts: &[],
 };
 
-const OPENED: [Row; 1] = [(Open(G, 2), Done)];
+const OPENED: &[Row] = &[(Open(G, 2), Done)];
 
-const CLOSED: [Row; 1] = [(Close(G), Done)];
+const CLOSED: &[Row] = &[(Close(G), Done)];
 
 #[test]
 fn a_million_jobs_wait(rt: HostRuntime) {
     let mut stage = Stage::new(&rt, rt.alloc(), &JOBS);
-    let mut all = are_right(&mut stage, &OPENED);
+    let mut all = are_right(&mut stage, OPENED);
     for _ in 0..MANY {
         all = stage.defer(NoJob) && all;
     }
     let another = stage.defer(NoJob);
-    let closed = are_right(&mut stage, &CLOSED);
+    let closed = are_right(&mut stage, CLOSED);
     stage.end();
     assert!(rt; all && !another && closed);
 }
@@ -209,8 +209,9 @@ const PARTICIPANTS: Table = Table {
     ])],
 };
 
+const COUNTED: &[Table] = &[NESTED, OWNERS, WAITING, IN_TURN, PARTICIPANTS];
+
 #[test]
 fn guards_and_owners_are_counted(rt: HostRuntime) {
-    let tables = [NESTED, OWNERS, WAITING, IN_TURN, PARTICIPANTS];
-    plays::<_, NoJob>(&rt, rt.alloc(), &tables);
+    plays::<_, NoJob>(&rt, rt.alloc(), COUNTED);
 }

@@ -164,21 +164,24 @@ fn on_a_bag<R: Abort, const N: usize>(
     folded
 }
 
+const OVERFLOWING: &[(Call, Reply)] = &[
+    (IsEmpty, Is(true)),
+    (TryPush(1), Done),
+    (TryPush(2), Back(2)),
+    (Push(2), Done),
+    (Len, Count(2)),
+    (IsEmpty, Is(false)),
+    (Pop, Value(Some(2))),
+    (Pop, Value(Some(1))),
+    (Pop, Value(None)),
+];
+
 #[test]
 fn a_bag_of_one_gives_the_overflow_first(rt: HostRuntime) {
-    let rows = [
-        (IsEmpty, Is(true)),
-        (TryPush(1), Done),
-        (TryPush(2), Back(2)),
-        (Push(2), Done),
-        (Len, Count(2)),
-        (IsEmpty, Is(false)),
-        (Pop, Value(Some(2))),
-        (Pop, Value(Some(1))),
-        (Pop, Value(None)),
-    ];
-    assert!(rt; on_a_bag::<_, 1>(&rt, rt.alloc(), (2, 4), &rows) == 0);
+    assert!(rt; on_a_bag::<_, 1>(&rt, rt.alloc(), (2, 4), OVERFLOWING) == 0);
 }
+
+const WITHOUT_CELLS: &[(Call, Reply)] = &[(Push(7), Back(7)), (Len, Count(0))];
 
 #[test]
 fn a_bag_takes_a_cell_more_than_its_length(rt: HostRuntime) {
@@ -188,28 +191,28 @@ fn a_bag_takes_a_cell_more_than_its_length(rt: HostRuntime) {
         Err(refused) => assert_eq!(rt; refused, NotMade::NoSlot),
     }
     end(&rt, w);
-    let rows = [(Push(7), Back(7)), (Len, Count(0))];
-    assert!(rt; on_a_bag::<_, 2>(&rt, rt.alloc(), (1, 3), &rows) == 0);
+    assert!(rt; on_a_bag::<_, 2>(&rt, rt.alloc(), (1, 3), WITHOUT_CELLS) == 0);
 }
+
+const WITHOUT_SLOTS: &[(Call, Reply)] = &[
+    (Push(1), Done),
+    (TryPush(2), Done),
+    (Push(3), Back(3)),
+    (TryPush(4), Back(4)),
+    (Len, Count(2)),
+];
 
 #[test]
 fn a_bag_without_a_slot_hands_the_value_back(rt: HostRuntime) {
-    let rows = [
-        (Push(1), Done),
-        (TryPush(2), Done),
-        (Push(3), Back(3)),
-        (TryPush(4), Back(4)),
-        (Len, Count(2)),
-    ];
-    assert!(rt; on_a_bag::<_, 32>(&rt, rt.alloc(), (2, 40), &rows) == 2);
+    assert!(rt; on_a_bag::<_, 32>(&rt, rt.alloc(), (2, 40), WITHOUT_SLOTS) == 2);
 }
+
+const THREE: &[(Call, Reply)] = &[(Push(1), Done), (Push(2), Done), (Push(3), Done)];
 
 #[test]
 fn every_owner_is_folded_once(rt: HostRuntime) {
     assert!(rt; on_a_bag::<_, 1>(&rt, rt.alloc(), (1, 3), &[]) == 0);
-
-    let rows = [(Push(1), Done), (Push(2), Done), (Push(3), Done)];
-    assert!(rt; on_a_bag::<_, 2>(&rt, rt.alloc(), (3, 6), &rows) == 3);
+    assert!(rt; on_a_bag::<_, 2>(&rt, rt.alloc(), (3, 6), THREE) == 3);
 }
 
 /// The value of the next entry of a bag that is taken apart, which is given back.

@@ -145,13 +145,13 @@ fn are_forty(values: &[u64], first: u64) -> bool {
     as_said
 }
 
-const TWO: [(Call, Reply); 2] = [(TryPush(3), Done), (TryPush(4), Done)];
+const TWO: &[(Call, Reply)] = &[(TryPush(3), Done), (TryPush(4), Done)];
 
 #[test]
 fn a_bag_without_overflow_is_lent(rt: HostRuntime) {
     let mut w = place_of(&rt, rt.alloc(), 2, 35);
     let bag = new_bag::<_, 32>(&rt, rt.alloc(), &mut w);
-    let pushed = play(&mut w, &bag, &TWO);
+    let pushed = play(&mut w, &bag, TWO);
     let mut seen = Vec::new(rt.alloc());
     let raised = raise(&rt, &mut w, &bag, 5, &mut seen);
     let [first, second, none, _, _, _] = six_pops(&mut w, &bag);
