@@ -162,6 +162,7 @@ impl<'r, R: Abort, J: Deferred> Stage<'r, R, J> {
             | Step::TagSharedIfFull(at, _)
             | Step::ClaimKept(at, _)
             | Step::CloneCell(at, _) => at,
+            Step::IsAt(at, owner) => return self.is_at(at, owner),
             Step::SwapShared(at, owner, tag) => return self.swap_shared(at, owner, tag),
             Step::LoadShared(at, to) => return self.load_shared(at, to),
             Step::TakeShared(at, to, seen) => return self.take_shared(at, to, seen, false),
@@ -203,6 +204,17 @@ impl<'r, R: Abort, J: Deferred> Stage<'r, R, J> {
         self.put(G, Thing::Guard(guard));
         self.put(to, thing);
         found
+    }
+
+    /// Whether a cell keeps the item of an owner.
+    fn is_at(&mut self, at: usize, owner: usize) -> Found {
+        let shared = self.shared(owner);
+        let cell = self.shared_cell(at);
+        let kept = world::atomic_shared::kept_at(&self.w, &cell);
+        let owned = world::shared::owned_at(&shared);
+        self.put(at, Thing::SharedCell(cell));
+        self.put(owner, Thing::Shared(shared));
+        told(kept == owned)
     }
 
     fn swap_shared(&mut self, at: usize, owner: usize, tag: Tag) -> Found {

@@ -4,12 +4,13 @@ use crate::play::plays;
 use crate::steps::Found::{self, Done, Is, No, NoSlot, Null, Tagged, Yes};
 use crate::steps::Part::Once;
 use crate::steps::Step::{
-    Claim, ClaimKept, CloneCell, Close, EndCell, ExchangeRaw, FromRaw, IntoRaw, IsNullOwned,
-    IsNullRaw, IsNullShared, IsOut, KeepOwned, KeepShared, Link, LinkNull, LoadOwned, LoadRaw,
-    LoadShared, Look, NullRawCell, NullSharedCell, Open, Own, OwnedCell, ReadOwned, ReadShared,
-    Release, Retag, Retire, See, Share, SharedCell, Slots, StoreRaw, SwapOwned, SwapRaw, TagIfFull,
-    TagIfMarked, TagOfOwned, TagOfRaw, TagOfShared, TagSharedIfFull, TakeOwned, TakeOwnedWeakly,
-    TakeShared, TakeSharedWeakly, TryClaim, Untag, UpdateRaw,
+    Claim, ClaimKept, Clone, CloneCell, Close, EndCell, ExchangeRaw, FromRaw, IntoRaw, IsAt,
+    IsNullOwned, IsNullRaw, IsNullShared, IsOut, KeepOwned, KeepShared, Link, LinkNull, LoadOwned,
+    LoadRaw, LoadShared, Look, NullRawCell, NullSharedCell, Open, Own, OwnedCell, ReadAt,
+    ReadOwned, ReadShared, Release, Retag, Retire, See, Share, SharedCell, Slots, StoreRaw,
+    SwapOwned, SwapRaw, SwapShared, TagIfFull, TagIfMarked, TagOfOwned, TagOfRaw, TagOfShared,
+    TagSharedIfFull, TakeOwned, TakeOwnedWeakly, TakeShared, TakeSharedWeakly, TryClaim, Untag,
+    UpdateRaw,
 };
 use crate::steps::{A, B, C, D, G, Point, Table};
 use sdd_world::{Job, Tag};
@@ -170,6 +171,30 @@ const SHARED_FURTHER: Table = Table {
     ])],
 };
 
+const WHERE_ITS_ITEM_IS: Table = Table {
+    about: "a cell says where its item is, as an owner does",
+    sizes: [1, 3, 2, 0],
+    parts: &[Once(&[
+        (Share(A, 6), Done),
+        (Share(B, 7), Done),
+        (Share(C, 8), Done),
+        (ReadAt(A), Is(6)),
+        (ReadAt(B), Is(7)),
+        (ReadAt(C), Is(8)),
+        (NullSharedCell(D), Done),
+        (IsAt(D, A), No),
+        (Clone(B, G), Done),
+        (SwapShared(D, G, Tag::First), Tagged(Tag::None)),
+        (IsAt(D, A), No),
+        (IsAt(D, B), Yes),
+        (IsAt(D, C), No),
+        (Release(A, 0), Yes),
+        (Release(B, 0), No),
+        (Release(C, 0), Yes),
+        (EndCell(D, 0), Done),
+    ])],
+};
+
 const LINKED: Table = Table {
     about: "a link names its cell",
     sizes: [2, 1, 2, 0],
@@ -240,6 +265,7 @@ const TABLES: &[Table] = &[
     NO_CELL,
     NOTHING_TO_SHARE,
     SHARED_FURTHER,
+    WHERE_ITS_ITEM_IS,
     LINKED,
     OUT_ONCE,
     OF_RAW_POINTERS,

@@ -30,6 +30,8 @@ mod reclaiming;
 #[cfg(test)]
 mod refusals;
 #[cfg(test)]
+mod rows;
+#[cfg(test)]
 mod stage;
 #[cfg(test)]
 mod steps;

@@ -3,7 +3,7 @@
 ghost use Rattle.sdd_table.specs.Place.{IsShared};
 ghost use Rattle.sdd_world.specs.Tokens.{shared_slot};
 
-use crate::stage::{Stage, Thing, count, told};
+use crate::stage::{Stage, Thing, count, told, value};
 use crate::steps::{Found, Step};
 use sdd_world::{Deferred, ExclusiveAccess, Kept, NotLent, Shared, world};
 use std::process::Abort;
@@ -129,6 +129,7 @@ impl<'r, R: Abort, J: Deferred> Stage<'r, R, J> {
     fn of_shared(&mut self, step: Step) -> Found {
         let at = match step {
             Step::ReadShared(at)
+            | Step::ReadAt(at)
             | Step::DropShared(at)
             | Step::WriteShared(at, _)
             | Step::WriteCell(at, _)
@@ -141,6 +142,11 @@ impl<'r, R: Abort, J: Deferred> Stage<'r, R, J> {
             Step::ReadShared(_) => {
                 let read = *world::shared::as_ref(&self.w, &shared);
                 (Thing::Shared(shared), Found::Is(read))
+            }
+            Step::ReadAt(_) => {
+                let at = world::shared::owned_at(&shared);
+                let read = self.w.read_loaded(&at).copied();
+                (Thing::Shared(shared), value(read))
             }
             Step::DropShared(_) => match world::shared::drop_in_place(&mut self.w, shared) {
                 Ok(last) => (Thing::Nothing, told(last)),

@@ -38,6 +38,8 @@ pub(crate) enum Step {
     /// The value of an item.
     ReadOwned(usize),
     ReadShared(usize),
+    /// The value of an item by where its owner says that it is.
+    ReadAt(usize),
     /// One more owner of the item at the first place, which is at the second.
     Clone(usize, usize),
     /// The owner of an item is given back by a participant: whether it was the last one, where owners are counted.
@@ -103,6 +105,8 @@ pub(crate) enum Step {
     IsNullShared(usize),
     TagOfOwned(usize),
     TagOfShared(usize),
+    /// Whether the cell keeps the item of the owner at the second place, by where both say that theirs is.
+    IsAt(usize, usize),
     /// Changes the owner at the second place, or none, and this tag for what the cell has: the tag that it had.
     SwapOwned(usize, usize, Tag),
     SwapShared(usize, usize, Tag),

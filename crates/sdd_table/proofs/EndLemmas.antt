@@ -1,5 +1,5 @@
 -- what the end of the store and the end of a private bag rest on
-use Rattle.std.proofs.Common.{◌≡◌, ◌<◌, ℕ, zero, suc, false, Option, None, List, [], ◌∷◌, ◌++◌, length, drop, get_or, is_some, refl, sym, ap, ◌∙◌, arith}
+use Rattle.std.proofs.Common.{◌≡◌, ◌<◌, ℕ, zero, suc, false, Option, None, List, [], ◌∷◌, ◌++◌, length, get_or, is_some, refl, sym, ap, ◌∙◌, arith}
 use Rattle.sdd_table.specs.State.{State, status_at, behind_at}
 use Rattle.sdd_table.specs.Steps.{handed_over, handed_over_as, handed_within, left_behind}
 use Rattle.sdd_table.proofs.PrivateBagLemmas.{length_behind}

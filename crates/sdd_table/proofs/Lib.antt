@@ -3,6 +3,7 @@ pub mod ChainLemmas
 pub mod ThreadLemmas
 pub mod BagInvariantLemmas
 pub mod SlotLemmas
+pub mod KeepingLemmas
 pub mod RotationLemmas
 pub mod PlaceLemmas
 pub mod PrivateBagLemmas

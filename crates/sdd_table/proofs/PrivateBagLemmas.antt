@@ -1,7 +1,7 @@
 -- what a private bag does that is known by its ends
-use Rattle.std.proofs.Common.{◌≡◌, ◌≢◌, ◌<◌, ◌==◌, ℕ, zero, suc, Option, None, Some, List, [], ◌∷◌, ◌++◌, length, get_or, set, ltb, true, refl, sym, ap, ◌∙◌, subst, arith, length-set, get_or-set_other, get_or-set_same, inl, inr}
+use Rattle.std.proofs.Common.{◌≡◌, ◌≢◌, ◌<◌, ℕ, zero, suc, None, Some, List, [], ◌∷◌, ◌++◌, length, get_or, set, ltb, true, refl, sym, ap, ◌∙◌, subst, arith, length-set, get_or-set_other, get_or-set_same, inl, inr}
 use Rattle.std.proofs.lemmas.Bool.Decides.{eqb_tells, nat_tests}
-use Rattle.sdd_table.specs.State.{State, status_at, with_status, mark_of}
+use Rattle.sdd_table.specs.State.{State, status_at, mark_of}
 use Rattle.sdd_table.specs.Steps.{left_behind, followed, followed_as}
 use Rattle.sdd_table.specs.declared.status.Status.{Status}
 use Rattle.sdd_table.specs.declared.status.Status.TheVariants as status

@@ -395,6 +395,11 @@ module _ (a : Inside) (p : ℕ) (q0 : Participant) (t : AreThreaded a) (known : 
       let base : P q1 = let b = changed_to (record q1 { local = k }) in (threaded size b refl r.0, shown_at size b (set all0 p (with_local_state k (participant_in all0 p))) refl r.1) in
       subst P q_is base
 
+  -- a participant that notes f of what it noted
+  pub noted : (f : LocalState → LocalState) → Changes (changed_to (record q0 { local = f q0.local })) (λ m. record m { local = f m.local })
+  noted f = let r = local_set (f q0.local) in
+      (r.0, r.1 ∙ ap (λ (k : LocalState). record (shown_of a) { all = set all0 p (with_local_state (f k) (participant_in all0 p)) }) (sym local_inside))
+
   pub put_room : (i : ℕ) → i < size → sum_by (held_times i) all0 ≡ 0 → q0.newest < size
   put_room i l none = subst (λ (z : Participant). z.newest < size) q_is (newest_below size a.links.items a.all.items (threads_of a t) p known refl i l none)
 

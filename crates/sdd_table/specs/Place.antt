@@ -1,6 +1,6 @@
 -- what holds of every place of one thread between two calls
-use Rattle.std.specs.Prelude.{◌≡◌, ◌≢◌, ℕ, ◌+◌, ◌-◌, ◌<◌, ◌≤◌, [], length, is_some, Option, None, Some, true}
-use Rattle.std.specs.List.{sum_by}
+use Rattle.std.specs.Prelude.{◌≡◌, ◌≢◌, ℕ, ◌+◌, ◌-◌, ◌<◌, ◌≤◌, List, [], ◌∷◌, drop, length, is_some, Option, None, Some, take, true}
+use Rattle.std.specs.List.{All, sum_by}
 use Rattle.sdd_table.specs.State.{State, ParticipantState, status_at, value_at, cell_at, participant_at, local_at, weight, is_used, with_status, with_cell}
 use Rattle.sdd_table.specs.Steps.{times}
 use Rattle.sdd_plain.specs.declared.tag.Tag.{Tag}
@@ -81,6 +81,29 @@ AddsOwner i w w' = (n : ℕ) × (status_at w i ≡ status.Shared n) × (w' ≡ w
 -- slot i has a shared item with fewer owners than can be counted
 abbrev pub TakesOwner : {T : Type 0} → ℕ → State T → Type 0
 TakesOwner i w = (n : ℕ) × (status_at w i ≡ status.Shared n) × (n < 4294967295)
+
+-- the items in slots have one owner more each, one after the other
+abbrev pub AddsOwners : {T : Type 0} → List ℕ → State T → State T → Type 0
+AddsOwners [] w w' = w' ≡ w
+AddsOwners {T} (i ∷ is) w w' = (v : State T) × AddsOwner i w v × AddsOwners is v w'
+
+-- the items in slots take one owner more each: none is named twice
+pub record TakeOwners {T : Type 0} (is : List ℕ) (w : State T) : Type 0 where
+  pub each : All (λ i. TakesOwner i w) is
+  pub once : (j : ℕ) → times j is ≤ 1
+
+-- the slots of the items whose owners the item in a slot keeps, where it is there
+abbrev pub kept_in : {T : Type 0} → (T → List ℕ) → Option T → List ℕ
+kept_in kept None = []
+kept_in kept (Some v) = kept v
+
+abbrev pub kept_at : {T : Type 0} → (T → List ℕ) → State T → Option ℕ → List ℕ
+kept_at kept w None = []
+kept_at kept w (Some i) = kept_in kept (value_at w i)
+
+-- those from one place of its row up to another
+abbrev pub kept_between : {T : Type 0} → (T → List ℕ) → State T → Option ℕ → ℕ → ℕ → List ℕ
+kept_between kept w o from upto = take (upto - from) (drop from (kept_at kept w o))
 
 -- slot i has a shared item with more than one owner
 abbrev pub HasOtherOwners : {T : Type 0} → State T → ℕ → Type 0

@@ -25,6 +25,10 @@ pub record State (T : Type 0) : Type 0 where
   pub cells : List Cell
   pub participants : List ParticipantState
 
+-- places of these uses, and nothing else
+abbrev pub uses_alone : List Status → State ℕ
+uses_alone ss = record { count = 0; values = []; states = ss; cells = []; participants = [] }
+
 -- reading: numbers out of range name nothing
 abbrev pub nobody : ParticipantState
 nobody = record { local = no_local; current = []; prior = []; oldest = []; due = [] }

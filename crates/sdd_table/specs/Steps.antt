@@ -1,5 +1,5 @@
 -- what each call of a place makes of its state
-use Rattle.std.specs.Prelude.{◌≡◌, ℕ, zero, suc, ◌+◌, ◌-◌, ◌==◌, Bool, true, false, not, ◌&&◌, ◌||◌, cond, Option, None, Some, List, [], ◌∷◌, ◌++◌, length, replicate, min, leb, ltb}
+use Rattle.std.specs.Prelude.{◌≡◌, ℕ, zero, suc, ◌+◌, ◌-◌, ◌==◌, Bool, true, false, not, ◌&&◌, cond, Option, None, Some, List, [], ◌∷◌, ◌++◌, length, replicate, leb, ltb}
 use Rattle.std.specs.List.{list_all, sum_by}
 use Rattle.sdd_table.specs.Holding.{Hold, OwnedItem, SharedItem, OwnedIn, SharedIn}
 use Rattle.sdd_table.specs.State.{State, ParticipantState, status_at, value_at, cell_at, participant_at, local_at, with_status, with_cell, with_local, retired, slot_freed, rotated_bags, taken, raised, is_present, behind_at}
@@ -7,7 +7,6 @@ use Rattle.sdd_table.specs.declared.status.Status.{Status}
 use Rattle.sdd_table.specs.declared.status.Status.TheVariants as status
 use Rattle.sdd_table.specs.declared.status.Cell.{Cell}
 use Rattle.sdd_table.specs.declared.status.Cell.TheVariants as cell
-use Rattle.sdd_plain.specs.declared.local_state.LocalState.{LocalState}
 pub use Rattle.sdd_plain.specs.Locals.{closings_after, scans}
 
 -- 1 where two numbers are equal

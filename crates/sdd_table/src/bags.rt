@@ -4,7 +4,7 @@
 //! that came before it. No place is in two bags, so one word a place serves the bags of all participants, and what
 //! waits takes no memory of its own. A place is put, taken out or recalled, and bags move on, in constant time.
 
-ghost use Rattle.std.specs.Prelude.{◌≡◌, ◌<◌, List, ◌∷◌, [], length, replicate, IfSome, IfNone, IfOk, IsTrue, IsFalse, ℕ, sum_by};
+ghost use Rattle.std.specs.Prelude.{◌≡◌, ◌<◌, ◌&&◌, not, true, List, ◌∷◌, [], length, replicate, IfSome, IfNone, IfOk, IsTrue, IsFalse, ℕ, false, sum_by};
 ghost use Rattle.std.specs.List.{list_all};
 ghost use Rattle.sdd_table.specs.State.{nobody, put_participant, bags_moved_on, left_due, recalled, with_local_state, is_present};
 ghost use Rattle.sdd_table.specs.Steps.{bags_empty};
@@ -98,6 +98,47 @@ impl Participants {
         ensures { self.new ≡ changed_in p (with_local_state local) self.old }
     {
         self.all[p].local = local;
+    }
+
+    /// The outermost guard of `p` opens, and publishes this count.
+    pub(crate) fn publish(&mut self, p: usize, count: u64)
+        requires { p < length self.old.all }
+        ensures { self.new ≡ changed_in p (with_local_state (record (participant_in self.old.all p).local { nesting = 1; published = count; previous = count; accelerated = false })) self.old }
+    {
+        let participant = &mut self.all[p];
+        participant.local.nesting = 1;
+        participant.local.published = count;
+        participant.local.previous = count;
+        participant.local.accelerated = false;
+    }
+
+    /// The outermost guard of `p` closes, with so many closings since the last scan.
+    pub(crate) fn conclude(&mut self, p: usize, closings: u8)
+        requires { p < length self.old.all }
+        ensures { self.new ≡ changed_in p (with_local_state (record (participant_in self.old.all p).local { nesting = 0; closings = closings })) self.old }
+    {
+        let participant = &mut self.all[p];
+        participant.local.nesting = 0;
+        participant.local.closings = closings;
+    }
+
+    /// A guard of `p` is accelerated.
+    pub(crate) fn accelerate(&mut self, p: usize)
+        requires { p < length self.old.all }
+        ensures { self.new ≡ changed_in p (with_local_state (record (participant_in self.old.all p).local { accelerated = true })) self.old }
+    {
+        let participant = &mut self.all[p];
+        participant.local.accelerated = true;
+    }
+
+    /// The garbage of `p` stays noted only if something waits in its bags.
+    pub(crate) fn settle(&mut self, p: usize)
+        requires { p < length self.old.all }
+        ensures { self.new ≡ changed_in p (with_local_state (record (participant_in self.old.all p).local { garbage = (participant_in self.old.all p).local.garbage && not (bags_empty (participant_in self.old.all p)) })) self.old }
+    {
+        let empty = self.are_empty(p);
+        let participant = &mut self.all[p];
+        participant.local.garbage = participant.local.garbage & !empty;
     }
 
     /// Place `i`, which is in no bag, waits in the current bag of `p`.

@@ -1,11 +1,11 @@
 //! What an item owns, and how it gives that up.
 
-ghost use Rattle.std.specs.Prelude.{◌≡◌, List, [], ◌∷◌, MatchOption};
+ghost use Rattle.std.specs.Prelude.{◌≡◌, ℕ, List, [], ◌∷◌, map, MatchOption};
 ghost use Rattle.sdd_table.specs.Holding.{Hold};
-ghost use Rattle.sdd_table.specs.Tokens.{hold_of};
+ghost use Rattle.sdd_table.specs.Tokens.{hold_of, kept_slot};
 
 use crate::cell::{AtomicOwned, AtomicShared};
-use crate::owner::{Owned, Shared};
+use crate::owner::{Kept, Owned, Shared};
 
 /// What an item may own.
 pub enum Held<T> {
@@ -29,4 +29,14 @@ pub trait Holds: Sized {
     /// Spends the item, which owns nothing any more.
     fn end(self)
         requires { holds self ≡ [] };
+}
+
+/// An item that shows the owners which it keeps in a row, so that a place can make one more of each for another item.
+pub trait KeepsRow {
+    /// The slots of their items, in order.
+    ghost kept: { Self → List ℕ };
+
+    /// The owners, in order.
+    fn row(&self) -> &[Kept]
+        ensures { map kept_slot result.now ≡ kept self.now };
 }

@@ -9,6 +9,7 @@ mod bags;
 pub mod cell;
 pub mod holds;
 pub mod job;
+mod keeping;
 pub mod link;
 pub mod loaded;
 pub mod owner;
@@ -21,7 +22,7 @@ pub mod table;
 pub mod tokens;
 
 pub use cell::{AtomicOwned, AtomicShared};
-pub use holds::{Held, Holds};
+pub use holds::{Held, Holds, KeepsRow};
 pub use job::{Deferred, Job, NoJob, Task};
 pub use link::Link;
 pub use loaded::Loaded;

@@ -2,7 +2,7 @@
 
 ghost use Rattle.std.specs.Prelude.{◌≡◌, ◌+◌, ◌-◌, ◌<◌, ◌≤◌, ℕ, List, [], ◌∷◌, length, leb, IsTrue, IsFalse, IfSome, IfNone, true};
 ghost use Rattle.sdd_table.specs.State.{is_used, mark_of, named_by, behind_at, status_at, participant_at, local_at, weight};
-ghost use Rattle.sdd_table.specs.Steps.{released, disowned, owned_ended, shared_ended, given, given_all, participant_rotated, guard_opened, guard_closed, count_published, scanned, IsNext, Swept, AllSwept, purged, left_waiting, left_behind, enqueued, followed, set_aside, handed_over, handed_over_as, overdue, IsTimely, closings_after, scans as scans_at};
+ghost use Rattle.sdd_table.specs.Steps.{released, disowned, owned_ended, shared_ended, given, given_all, participant_rotated, guard_opened, guard_closed, scanned, IsNext, Swept, AllSwept, purged, left_waiting, left_behind, enqueued, followed, set_aside, handed_over, handed_over_as, overdue, IsTimely, closings_after, scans as scans_at};
 ghost use Rattle.sdd_table.specs.Dropping.{undone, Dropped};
 ghost use Rattle.sdd_table.specs.Place.{Sound, IsPlace, IsOwned, IsShared};
 ghost use Rattle.sdd_table.specs.Frame.{OnlyParticipant};
@@ -152,9 +152,7 @@ fn turn_over<T: Holds, J: Deferred>(table: &mut Table<T, J>, p: usize)
 {
     table.turn(p);
     while reclaim_next(table, p) {}
-    let mut local = table.local(p);
-    local.garbage = local.garbage && !table.bags_are_empty(p);
-    table.set_local(p, local);
+    table.settle(p);
 }
 
 /// What `p` retired last is reclaimed, where more than `kept` places wait in its current bag.
@@ -360,20 +358,6 @@ fn scans(local: &LocalState, closings: u8) -> bool
     local.accelerated || local.garbage && closings >= 64
 }
 
-/// Participant `p` publishes the count.
-fn begin<T, J: Deferred>(table: &mut Table<T, J>, p: usize)
-    requires { p < length table.old.participants }
-    ensures { table.new ≡ count_published p table.old }
-{
-    let count = table.count();
-    let mut local = table.local(p);
-    local.nesting = 1;
-    local.published = count;
-    local.previous = count;
-    local.accelerated = false;
-    table.set_local(p, local);
-}
-
 /// Raises the count, if every open guard published it.
 fn scan<T, J: Deferred>(table: &mut Table<T, J>)
     ensures { table.new ≡ scanned table.old }
@@ -394,7 +378,7 @@ pub fn open<T: Holds, J: Deferred>(table: &mut Table<T, J>, p: usize)
     let mut local = table.local(p);
     if local.nesting == 0 {
         let turns = local.previous != table.count();
-        begin(table, p);
+        table.publish(p);
         if turns {
             turn_over(table, p);
         }
@@ -411,24 +395,22 @@ pub fn close<T, J: Deferred>(table: &mut Table<T, J>, p: usize)
     ensures { table.new ≡ guard_closed p table.old }
 {
     let mut local = table.local(p);
-    if local.nesting == 1 {
-        let closings = if local.closings < 64 {
-            local.closings + 1
-        } else {
-            64
-        };
-        let scanning = scans(&local, closings);
-        local.nesting = 0;
-        if scanning {
-            scan(table);
-            local.closings = 0;
-        } else {
-            local.closings = closings;
-        }
-    } else {
+    if local.nesting > 1 {
         local.nesting -= 1;
+        table.set_local(p, local);
+        return;
     }
-    table.set_local(p, local);
+    let closings = if local.closings < 64 {
+        local.closings + 1
+    } else {
+        64
+    };
+    if scans(&local, closings) {
+        scan(table);
+        table.conclude(p, 0);
+    } else {
+        table.conclude(p, closings);
+    }
 }
 
 /// Participant `p` rotates until its bags are empty.

@@ -4,15 +4,17 @@
 ghost use Rattle.std.specs.Prelude.{◌≡◌, ℕ, ◌+◌, ◌<◌, ◌≤◌, ◌^◌, ◌-◌, List, length, MatchOption, Some, None, OnOk, IfSome, IfNone, IfOk, IfErr, [], ◌∷◌, false, true, replicate, IsTrue, IsFalse, ◌↔◌, sum_by, vec_capacity, vec_len, ◌++◌, map, All, IsSome};
 ghost use Rattle.std.specs.Borrow.{sem};
 ghost use Rattle.std.specs.Option.Follows.{option_follows_value};
-ghost use Rattle.sdd_table.specs.State.{changing, recalled, IsIdle, NoneIdle, with_status, with_local, IsFree, NoneFree, IsFreeCell, NoCellFree, in_use, IsUnused, waiting_as, status_at, participant_at, value_at, cell_at, rotated_bags, placed, raised, nobody, TakesDue, with_cell, is_present, is_used, weight, idleness, vacancy, emptiness, fresh, slot_freed, usage};
+ghost use Rattle.sdd_table.specs.State.{changing, recalled, IsIdle, NoneIdle, with_status, with_local, IsFree, NoneFree, IsFreeCell, NoCellFree, in_use, IsUnused, waiting_as, status_at, participant_at, local_at, value_at, cell_at, rotated_bags, placed, raised, nobody, TakesDue, with_cell, is_present, is_used, weight, idleness, vacancy, emptiness, fresh, slot_freed, usage};
 ghost use Rattle.std.specs.List.{list_all};
 ghost use Rattle.sdd_table.specs.View.{Lists, IsFreeList};
-ghost use Rattle.sdd_table.specs.Steps.{bags_empty, NoneOpen};
-ghost use Rattle.sdd_table.specs.Place.{IsOpen, AddsOwner, HasOtherOwners, LosesOwner, TakesOwner};
+ghost use Rattle.sdd_table.specs.Steps.{bags_empty, NoneOpen, count_published, settled};
+ghost use Rattle.sdd_table.specs.Place.{HasItem, IsOpen, AddsOwner, AddsOwners, HasOtherOwners, LosesOwner, TakeOwners, TakesOwner, kept_at, kept_between};
 ghost use Rattle.sdd_table.specs.Tokens.{kept_slot};
 
 use crate::bags::Participants;
+use crate::holds::KeepsRow;
 use crate::job::Deferred;
+use crate::keeping;
 use crate::owner::Kept;
 use crate::status::{Cell, LocalState, Status};
 use crate::store::Store;
@@ -141,6 +143,38 @@ impl<T, J: Deferred> Table<T, J> {
         self.participants.set_local(p, local);
     }
 
+    /// The outermost guard of `p` opens, and publishes the count.
+    pub(crate) fn publish(&mut self, p: usize)
+        requires { p < length self.old.participants }
+        ensures { self.new ≡ count_published p self.old }
+    {
+        self.participants.publish(p, self.count);
+    }
+
+    /// The outermost guard of `p` closes, with so many closings since the last scan.
+    pub(crate) fn conclude(&mut self, p: usize, closings: u8)
+        requires { p < length self.old.participants }
+        ensures { self.new ≡ with_local p (record (local_at self.old p) { nesting = 0; closings = closings }) self.old }
+    {
+        self.participants.conclude(p, closings);
+    }
+
+    /// A guard of `p` is accelerated.
+    pub fn accelerate(&mut self, p: usize)
+        requires { p < length self.old.participants }
+        ensures { self.new ≡ with_local p (record (local_at self.old p) { accelerated = true }) self.old }
+    {
+        self.participants.accelerate(p);
+    }
+
+    /// The garbage of `p` stays noted only if something waits in its bags.
+    pub(crate) fn settle(&mut self, p: usize)
+        requires { p < length self.old.participants }
+        ensures { self.new ≡ settled p self.old }
+    {
+        self.participants.settle(p);
+    }
+
     /// What is in slot `i` waits in the current bag of `p`.
     pub fn retire(&mut self, p: usize, i: usize)
         requires participant { p < length self.old.participants }
@@ -232,6 +266,29 @@ impl<T, J: Deferred> Table<T, J> {
             Status::Shared(owners) => *owners += 1,
             _ => unreachable!(),
         }
+    }
+
+    /// One more owner of each item whose owner the item in slot `i` keeps, from one place of its row up to another, for
+    /// another item to keep. The counts alone are written. Condition: the row has these places, and each item there has
+    /// owners, fewer than `2^32 - 1`, and is there once.
+    pub fn keep_row(&mut self, i: usize, from: usize, upto: usize, into: &mut Vec<Kept>)
+    where
+        T: KeepsRow,
+        requires there { HasItem self.old i }
+        requires ordered { from ≤ upto }
+        requires within { upto ≤ length (kept_at T.kept self.old (Some i)) }
+        requires takes { TakeOwners (kept_between T.kept self.old (Some i) from upto) self.old }
+        requires room { length into.old.items + (upto - from) ≤ vec_capacity into.old }
+        ensures owners { map kept_slot into.new.items ≡ map kept_slot into.old.items ++ kept_between T.kept self.old (Some i) from upto }
+        ensures raised { AddsOwners (kept_between T.kept self.old (Some i) from upto) self.old self.new }
+        ensures long { length into.new.items ≡ length into.old.items + (upto - from) }
+        ensures room { vec_capacity into.old ≤ vec_capacity into.new }
+    {
+        let row = match &self.values[i] {
+            Some(value) => value.row(),
+            None => unreachable!(),
+        };
+        keeping::keep_each(&row[from..upto], &mut self.states, into);
     }
 
     /// The item in slot `i` has one owner less, where it has more than one; answers whether it had. The count alone is

@@ -4,9 +4,9 @@ use Rattle.std.specs.List.{list_all, sum_by}
 use Rattle.std.proofs.lemmas.Bool.{false≢true}
 use Rattle.std.proofs.lemmas.Bool.Decides.{eqb_tells}
 use Rattle.sdd_table.specs.Holding.{Hold}
-use Rattle.sdd_table.specs.State.{State, ParticipantState, nobody, status_at, value_at, participant_at, local_at, is_used, weight, with_local, with_local_state, with_status, placed, with_cell, raised, is_present}
+use Rattle.sdd_table.specs.State.{State, ParticipantState, mark_of, nobody, status_at, value_at, participant_at, local_at, is_used, weight, with_local, with_local_state, with_status, placed, with_cell, raised, is_present}
 use Rattle.sdd_table.specs.Steps.{times, count_published, participant_rotated, guard_opened, guard_closed, scanned, scans, closings_after}
-use Rattle.sdd_table.specs.Place.{Sound, IsPlace, IsOpen, IsShared, IsOwnedCell, IsSharedCell, IsRawCell, held_times}
+use Rattle.sdd_table.specs.Place.{AddsOwners, Sound, IsPlace, IsOpen, IsShared, IsOwnedCell, IsSharedCell, IsRawCell, held_times}
 use Rattle.sdd_table.specs.declared.tag.Tag.{Tag}
 use Rattle.sdd_table.specs.declared.status.Cell.TheVariants as cell
 use Rattle.sdd_table.specs.Frame.{has_owner, IsLive, Protects, Frame, OnlyParticipant, IsRun, last_of}
@@ -14,6 +14,7 @@ use Rattle.sdd_table.specs.declared.status.Status.{Status}
 use Rattle.sdd_table.specs.declared.status.Status.TheVariants as status
 use Rattle.sdd_table.specs.declared.status.LocalState.{LocalState}
 use Rattle.sdd_table.proofs.BagInvariantLemmas.{Gives, Leaves, leaves, Calms, calms, Calm, bag_waits, weight_same}
+use Rattle.sdd_table.proofs.KeepingLemmas.{adds_at, adds_only, adds_places}
 use Rattle.sdd_table.proofs.SlotLemmas.{at_most}
 use Rattle.sdd_table.proofs.PlaceLemmas.{calm_at, rotates, place_begun}
 
@@ -305,3 +306,48 @@ shared_cell_used {T} w w' c o t inside e = subst (λ (x : State T). IsSharedCell
 
 pub raw_cell_used : {T : Type 0} (w w' : State T) (c : ℕ) (o : Option ℕ) (t : Tag) → c < length w.cells → w' ≡ with_cell c (cell.OfRaw o t) w → IsRawCell w' c
 raw_cell_used {T} w w' c o t inside e = subst (λ (x : State T). IsRawCell x c) (sym e) (record { inside = omega (arith, length-set w.cells c (cell.OfRaw o t), inside); item = o; tag = t; is = get_or-set_same w.cells c (cell.OfRaw o t) cell.Free inside })
+
+abbrev collected_by : Option (ℕ × ℕ) → Status
+collected_by None = status.Free
+collected_by (Some m) = status.Collected m.0 m.1
+
+marked : (s : Status) (n b : ℕ) → mark_of s ≡ Some (n, b) → s ≡ status.Collected n b
+marked status.Free n b e = absurd (cc)
+marked status.Owned n b e = absurd (cc)
+marked (status.Shared k) n b e = absurd (cc)
+marked status.Raw n b e = absurd (cc)
+marked (status.Collected m c) n b e = ap collected_by e
+marked status.Retired n b e = absurd (cc)
+marked status.Idle n b e = absurd (cc)
+marked status.Deferred n b e = absurd (cc)
+
+-- items have more owners
+pub keeps_added : {T : Type 0} (is : List ℕ) (w w' : State T) → AddsOwners is w w' → Frame w w'
+keeps_added {T} is w w' h =
+    let v : State T = record w { states = w'.states } in
+    let used = adds_at is_used (λ n. refl) is w w' h in
+    let marks = adds_at mark_of (λ n. refl) is w w' h in
+    let frame : Frame w v = record {
+      states = adds_places is w w' h;
+      cells = refl;
+      participants = refl;
+      lives = λ i l. refl;
+      protects = λ q i o o' k. (refl, record { used = used i ∙ k.used; prior = k.prior; oldest = k.oldest; noted = λ n b e. k.noted n b (marked (status_at w i) n b (sym (marks i) ∙ ap mark_of e)) });
+    } in
+    subst (Frame w) (sym (adds_only is w w' h)) frame
+
+pub place_added : {T : Type 0} (is : List ℕ) (w w' : State T) → AddsOwners is w w' → IsPlace w → IsPlace w'
+place_added {T} is w w' h p =
+    let place : IsPlace (record w { states = w'.states }) = record {
+      sound = record {
+        sizes = p.sound.sizes ∙ sym (adds_places is w w' h);
+        once = λ j. p.sound.once j ∙ sym (adds_at weight (λ n. refl) is w w' h j);
+        filled = λ j. p.sound.filled j ∙ sym (adds_at is_used (λ n. refl) is w w' h j);
+      };
+      some = p.some;
+      idle = p.idle;
+      past = p.past;
+      began = p.began;
+      near = p.near;
+    } in
+    is_place w' (record w { states = w'.states }) (adds_only is w w' h) place

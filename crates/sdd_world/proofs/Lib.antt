@@ -2,6 +2,7 @@ pub use Rattle.sdd_table.proofs.ListLemmas
 pub use Rattle.sdd_table.proofs.SlotLemmas
 pub use Rattle.sdd_table.proofs.BagInvariantLemmas
 pub use Rattle.sdd_table.proofs.PlaceLemmas
+pub use Rattle.sdd_table.proofs.KeepingLemmas
 pub mod FrameLemmas
 pub mod CountLemmas
 pub mod PrivateCollectorLemmas

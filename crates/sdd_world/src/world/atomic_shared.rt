@@ -101,6 +101,14 @@ pub fn loaded<T, J: Deferred>(
     requires { IsSharedCell w.now (shared_cell cell.now) }
     ensures { (tag : Tag) × (cell_at w.now (shared_cell cell.now) ≡ Cell.OfShared (loaded_slot result) tag) }
 {
+    kept_at(w, cell)
+}
+
+/// Where the item is that the cell keeps, without its tag: as `loaded`, without a guard. It is there as long as the cell keeps it.
+pub fn kept_at<T, J: Deferred>(w: &World<T, J>, cell: &AtomicShared<T>) -> Loaded<T>
+    requires { IsSharedCell w.now (shared_cell cell.now) }
+    ensures { (tag : Tag) × (cell_at w.now (shared_cell cell.now) ≡ Cell.OfShared (loaded_slot result) tag) }
+{
     match w.table.cell(tokens::number_of_shared_cell(cell)) {
         Cell::OfShared(slot, _) => tokens::loaded_at(slot),
         _ => unreachable!(),

@@ -52,9 +52,7 @@ pub fn accelerate<T, J: Deferred>(w: &mut World<T, J>, guard: &WorldGuard)
     ensures keeps { Frame w.old w.new }
     ensures only { OnlyParticipant (guard_participant guard.now) w.old w.new }
 {
-    let mut local = w.table.local(guard.participant);
-    local.accelerated = true;
-    w.table.set_local(guard.participant, local);
+    w.table.accelerate(guard.participant);
 }
 
 /// Whether something was retired by the participant, or the flag set, since its bags were last found empty.

@@ -1,18 +1,18 @@
 //! Items with counted owners.
 
-ghost use Rattle.std.specs.Prelude.{◌≡◌, ◌<◌, ◌+◌, ℕ, length, leb, IfOk, IfErr, IfSome, OnErr, Some, None, IfNone, IsTrue, ◌↔◌, OnOk, IsErr, IsErrOf, IsSome, IsFalse};
+ghost use Rattle.std.specs.Prelude.{◌≡◌, ◌<◌, ◌≤◌, ◌+◌, ◌-◌, ◌++◌, ℕ, length, leb, map, vec_capacity, IfOk, IfErr, IfSome, OnErr, Some, None, IfNone, IsTrue, ◌↔◌, OnOk, IsErr, IsErrOf, IsSome, IsFalse};
 ghost use Rattle.std.specs.Borrow.{LendsIfOk, sem};
 ghost use Rattle.sdd_table.specs.State.{local_at, IsFree, NoneFree, placed, value_at, status_at};
 ghost use Rattle.sdd_table.specs.Steps.{released};
 ghost use Rattle.sdd_table.specs.Frame.{Frame, OnlyParticipant};
 ghost use Rattle.sdd_table.specs.Dropping.{Dropped};
 ghost use Rattle.sdd_table.specs.Holding.{SharedItem};
-ghost use Rattle.sdd_table.specs.Place.{IsOpen, IsShared, HasOneOwner, AddsOwner, TakesNoOwner, TakesOwner};
+ghost use Rattle.sdd_table.specs.Place.{HasItem, IsOpen, IsShared, HasOneOwner, AddsOwner, AddsOwners, TakeOwners, TakesNoOwner, TakesOwner, kept_at, kept_between};
 ghost use Rattle.sdd_world.specs.Tokens.{kept_slot, loaded_slot, shared_slot, ptr_slot, ptr_tag};
 
 use crate::exclusive_access::ExclusiveAccess;
 use crate::guard::WorldGuard;
-use crate::holds::{Held, Holds};
+use crate::holds::{Held, Holds, KeepsRow};
 use crate::job::Deferred;
 use crate::owner::{Kept, Shared};
 use crate::pointer::{Loaded, Ptr};
@@ -105,6 +105,33 @@ pub fn keep_loaded<T, J: Deferred>(w: &mut World<T, J>, at: &Loaded<T>) -> Kept
     }
 }
 
+/// One more owner of each item whose owner the item that was loaded keeps, from one place of its row up to another, for
+/// an item to keep: as `keep_loaded` of each, where the row is found once. Condition: the item is there, its row has these
+/// places, and each item there has owners, fewer than `2^32 - 1`, and is there once.
+pub fn keep_row<T: KeepsRow, J: Deferred>(
+    w: &mut World<T, J>,
+    at: &Loaded<T>,
+    from: usize,
+    upto: usize,
+    into: &mut Vec<Kept>,
+)
+    requires there { (i : ℕ) × (loaded_slot at.now ≡ Some i) × HasItem w.old i }
+    requires ordered { from ≤ upto }
+    requires within { upto ≤ length (kept_at T.kept w.old (loaded_slot at.now)) }
+    requires takes { TakeOwners (kept_between T.kept w.old (loaded_slot at.now) from upto) w.old }
+    requires room { length into.old.items + (upto - from) ≤ vec_capacity into.old }
+    ensures owners { map kept_slot into.new.items ≡ map kept_slot into.old.items ++ kept_between T.kept w.old (loaded_slot at.now) from upto }
+    ensures raised { AddsOwners (kept_between T.kept w.old (loaded_slot at.now) from upto) w.old w.new }
+    ensures long { length into.new.items ≡ length into.old.items + (upto - from) }
+    ensures room { vec_capacity into.old ≤ vec_capacity into.new }
+    ensures keeps { Frame w.old w.new }
+{
+    match tokens::slot_of_loaded(at) {
+        Some(slot) => w.table.keep_row(slot, from, upto, into),
+        None => unreachable!(),
+    }
+}
+
 /// Gives an owner back, and answers whether it was the last, those of cells and items counted. The last one retires
 /// the item, which waits in the current bag of participant `p`.
 pub fn release<T, J: Deferred>(w: &mut World<T, J>, shared: Shared<T>, p: usize) -> bool
@@ -143,6 +170,13 @@ pub fn drop_in_place<T: Holds, J: Deferred>(
     );
     reclaim::drop_now(&mut w.table, Held::Shared(shared));
     Ok(last)
+}
+
+/// Where the item is. It is there as long as it has this owner.
+pub fn owned_at<T>(shared: &Shared<T>) -> Loaded<T>
+    ensures { loaded_slot result ≡ Some (shared_slot shared.now) }
+{
+    tokens::loaded_at(Some(tokens::slot_of_shared(shared)))
 }
 
 /// The value of an item.

@@ -1,6 +1,6 @@
-use Rattle.std.proofs.Common.{◌≡◌, ◌<◌, ℕ, Bool, length, cond, refl, sym, ap, ◌∙◌, arith, subst}
+use Rattle.std.proofs.Common.{◌≡◌, ℕ, Bool, length, cond, refl, sym, ap, ◌∙◌, arith}
 use Rattle.sdd_table.specs.State.{State, is_used, weight, status_at, with_status, retired}
-use Rattle.sdd_table.specs.Steps.{followed, set_aside}
+use Rattle.sdd_table.specs.Steps.{followed}
 use Rattle.sdd_table.specs.declared.status.Status.TheVariants as status
 use Rattle.sdd_table.proofs.PrivateBagLemmas.{names, room_left}
 use Rattle.sdd_table.proofs.reclaim.collect.Goals as goal
