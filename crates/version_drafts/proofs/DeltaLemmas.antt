@@ -202,7 +202,7 @@ module _ {K V : Type 0} {cmp : K → K → Ordering} (o : IsTotalOrder cmp) wher
         | Greater ↦ λ c. on_test (test p.0) (λ a. rw (a, c) (fair_has test fair k ps)) (λ a. rw a (fair_has test fair k ps))
       ]) refl
 
-  not_noted : (k : K) (cs : List (K × Option V)) → AllKeys (λ y. cmp k y ≡ Less) cs → value_of_key cmp k cs ≡ None
+  pub not_noted : (k : K) (cs : List (K × Option V)) → AllKeys (λ y. cmp k y ≡ Less) cs → value_of_key cmp k cs ≡ None
   not_noted k [] a = refl
   not_noted k (c ∷ cs) a = let l = a.0 in rw l (not_noted k cs a.1)
 

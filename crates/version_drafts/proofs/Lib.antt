@@ -3,6 +3,8 @@ pub mod DeltaLemmas
 pub mod GapLemmas
 pub mod ListedLemmas
 pub mod MergeLemmas
+pub mod PartLemmas
+pub mod RowLemmas
 pub mod RunLemmas
 pub mod RangeLemmas
 pub mod SpanLemmas

@@ -1,8 +1,8 @@
 -- Segments of a list, none of which is taken over.
-use Rattle.std.proofs.Common.{◌≡◌, true, false, not, ℕ, ◌+◌, ◌*◌, ◌<◌, ◌≤◌, List, [], ◌∷◌, ◌++◌, ◌-◌, length, get_or, take, drop, append_assoc, refl, sym, ap, ◌∙◌, subst, arith, take-append-drop}
+use Rattle.std.proofs.Common.{◌≡◌, true, false, not, ℕ, ◌+◌, ◌*◌, ◌<◌, ◌≤◌, List, [], ◌∷◌, ◌++◌, ◌-◌, Some, length, get_or, map, take, drop, append_assoc, refl, sym, ap, ◌∙◌, subst, arith, take-append-drop}
 use Rattle.std.proofs.lemmas.Bool.{false≢true}
 use Rattle.std.proofs.lemmas.List.{drop_more, take_more}
-use Rattle.std.proofs.lemmas.List.Elements.{All-head, All-tail}
+use Rattle.std.proofs.lemmas.List.Elements.{All-cons, All-head, All-nil, All-tail}
 use Rattle.std.proofs.lemmas.List.Sums.{sum_by-cons}
 use Rattle.std.specs.List.{All}
 use Rattle.std.specs.Ordering.{ordering_index}
@@ -11,8 +11,11 @@ use Rattle.std.specs.Cmp.{IsTotalOrder}
 use Rattle.std.specs.declared.cmp.Ordering.{Ordering}
 use Rattle.std.specs.declared.cmp.Ordering.TheVariants.{Less, Equal, Greater}
 use Rattle.leaf_array.specs.Pairs.{IsAscending}
-use Rattle.version_drafts.specs.Cutting.{IsSegmentSized, one_open, room_spent, trees}
-use Rattle.version_drafts.specs.Parts.{blocks_of_parts, made_in, makes, no_pairs}
+use Rattle.version_views.specs.Cuts.{greatest_key, pairs_in}
+use Rattle.version_views.specs.Views.{IsView}
+use Rattle.version_views.specs.declared.directory.Directory.{Directory}
+use Rattle.version_drafts.specs.Cutting.{one_open, room_spent, trees}
+use Rattle.version_drafts.specs.Parts.{LiesWithin, blocks_of_parts, made_in, makes}
 use Rattle.version_drafts.specs.declared.segments.Part.{Part}
 use Rattle.version_drafts.specs.declared.segments.Part.TheVariants as parts
 use Rattle.version_drafts.specs.declared.segments.Row.{Row}
@@ -20,28 +23,28 @@ use Rattle.version_drafts.specs.declared.segments.SegmentBuilder.{SegmentBuilder
 use Rattle.tree_index.proofs.ShapeLemmas.{all_append}
 use Rattle.version_views.proofs.FilterLemmas.{all_rear, rising_cons, rising_front, rising_head, rising_none, rising_tail, rising_under}
 
-module _ {K V N : Type 0} where
-  -- parts that have pairs where no name has any are new
-  pub all_new : (s : ℕ) (ps : List (Part K V N)) → All (IsSegmentSized s) (blocks_of_parts no_pairs ps) → made_in ps ≡ length ps
-  all_new s [] sizes = refl
-  all_new s (parts.Taken name ∷ ps) sizes = let some = (All-head (IsSegmentSized s) (no_pairs name) (blocks_of_parts no_pairs ps) sizes).0 in absurd (omega (arith, some))
-  all_new s (parts.Made tree ∷ ps) sizes =
-      let rest = all_new s ps (All-tail (IsSegmentSized s) tree.value.pairs (blocks_of_parts no_pairs ps) sizes) in
+module _ {K V : Type 0} where
+  -- where nothing is older, all parts are new
+  pub all_new : (ps : List (Part K V)) → All (LiesWithin 0) ps → made_in ps ≡ length ps
+  all_new [] lies = refl
+  all_new (parts.Taken from upto ∷ ps) lies = let some = All-head (LiesWithin 0) (parts.Taken from upto) ps lies in absurd (omega (arith, some.0, some.1))
+  all_new (parts.Made tree ∷ ps) lies =
+      let rest = all_new ps (All-tail (LiesWithin 0) (parts.Made tree) ps lies) in
       let sum = sum_by-cons makes (parts.Made tree) ps in
       omega (arith, rest, sum)
 
-  -- and so they have the same pairs, whatever names have
-  pub blocks_new : (s : ℕ) (named : N → List (K × V)) (ps : List (Part K V N)) → All (IsSegmentSized s) (blocks_of_parts no_pairs ps) → blocks_of_parts no_pairs ps ≡ blocks_of_parts named ps
-  blocks_new s named [] sizes = refl
-  blocks_new s named (parts.Taken name ∷ ps) sizes = let some = (All-head (IsSegmentSized s) (no_pairs name) (blocks_of_parts no_pairs ps) sizes).0 in absurd (omega (arith, some))
-  blocks_new s named (parts.Made tree ∷ ps) sizes = ap (λ bs. tree.value.pairs ∷ bs) (blocks_new s named ps (All-tail (IsSegmentSized s) tree.value.pairs (blocks_of_parts no_pairs ps) sizes))
+  -- and so they have the same pairs, whatever is older
+  pub blocks_new : (blocks : List (List (K × V))) (ps : List (Part K V)) → All (LiesWithin 0) ps → blocks_of_parts [] ps ≡ blocks_of_parts blocks ps
+  blocks_new blocks [] lies = refl
+  blocks_new blocks (parts.Taken from upto ∷ ps) lies = let some = All-head (LiesWithin 0) (parts.Taken from upto) ps lies in absurd (omega (arith, some.0, some.1))
+  blocks_new blocks (parts.Made tree ∷ ps) lies = ap (λ bs. tree.value.pairs ∷ bs) (blocks_new blocks ps (All-tail (LiesWithin 0) (parts.Made tree) ps lies))
 
   -- the same segments and the same open tree have room for the same pairs
-  pub spent_same : (s : ℕ) (c c' : SegmentBuilder K V N) → c'.row ≡ c.row → c'.tail.pairs ≡ c.tail.pairs → room_spent s c' ≡ room_spent s c
-  spent_same s c c' row tail = ap (λ (r : Row K V N). s * made_in r.parts.items + length c'.tail.pairs) row ∙ ap (λ ps. s * made_in c.row.parts.items + length ps) tail
+  pub spent_same : (s : ℕ) (c c' : SegmentBuilder K V) → c'.row ≡ c.row → c'.tail.pairs ≡ c.tail.pairs → room_spent s c' ≡ room_spent s c
+  spent_same s c c' row tail = ap (λ (r : Row K V). s * made_in r.parts.items + length c'.tail.pairs) row ∙ ap (λ ps. s * made_in c.row.parts.items + length ps) tail
 
   -- where no tree was made, there is room for no pair
-  pub none_spent : (s : ℕ) (c : SegmentBuilder K V N) → trees c ≡ 0 → room_spent s c ≡ 0
+  pub none_spent : (s : ℕ) (c : SegmentBuilder K V) → trees c ≡ 0 → room_spent s c ≡ 0
   none_spent s c none =
       let row : made_in c.row.parts.items ≡ 0 = omega (arith, none) in
       let none_open : one_open c.tail.pairs ≡ 0 = omega (arith, none) in
@@ -52,7 +55,7 @@ module _ {K V N : Type 0} where
       rest (p ∷ ps) e = absurd (omega (arith, e))
 
   -- pairs are in as few trees of up to s pairs as can hold them
-  pub fewest : (s n : ℕ) (c : SegmentBuilder K V N) → 1 ≤ s → room_spent s c ≡ n → s * trees c < n + s
+  pub fewest : (s n : ℕ) (c : SegmentBuilder K V) → 1 ≤ s → room_spent s c ≡ n → s * trees c < n + s
   fewest s n c least spent = open_tree (made_in c.row.parts.items) c.tail.pairs spent
     where
       open_tree : (m : ℕ) (ps : List (K × V)) → s * m + length ps ≡ n → s * (m + one_open ps) < n + s
@@ -117,3 +120,23 @@ pub is_not_less : (o : Ordering) → true ≡ not (ordering_index o == 0) → o 
 is_not_less Less e l = false≢true (sym e)
 is_not_less Equal e l = cc
 is_not_less Greater e l = cc
+
+-- a directory without segments is a version
+pub view_none : {K V O : Type 0} (cmp : K → K → Ordering) (has : O → Type 0) (pairs : O → List (K × V)) (d : Directory K O) → d.segments.items ≡ [] → d.separators.items ≡ [] → d.length ≡ 0 → IsView cmp has pairs d
+view_none {K} {V} {O} cmp has pairs d none keys count =
+    let blocks : map pairs d.segments.items ≡ [] = ap (map pairs) none in
+    record {
+      segments = subst (All has) (sym none) (All-nil has);
+      ordered = record {
+        some = subst (All (λ b. 1 ≤ length b)) (sym blocks) (All-nil (λ b. 1 ≤ length b));
+        rising = subst (λ bs. IsAscending cmp (pairs_in bs)) (sym blocks) (rising_none V cmp);
+        separated = ap (map Some) keys ∙ sym (ap (λ bs. map greatest_key (take (length bs - 1) bs)) blocks);
+      };
+      counted = count ∙ sym (ap (λ bs. length (pairs_in bs)) blocks);
+    }
+
+-- what has no stretch lies within any version
+pub lies_more : {K V : Type 0} (n : ℕ) (ps : List (Part K V)) → All (LiesWithin 0) ps → All (LiesWithin n) ps
+lies_more n [] lies = All-nil (LiesWithin n)
+lies_more n (parts.Taken from upto ∷ ps) lies = let some = All-head (LiesWithin 0) (parts.Taken from upto) ps lies in absurd (omega (arith, some.0, some.1))
+lies_more n (parts.Made tree ∷ ps) lies = All-cons (LiesWithin n) (parts.Made tree) ps tt (lies_more n ps (All-tail (LiesWithin 0) (parts.Made tree) ps lies))

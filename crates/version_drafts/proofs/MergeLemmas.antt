@@ -147,8 +147,8 @@ module _ {K V X : Type 0} (cmp : K → K → Ordering) where
 
 -- ---- how many trees are made
 
-module _ {K V N : Type 0} (s : ℕ) where
-  pub filled_then : (a b d : ℕ) (c c' c'' : SegmentBuilder K V N) → GivesNoMoreThanRead s a b c c' → GivesNoMoreThanRead s b d c' c'' → GivesNoMoreThanRead s a d c c''
+module _ {K V : Type 0} (s : ℕ) where
+  pub filled_then : (a b d : ℕ) (c c' c'' : SegmentBuilder K V) → GivesNoMoreThanRead s a b c c' → GivesNoMoreThanRead s b d c' c'' → GivesNoMoreThanRead s a d c c''
   filled_then a b d c c' c'' f h = record {
     spent = (let x = f.spent in let y = h.spent in omega (arith, x, y));
     some = λ some. h.some (f.some some);
@@ -158,11 +158,11 @@ module _ {K V N : Type 0} (s : ℕ) where
     ]);
   }
 
-  pub filled_none : (a b : ℕ) (c : SegmentBuilder K V N) → b ≤ a → GivesNoMoreThanRead s a b c c
+  pub filled_none : (a b : ℕ) (c : SegmentBuilder K V) → b ≤ a → GivesNoMoreThanRead s a b c c
   filled_none a b c le = record { spent = omega (arith, le); some = λ h. h; none = λ e. refl }
 
   -- a pair was given, and as much or more was passed
-  pub filled_one : (a b : ℕ) (c c' : SegmentBuilder K V N) → b + 1 ≤ a → GivesNoMoreThanRead s 1 0 c c' → GivesNoMoreThanRead s a b c c'
+  pub filled_one : (a b : ℕ) (c c' : SegmentBuilder K V) → b + 1 ≤ a → GivesNoMoreThanRead s 1 0 c c' → GivesNoMoreThanRead s a b c c'
   filled_one a b c c' less f = let spent = f.spent in record { spent = omega (arith, spent, less); some = f.some; none = f.none }
 
 -- so many full trees and a pair more have no more pairs than full trees and some pairs
@@ -176,7 +176,7 @@ upto_full s a b j least h = elim (cases_lt a (b + j)) [
       absurd (omega (arith, h, step, parts, times))
 ]
 
-module _ {K V N : Type 0} (s : ℕ) (least : 1 ≤ s) (c c' : SegmentBuilder K V N) where
+module _ {K V : Type 0} (s : ℕ) (least : 1 ≤ s) (c c' : SegmentBuilder K V) where
   -- at most one tree for a full segment, and one for each change
   pub trees_after : (n left left' : ℕ) → n ≤ s → length c.tail.pairs ≤ s → left' ≤ left → GivesNoMoreThanRead s (n + left) left' c c' → trees c' + left' ≤ trees c + 1 + left
   trees_after n left left' small room fewer f =
@@ -298,7 +298,7 @@ module _ {K V N : Type 0} (s : ℕ) (least : 1 ≤ s) (c c' : SegmentBuilder K V
     ]
 
 -- a block was passed by, of which nothing is left
-pub thrifty_passed : {K V N : Type 0} (s budget left : ℕ) (test : K → Bool) (last : Bool) (rest rest' : List (List (K × V))) (c : SegmentBuilder K V N) → turn_count test last (pairs_in rest) ≡ differ last true + turn_count test true (pairs_in rest') → IsThrifty s budget test last rest left c → IsThrifty s budget test true rest' left c
+pub thrifty_passed : {K V : Type 0} (s budget left : ℕ) (test : K → Bool) (last : Bool) (rest rest' : List (List (K × V))) (c : SegmentBuilder K V) → turn_count test last (pairs_in rest) ≡ differ last true + turn_count test true (pairs_in rest') → IsThrifty s budget test last rest left c → IsThrifty s budget test true rest' left c
 thrifty_passed s budget left test true rest rest' c e t =
     let all = t.all in
     record {
@@ -315,10 +315,10 @@ thrifty_passed s budget left test false rest rest' c e t =
     }
 
 -- what has the same parts and the same open pairs is as thrifty
-pub thrifty_same : {K V N : Type 0} (s : ℕ) (c c' : SegmentBuilder K V N) → c'.row ≡ c.row → c'.tail.pairs ≡ c.tail.pairs → (budget left : ℕ) (test : K → Bool) (last : Bool) (rest : List (List (K × V))) → IsThrifty s budget test last rest left c → IsThrifty s budget test last rest left c'
-thrifty_same {K} {V} {N} s c c' row tail budget left test last rest t =
-    let made = ap (λ (r : Row K V N). made_in r.parts.items) row in
-    let last' = ap (λ (r : Row K V N). r.last) row in
+pub thrifty_same : {K V : Type 0} (s : ℕ) (c c' : SegmentBuilder K V) → c'.row ≡ c.row → c'.tail.pairs ≡ c.tail.pairs → (budget left : ℕ) (test : K → Bool) (last : Bool) (rest : List (List (K × V))) → IsThrifty s budget test last rest left c → IsThrifty s budget test last rest left c'
+thrifty_same {K} {V} s c c' row tail budget left test last rest t =
+    let made = ap (λ (r : Row K V). made_in r.parts.items) row in
+    let last' = ap (λ (r : Row K V). r.last) row in
     let size = ap length tail in
     let open' = ap one_open tail in
     let all = t.all in

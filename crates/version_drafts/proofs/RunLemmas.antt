@@ -89,7 +89,7 @@ without_none cmp [] (p ∷ ps) e = ap (λ qs. p ∷ qs) (without_none cmp [] ps 
 without_none cmp (g ∷ gs) ps e = absurd (omega (arith, e))
 
 -- as many pairs were given as were read
-pub run_filled : {K V N : Type 0} (s a b n : ℕ) (c c' : SegmentBuilder K V N) → room_spent s c' ≡ room_spent s c + n → b + n ≤ a → length c'.tail.pairs ≡ length c.tail.pairs + n → made_in c'.row.parts.items ≡ made_in c.row.parts.items → GivesNoMoreThanRead s a b c c'
+pub run_filled : {K V : Type 0} (s a b n : ℕ) (c c' : SegmentBuilder K V) → room_spent s c' ≡ room_spent s c + n → b + n ≤ a → length c'.tail.pairs ≡ length c.tail.pairs + n → made_in c'.row.parts.items ≡ made_in c.row.parts.items → GivesNoMoreThanRead s a b c c'
 run_filled s a b n c c' spent left more made = record {
   spent = omega (arith, spent, left);
   some = λ some. omega (arith, some, more);

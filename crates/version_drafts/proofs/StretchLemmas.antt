@@ -1,7 +1,7 @@
 -- Blocks from one place up to another.
-use Rattle.std.proofs.Common.{◌≡◌, inl, inr, Bool, false, ℕ, zero, suc, ◌+◌, ◌-◌, ◌<◌, ◌≤◌, Option, Some, List, [], ◌∷◌, ◌++◌, length, take, drop, slice_get, refl, sym, ap, ◌∙◌, arith, length-append}
+use Rattle.std.proofs.Common.{◌≡◌, inl, inr, Bool, false, ℕ, zero, suc, ◌+◌, ◌-◌, ◌<◌, ◌≤◌, Option, Some, List, [], ◌∷◌, ◌++◌, length, map, take, drop, slice_get, refl, sym, ap, ◌∙◌, arith, length-append}
 use Rattle.std.proofs.lemmas.Bool.Decides.{eqb_tells}
-use Rattle.std.proofs.lemmas.List.{drop-drop, take-append-drop}
+use Rattle.std.proofs.lemmas.List.{drop-drop, length-drop, length-take, take-append-drop, take-map}
 use Rattle.std.specs.Cmp.{IsTotalOrder}
 use Rattle.std.specs.declared.cmp.Ordering.{Ordering}
 use Rattle.std.specs.declared.cmp.Ordering.TheVariants.{Less}
@@ -9,7 +9,9 @@ use Rattle.tree_index.specs.Shape.{AllKeys}
 use Rattle.tree_index.proofs.ShapeLemmas.{all_append}
 use Rattle.version_drafts.specs.Changes.{ahead, apply_delta}
 use Rattle.version_views.specs.Cuts.{pairs_in}
-use Rattle.version_drafts.specs.Cutting.{IsPassedBy, between, differ, turn_count}
+use Rattle.tree_index.proofs.WayLemmas.{some_same}
+use Rattle.version_drafts.specs.Cutting.{IsPassedBy, differ, turn_count}
+use Rattle.version_drafts.specs.Parts.{between}
 use Rattle.version_drafts.specs.Gone.{is_gone, without_gone}
 use Rattle.version_drafts.specs.declared.gone.Gone.{Gone}
 use Rattle.version_views.proofs.BlockListLemmas.{pairs_in-append}
@@ -36,6 +38,36 @@ module _ {X : Type 0} (xs : List X) where
   drop_between i j le =
       let end : i + (j - i) ≡ j = omega (arith, le) in
       sym (take-append-drop (j - i) (drop i xs)) ∙ ap (λ ys. between i j xs ++ ys) (drop-drop (j - i) i xs ∙ ap (λ n. drop n xs) end)
+
+-- one more
+module _ {X : Type 0} where
+  dropped_at : (n i : ℕ) (xs : List X) → slice_get (drop n xs) i ≡ slice_get xs (n + i)
+  dropped_at zero i xs = let same : i ≡ 0 + i = omega arith in ap (slice_get xs) same
+  dropped_at (suc n) i [] = refl
+  dropped_at (suc n) i (x ∷ xs) = let same : suc (n + i) ≡ suc n + i = omega arith in dropped_at n i xs ∙ ap (slice_get (x ∷ xs)) same
+
+  taken_next : (n : ℕ) (xs : List X) (x : X) → slice_get xs n ≡ Some x → take (suc n) xs ≡ take n xs ++ x ∷ []
+  taken_next n [] x h = absurd (cc)
+  taken_next zero (y ∷ ys) x h = ap (λ z. z ∷ []) (some_same h)
+  taken_next (suc n) (y ∷ ys) x h = ap (λ zs. y ∷ zs) (taken_next n ys x h)
+
+  pub between_more : (i j : ℕ) (xs : List X) (x : X) → i ≤ j → slice_get xs j ≡ Some x → between i (j + 1) xs ≡ between i j xs ++ x ∷ []
+  between_more i j xs x le here =
+      let more : j + 1 - i ≡ suc (j - i) = omega (arith, le) in
+      let at : i + (j - i) ≡ j = omega (arith, le) in
+      ap (λ n. take n (drop i xs)) more ∙ taken_next (j - i) (drop i xs) x (dropped_at i (j - i) xs ∙ (ap (slice_get xs) at ∙ here))
+
+-- what lies between two places is mapped as all is
+dropped_map : {X Y : Type 0} (f : X → Y) (n : ℕ) (xs : List X) → map f (drop n xs) ≡ drop n (map f xs)
+dropped_map f zero xs = refl
+dropped_map f (suc n) [] = refl
+dropped_map f (suc n) (x ∷ xs) = dropped_map f n xs
+
+pub between_map : {X Y : Type 0} (f : X → Y) (from upto : ℕ) (xs : List X) → map f (between from upto xs) ≡ between from upto (map f xs)
+between_map f from upto xs = sym (take-map f (upto - from) (drop from xs)) ∙ ap (take (upto - from)) (dropped_map f from xs)
+
+pub between_long : {X : Type 0} (from upto : ℕ) (xs : List X) → upto ≤ length xs → length (between from upto xs) ≡ upto - from
+between_long from upto xs le = simp (length-take, length-drop) (omega (arith, le))
 
 module _ {K V : Type 0} (blocks : List (List (K × V))) where
   pub pairs_between : (i j : ℕ) (b : List (K × V)) → i < j → Some b ≡ slice_get blocks i → pairs_in (between i j blocks) ≡ b ++ pairs_in (between (i + 1) j blocks)

@@ -9,7 +9,7 @@ use Rattle.tree_index.specs.Shape.{AllKeys}
 use Rattle.version_drafts.specs.Changes.{ahead, apply_delta}
 use Rattle.version_views.specs.Cuts.{IsTight, greatest_key, pairs_in}
 use Rattle.version_drafts.specs.Gone.{is_gone, without_gone}
-use Rattle.version_drafts.specs.Parts.{blocks_of_parts, made_in}
+use Rattle.version_drafts.specs.Parts.{LiesWithin, blocks_of_parts, made_in}
 use Rattle.version_drafts.specs.declared.gone.Gone.{Gone}
 use Rattle.version_drafts.specs.declared.segments.Part.{Part}
 use Rattle.version_drafts.specs.declared.segments.Part.TheVariants as parts
@@ -19,10 +19,6 @@ use Rattle.version_drafts.specs.declared.segments.SegmentBuilder.{SegmentBuilder
 -- whatever block is at a place
 abbrev pub OfBlock : {X : Type 0} → List (List X) → ℕ → (List X → Type 0) → Type 0
 OfBlock blocks place P = (b : List _) → Some b ≡ slice_get blocks place → P b
-
--- what lies from one place of a list up to another
-abbrev pub between : {X : Type 0} → ℕ → ℕ → List X → List X
-between from upto xs = take (upto - from) (drop from xs)
 
 -- a block of 1 to s pairs
 abbrev pub IsSegmentSized : {X : Type 0} → ℕ → List X → Type 0
@@ -50,96 +46,95 @@ abbrev pub turn_count : {K V : Type 0} → (K → Bool) → Bool → List (K × 
 turn_count test last [] = 0
 turn_count test last (p ∷ ps) = differ last (test p.0) + turn_count test (test p.0) ps
 
-module _ {K V N : Type 0} where
+module _ {K V : Type 0} where
   -- how many trees were made
-  abbrev pub trees : SegmentBuilder K V N → ℕ
+  abbrev pub trees : SegmentBuilder K V → ℕ
   trees c = made_in c.row.parts.items + one_open c.tail.pairs
 
   -- the pairs for which there is room up to the last one, in trees of s pairs
-  abbrev pub room_spent : ℕ → SegmentBuilder K V N → ℕ
+  abbrev pub room_spent : ℕ → SegmentBuilder K V → ℕ
   room_spent s c = s * made_in c.row.parts.items + length c.tail.pairs
 
-  module _ (named : N → List (K × V)) where
+  module _ (blocks : List (List (K × V))) where
     -- the pairs that were given
-    abbrev pub given_pairs : SegmentBuilder K V N → List (K × V)
-    given_pairs c = pairs_in (blocks_of_parts named c.row.parts.items) ++ c.tail.pairs
+    abbrev pub given_pairs : SegmentBuilder K V → List (K × V)
+    given_pairs c = pairs_in (blocks_of_parts blocks c.row.parts.items) ++ c.tail.pairs
 
     -- segments of 1 to s pairs, none of which two neighbours could do without, with the greatest key of each
-    pub record IsSegmentRow (s : ℕ) (row : Row K V N) : Type 0 where
-      pub sizes : All (IsSegmentSized s) (blocks_of_parts named row.parts.items)
-      pub tight : IsTight s (blocks_of_parts named row.parts.items)
-      pub separated : map Some row.separators.items ≡ map greatest_key (blocks_of_parts named row.parts.items)
-      pub last : row.last ≡ last_size (blocks_of_parts named row.parts.items)
+    pub record IsSegmentRow (s : ℕ) (row : Row K V) : Type 0 where
+      pub sizes : All (IsSegmentSized s) (blocks_of_parts blocks row.parts.items)
+      pub tight : IsTight s (blocks_of_parts blocks row.parts.items)
+      pub separated : map Some row.separators.items ≡ map greatest_key (blocks_of_parts blocks row.parts.items)
+      pub last : row.last ≡ last_size (blocks_of_parts blocks row.parts.items)
+      pub within : All (LiesWithin (length blocks)) row.parts.items
 
-    -- the last segment is the older one at this place
-    pub record IsHeldAt (blocks : List (List (K × V))) (items : List (Part K V N)) (place : ℕ) : Type 0 where
-      pub front : List (Part K V N)
-      pub name : N
-      pub is : items ≡ front ++ parts.Taken name ∷ []
-      pub there : slice_get blocks place ≡ Some (named name)
+    -- the last segment is the older one at this place, which is the last one of a stretch
+    pub record IsHeldAt (items : List (Part K V)) (place : ℕ) : Type 0 where
+      pub front : List (Part K V)
+      pub from : ℕ
+      pub some : from ≤ place
+      pub is : items ≡ front ++ parts.Taken from (place + 1) ∷ []
+      pub block : List (K × V)
+      pub there : slice_get blocks place ≡ Some block
 
-    abbrev pub IsHeld : List (List (K × V)) → List (Part K V N) → Option ℕ → Type 0
-    IsHeld blocks items None = Unit {0}
-    IsHeld blocks items (Some place) = IsHeldAt blocks items place
-
-    -- segments that are done, of which the last one is full where it isn't an older one, and an open tree
-    pub record IsCutting (cmp : K → K → Ordering) (s : ℕ) (blocks : List (List (K × V))) (c : SegmentBuilder K V N) : Type 0 where
-      pub least : 1 ≤ s
-      pub most : s ≤ 225
-      pub row : IsSegmentRow s c.row
-      pub room : length c.tail.pairs ≤ s
-      pub rising : IsAscending cmp (given_pairs c)
-      pub held : IsHeld blocks c.row.parts.items c.held
-      pub fresh : c.held ≡ None → (c.row.last ≡ 0) ⊎ (c.row.last ≡ s)
+    abbrev pub IsHeld : List (Part K V) → Option ℕ → Type 0
+    IsHeld items None = Unit {0}
+    IsHeld items (Some place) = IsHeldAt items place
 
     -- the length counts the pairs that were given, and those of the older segments from a place on
-    abbrev pub CountsFrom : List (List (K × V)) → ℕ → SegmentBuilder K V N → Type 0
-    CountsFrom blocks place c = c.length ≡ length (given_pairs c) + length (pairs_in (drop place blocks))
+    abbrev pub CountsFrom : ℕ → SegmentBuilder K V → Type 0
+    CountsFrom place c = c.length ≡ length (given_pairs c) + length (pairs_in (drop place blocks))
 
     -- the length grew by as many pairs as were given
-    abbrev pub CountsGiven : SegmentBuilder K V N → SegmentBuilder K V N → Type 0
+    abbrev pub CountsGiven : SegmentBuilder K V → SegmentBuilder K V → Type 0
     CountsGiven c c' = c'.length + length (given_pairs c) ≡ c.length + length (given_pairs c')
 
     -- the open tree can end behind the segments that are done
-    pub record IsClosing (s : ℕ) (c : SegmentBuilder K V N) : Type 0 where
-      pub sizes : All (IsSegmentSized s) (blocks_of_parts named c.row.parts.items ++ c.tail.pairs ∷ [])
-      pub tight : IsTight s (blocks_of_parts named c.row.parts.items ++ c.tail.pairs ∷ [])
-      pub separated : map Some c.row.separators.items ≡ map greatest_key (blocks_of_parts named c.row.parts.items)
+    pub record IsClosing (s : ℕ) (c : SegmentBuilder K V) : Type 0 where
+      pub sizes : All (IsSegmentSized s) (blocks_of_parts blocks c.row.parts.items ++ c.tail.pairs ∷ [])
+      pub tight : IsTight s (blocks_of_parts blocks c.row.parts.items ++ c.tail.pairs ∷ [])
+      pub separated : map Some c.row.separators.items ≡ map greatest_key (blocks_of_parts blocks c.row.parts.items)
+      pub within : All (LiesWithin (length blocks)) c.row.parts.items
+
+  module _ (cmp : K → K → Ordering) (s : ℕ) (blocks : List (List (K × V))) where
+    -- segments that are done, of which the last one is full where it isn't an older one, and an open tree
+    pub record IsCutting (c : SegmentBuilder K V) : Type 0 where
+      pub least : 1 ≤ s
+      pub most : s ≤ 225
+      pub row : IsSegmentRow blocks s c.row
+      pub room : length c.tail.pairs ≤ s
+      pub rising : IsAscending cmp (given_pairs blocks c)
+      pub held : IsHeld blocks c.row.parts.items c.held
+      pub fresh : c.held ≡ None → (c.row.last ≡ 0) ⊎ (c.row.last ≡ s)
 
     -- the older segment at a place comes behind all that was given, and doesn't fit into one with what is last there
-    pub record StaysApart (cmp : K → K → Ordering) (s : ℕ) (blocks : List (List (K × V))) (place : ℕ) (c : SegmentBuilder K V N) : Type 0 where
+    pub record StaysApart (place : ℕ) (c : SegmentBuilder K V) : Type 0 where
       pub block : List (K × V)
       pub there : slice_get blocks place ≡ Some block
       pub sized : IsSegmentSized s block
-      pub rising : IsAscending cmp (given_pairs c ++ block)
+      pub rising : IsAscending cmp (given_pairs blocks c ++ block)
       pub closed : length c.tail.pairs ≡ 0 → 0 < c.row.last → s < c.row.last + length block
       pub opened : 0 < length c.tail.pairs → s < length c.tail.pairs + length block
 
-    -- the older segments from one place up to another were put behind parts, by their names
-    pub record TakesStretch (blocks : List (List (K × V))) (from upto : ℕ) (items items' : List (Part K V N)) : Type 0 where
-      pub names : List N
-      pub are : map named names ≡ between from upto blocks
-      pub behind : items' ≡ items ++ map parts.Taken names
-
   -- a segment of this many pairs fits into one with what is last
-  abbrev pub Joins : ℕ → ℕ → SegmentBuilder K V N → Type 0
+  abbrev pub Joins : ℕ → ℕ → SegmentBuilder K V → Type 0
   Joins s n c = ((length c.tail.pairs ≡ 0) × (0 < c.row.last) × (c.row.last + n ≤ s)) ⊎ ((0 < length c.tail.pairs) × (length c.tail.pairs + n ≤ s))
 
   -- no more than was read was given, from one number of pairs and changes that were left to another
-  pub record GivesNoMoreThanRead (s left left' : ℕ) (c c' : SegmentBuilder K V N) : Type 0 where
+  pub record GivesNoMoreThanRead (s left left' : ℕ) (c c' : SegmentBuilder K V) : Type 0 where
     pub spent : room_spent s c' + left' ≤ room_spent s c + left
     pub some : 0 < length c.tail.pairs → 0 < length c'.tail.pairs
     pub none : length c'.tail.pairs ≡ 0 → made_in c'.row.parts.items ≡ made_in c.row.parts.items
 
   -- with this many edits left, no more trees were made than two for each that was passed, and one for each turn between pairs
   -- that are gone and others: one less, where the next segment fits into one with the last one, or pairs before it are gone
-  pub record IsThrifty (s budget : ℕ) (test : K → Bool) (last : Bool) (rest : List (List (K × V))) (left : ℕ) (c : SegmentBuilder K V N) : Type 0 where
+  pub record IsThrifty (s budget : ℕ) (test : K → Bool) (last : Bool) (rest : List (List (K × V))) (left : ℕ) (c : SegmentBuilder K V) : Type 0 where
     pub all : trees c + 2 * left + turn_count test last (pairs_in rest) ≤ budget
     pub spare : length c.tail.pairs ≡ 0 → 0 < c.row.last → (b : List (K × V)) → slice_get rest 0 ≡ Some b → c.row.last + length b ≤ s → trees c + 1 + 2 * left + turn_count test last (pairs_in rest) ≤ budget
     pub behind : last ≡ true → length c.tail.pairs ≡ 0 → trees c + 1 + 2 * left + turn_count test last (pairs_in rest) ≤ budget
 
   -- whatever the budget is, it is kept to, from one place of the blocks with this many edits left to another
-  abbrev pub StaysThrifty : ℕ → (K → Bool) → List (List (K × V)) → ℕ → ℕ → SegmentBuilder K V N → ℕ → ℕ → SegmentBuilder K V N → Type 0
+  abbrev pub StaysThrifty : ℕ → (K → Bool) → List (List (K × V)) → ℕ → ℕ → SegmentBuilder K V → ℕ → ℕ → SegmentBuilder K V → Type 0
   StaysThrifty s test blocks place left c place' left' c' = (budget : ℕ) (last : Bool) → IsThrifty s budget test last (drop place blocks) left c → (last' : Bool) × IsThrifty s budget test last' (drop place' blocks) left' c'
 
 -- what is left of the block at a place, and of those behind it less what is gone
@@ -148,12 +143,12 @@ rest_behind cmp gone blocks place pairs = pairs ++ without_gone cmp gone (pairs_
 
 -- the list that comes of the pairs that were given, of the edits that are left, and of the blocks from a place on, less
 -- what is gone, stays the same; or of what is left of the block at a place, and of those behind it
-module _ {K V N : Type 0} (named : N → List (K × V)) (cmp : K → K → Ordering) (gone : List (Gone K)) (blocks : List (List (K × V))) where
-  abbrev pub KeepsListFrom : ℕ → List (K × Option V) → SegmentBuilder K V N → ℕ → List (K × Option V) → SegmentBuilder K V N → Type 0
-  KeepsListFrom place edits c place' edits' c' = given_pairs named c' ++ ahead cmp edits' gone place' blocks ≡ given_pairs named c ++ ahead cmp edits gone place blocks
+module _ {K V : Type 0} (cmp : K → K → Ordering) (gone : List (Gone K)) (blocks : List (List (K × V))) where
+  abbrev pub KeepsListFrom : ℕ → List (K × Option V) → SegmentBuilder K V → ℕ → List (K × Option V) → SegmentBuilder K V → Type 0
+  KeepsListFrom place edits c place' edits' c' = given_pairs blocks c' ++ ahead cmp edits' gone place' blocks ≡ given_pairs blocks c ++ ahead cmp edits gone place blocks
 
-  abbrev pub KeepsListWithin : ℕ → List (K × V) → List (K × Option V) → SegmentBuilder K V N → List (K × V) → List (K × Option V) → SegmentBuilder K V N → Type 0
-  KeepsListWithin place pairs edits c pairs' edits' c' = given_pairs named c' ++ apply_delta cmp edits' (rest_behind cmp gone blocks place pairs') ≡ given_pairs named c ++ apply_delta cmp edits (rest_behind cmp gone blocks place pairs)
+  abbrev pub KeepsListWithin : ℕ → List (K × V) → List (K × Option V) → SegmentBuilder K V → List (K × V) → List (K × Option V) → SegmentBuilder K V → Type 0
+  KeepsListWithin place pairs edits c pairs' edits' c' = given_pairs blocks c' ++ apply_delta cmp edits' (rest_behind cmp gone blocks place pairs') ≡ given_pairs blocks c ++ apply_delta cmp edits (rest_behind cmp gone blocks place pairs)
 
 -- no key is named, or the pairs have keys below it
 abbrev pub LiesBelow : {K V : Type 0} → (K → K → Ordering) → Option (Bor K) → List (K × V) → Type 0

@@ -1,4 +1,6 @@
 pub mod Parts
 pub mod Changes
 pub mod Cutting
+pub mod Drafts
 pub mod Gone
+pub mod Rows

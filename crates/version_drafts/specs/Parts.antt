@@ -1,41 +1,51 @@
 -- parts of a version that is being built
-use Rattle.std.specs.Prelude.{◌≡◌, ℕ, List, [], ◌∷◌, Option, Some, None, map, sum_by}
+use Rattle.std.specs.Prelude.{◌≡◌, ℕ, ◌+◌, ◌-◌, ◌<◌, ◌≤◌, List, [], ◌∷◌, ◌++◌, cond, nat_lt, drop, sum_by, take}
 use Rattle.tree_index.specs.Tree.{Tree}
 use Rattle.version_drafts.specs.declared.segments.Part.{Part}
 use Rattle.version_drafts.specs.declared.segments.Part.TheVariants as parts
 
-module _ {K V N : Type 0} where
-  -- where nothing is older, no name has pairs
-  abbrev pub no_pairs : N → List (K × V)
-  no_pairs name = []
+-- what lies from one place of a list up to another
+abbrev pub between : {X : Type 0} → ℕ → ℕ → List X → List X
+between from upto xs = take (upto - from) (drop from xs)
 
-  -- a segment with its name, or none: its pairs, and the blocks of a version that has no other segment
-  abbrev pub lone_pairs : Option (Tree K V × N) → List (K × V)
-  lone_pairs None = []
-  lone_pairs (Some lone) = lone.0.pairs
+module _ {K V : Type 0} where
+  -- the pairs of the segments of a part, where the older version has these
+  abbrev pub part_blocks : List (List (K × V)) → Part K V → List (List (K × V))
+  part_blocks blocks (parts.Taken from upto) = between from upto blocks
+  part_blocks blocks (parts.Made tree) = tree.value.pairs ∷ []
 
-  abbrev pub lone_blocks : Option (Tree K V × N) → List (List (K × V))
-  lone_blocks None = []
-  lone_blocks (Some lone) = lone.0.pairs ∷ []
+  abbrev pub blocks_of_parts : List (List (K × V)) → List (Part K V) → List (List (K × V))
+  blocks_of_parts blocks [] = []
+  blocks_of_parts blocks (p ∷ ps) = part_blocks blocks p ++ blocks_of_parts blocks ps
 
-  -- the pairs of a part, where older segments have these pairs by their names
-  abbrev pub part_pairs : (N → List (K × V)) → Part K V N → List (K × V)
-  part_pairs named (parts.Taken name) = named name
-  part_pairs named (parts.Made tree) = tree.value.pairs
+  -- a stretch has a segment, and the older version has all of it, where it has this many
+  abbrev pub LiesWithin : ℕ → Part K V → Type 0
+  LiesWithin n (parts.Taken from upto) = (from < upto) × (upto ≤ n)
+  LiesWithin n (parts.Made tree) = Unit {0}
 
-  abbrev pub blocks_of_parts : (N → List (K × V)) → List (Part K V N) → List (List (K × V))
-  blocks_of_parts named ps = map (part_pairs named) ps
+  -- the stretch of these places, where it has a segment
+  abbrev pub stretch_of : ℕ → ℕ → List (Part K V)
+  stretch_of from upto = cond (nat_lt from upto) (parts.Taken from upto ∷ []) []
+
+  -- how many segments a part has, and how many parts have
+  abbrev pub segments_of : Part K V → ℕ
+  segments_of (parts.Taken from upto) = upto - from
+  segments_of (parts.Made tree) = 1
+
+  abbrev pub segments_in : List (Part K V) → ℕ
+  segments_in [] = 0
+  segments_in (p ∷ ps) = segments_of p + segments_in ps
 
   -- 1 for a tree that was made
-  abbrev pub makes : Part K V N → ℕ
-  makes (parts.Taken name) = 0
+  abbrev pub makes : Part K V → ℕ
+  makes (parts.Taken from upto) = 0
   makes (parts.Made tree) = 1
 
   -- the part has this tree, which was made
-  abbrev pub HasMadeTree : Tree K V → Part K V N → Type 0
-  HasMadeTree tree (parts.Taken name) = ⊥
+  abbrev pub HasMadeTree : Tree K V → Part K V → Type 0
+  HasMadeTree tree (parts.Taken from upto) = ⊥
   HasMadeTree tree (parts.Made made) = made.value ≡ tree
 
   -- how many trees were made
-  abbrev pub made_in : List (Part K V N) → ℕ
+  abbrev pub made_in : List (Part K V) → ℕ
   made_in ps = sum_by makes ps

@@ -5,14 +5,14 @@ ghost use Rattle.std.specs.List.{All};
 ghost use Rattle.leaf_array.specs.Values.{ClonesAreSame};
 ghost use Rattle.tree_index.specs.Shape.{AllKeys};
 ghost use Rattle.version_drafts.specs.Gone.{IsCovered, IsEndAt, IsNear, IsSpan, is_gone};
+ghost use Rattle.version_views.specs.Cuts.{separators_of};
 ghost use Rattle.version_views.specs.SeparatorSearch.{IsOrdered};
 
-use crate::draft::BaseVersion;
-use crate::scans::ChangeScan;
+use crate::scans::PairScan;
 use std::alloc::AllocError;
 use std::ops::Bound;
 use tree_index::TreeIndex;
-use version_views::{is_within, place_of};
+use version_views::{Trees, VersionView, is_within, place_of};
 
 /// A range of keys whose pairs are gone.
 #[derive(Drop)]
@@ -25,19 +25,19 @@ pub(crate) struct Gone<K> {
 }
 
 /// A range of keys, with the segments of its ends: one search of the separators for each.
-pub(crate) fn range_of<K: Clone + Ord, V, N, O: BaseVersion<K, V, N>>(
-    old: &O,
+pub(crate) fn range_of<K: Clone + Ord, V, W: Trees<K, V>>(
+    old: &VersionView<'_, K, V, W>,
     lower: &Bound<K>,
     upper: &Bound<K>,
 ) -> Result<Gone<K>, AllocError>
     requires keys { ClonesAreSame K.is_clone }
-    requires ordered { IsOrdered K.cmp (O.blocks old.now) (O.separators old.now) }
+    requires ordered { IsOrdered K.cmp old.now (separators_of old.now) }
     ensures lower { IfOk result (λ g. g.lower ≡ lower.now) }
     ensures upper { IfOk result (λ g. g.upper ≡ upper.now) }
-    ensures span { IfOk result (λ g. IsSpan K.cmp (O.blocks old.now) g) }
+    ensures span { IfOk result (λ g. IsSpan K.cmp old.now g) }
 {
-    let from = end_of::<K, V, N, O>(old, lower);
-    let upto = end_of::<K, V, N, O>(old, upper);
+    let from = end_of(old, lower);
+    let upto = end_of(old, upper);
     Ok(Gone {
         lower: copied(lower)?,
         upper: copied(upper)?,
@@ -47,9 +47,12 @@ pub(crate) fn range_of<K: Clone + Ord, V, N, O: BaseVersion<K, V, N>>(
 }
 
 /// The segment that an end of a range lies in or beside.
-fn end_of<K: Ord, V, N, O: BaseVersion<K, V, N>>(old: &O, bound: &Bound<K>) -> Option<usize>
-    requires { IsOrdered K.cmp (O.blocks old.now) (O.separators old.now) }
-    ensures { IsEndAt K.cmp (O.blocks old.now) bound.now result }
+fn end_of<K: Ord, V, W: Trees<K, V>>(
+    old: &VersionView<'_, K, V, W>,
+    bound: &Bound<K>,
+) -> Option<usize>
+    requires { IsOrdered K.cmp old.now (separators_of old.now) }
+    ensures { IsEndAt K.cmp old.now bound.now result }
 {
     match bound {
         Bound::Included(key) => Some(place_of(old.separators(), key)),
@@ -83,13 +86,13 @@ pub(crate) fn is_gone<K: Ord>(gone: &[Gone<K>], key: &K) -> bool
 }
 
 /// Whether the segments of the ends of a range tell that it has all pairs of the segment at a place.
-pub(crate) fn covers<K: Ord, V, N, O: BaseVersion<K, V, N>>(
+pub(crate) fn covers<K: Ord, V, W: Trees<K, V>>(
     gone: &[Gone<K>],
-    old: &O,
+    old: &VersionView<'_, K, V, W>,
     place: usize,
 ) -> bool
-    requires { All (IsSpan K.cmp (O.blocks old.now)) gone.now }
-    ensures { IsTrue result → (b : List (K × V)) → slice_get (O.blocks old.now) place ≡ Some b → AllKeys (λ k. is_gone K.cmp gone.now k ≡ true) b }
+    requires { All (IsSpan K.cmp old.now) gone.now }
+    ensures { IsTrue result → (b : List (K × V)) → slice_get old.now place ≡ Some b → AllKeys (λ k. is_gone K.cmp gone.now k ≡ true) b }
 {
     let _ = old;
     for range in gone {
@@ -102,23 +105,27 @@ pub(crate) fn covers<K: Ord, V, N, O: BaseVersion<K, V, N>>(
 
 /// Whether a pair of the segment at a place lies in a range that is gone: a look at its tree, where the segments of the
 /// ends don't tell.
-pub(crate) fn thins<K: Ord, V, N, O: BaseVersion<K, V, N>>(
+pub(crate) fn thins<K: Ord, V, W: Trees<K, V>>(
     gone: &[Gone<K>],
-    old: &O,
+    old: &VersionView<'_, K, V, W>,
     place: usize,
 ) -> bool
-    requires spans { All (IsSpan K.cmp (O.blocks old.now)) gone.now }
-    requires within { place < length (O.blocks old.now) }
-    ensures some { IsTrue result → (b : List (K × V)) → slice_get (O.blocks old.now) place ≡ Some b → AllKeys (λ k. is_gone K.cmp gone.now k ≡ false) b → ⊥ }
-    ensures none { result ≡ false → (b : List (K × V)) → slice_get (O.blocks old.now) place ≡ Some b → AllKeys (λ k. is_gone K.cmp gone.now k ≡ false) b }
+    requires spans { All (IsSpan K.cmp old.now) gone.now }
+    requires within { place < length old.now }
+    ensures some { IsTrue result → (b : List (K × V)) → slice_get old.now place ≡ Some b → AllKeys (λ k. is_gone K.cmp gone.now k ≡ false) b → ⊥ }
+    ensures none { result ≡ false → (b : List (K × V)) → slice_get old.now place ≡ Some b → AllKeys (λ k. is_gone K.cmp gone.now k ≡ false) b }
 {
-    nears::<K, V, N, O>(gone, old, place) && has_gone(gone, old.segment(place))
+    nears(gone, old, place) && has_gone(gone, old.segment(place))
 }
 
 /// Whether a range that is gone may have a pair of the segment at a place.
-fn nears<K: Ord, V, N, O: BaseVersion<K, V, N>>(gone: &[Gone<K>], old: &O, place: usize) -> bool
-    requires { All (IsSpan K.cmp (O.blocks old.now)) gone.now }
-    ensures { result ≡ false → (b : List (K × V)) → slice_get (O.blocks old.now) place ≡ Some b → AllKeys (λ k. is_gone K.cmp gone.now k ≡ false) b }
+fn nears<K: Ord, V, W: Trees<K, V>>(
+    gone: &[Gone<K>],
+    old: &VersionView<'_, K, V, W>,
+    place: usize,
+) -> bool
+    requires { All (IsSpan K.cmp old.now) gone.now }
+    ensures { result ≡ false → (b : List (K × V)) → slice_get old.now place ≡ Some b → AllKeys (λ k. is_gone K.cmp gone.now k ≡ false) b }
 {
     let _ = old;
     for range in gone {
@@ -130,16 +137,16 @@ fn nears<K: Ord, V, N, O: BaseVersion<K, V, N>>(gone: &[Gone<K>], old: &O, place
 }
 
 /// Up to which place the segments from one on lie apart from all ranges that are gone.
-pub(crate) fn apart_upto<K: Ord, V, N, O: BaseVersion<K, V, N>>(
+pub(crate) fn apart_upto<K: Ord, V, W: Trees<K, V>>(
     gone: &[Gone<K>],
-    old: &O,
+    old: &VersionView<'_, K, V, W>,
     from: usize,
 ) -> usize
-    requires { All (IsSpan K.cmp (O.blocks old.now)) gone.now }
-    ensures within { result ≤ length (O.blocks old.now) }
-    ensures apart { (i : ℕ) (b : List (K × V)) → from ≤ i → i < result → slice_get (O.blocks old.now) i ≡ Some b → AllKeys (λ k. is_gone K.cmp gone.now k ≡ false) b }
+    requires { All (IsSpan K.cmp old.now) gone.now }
+    ensures within { result ≤ length old.now }
+    ensures apart { (i : ℕ) (b : List (K × V)) → from ≤ i → i < result → slice_get old.now i ≡ Some b → AllKeys (λ k. is_gone K.cmp gone.now k ≡ false) b }
 {
-    let mut end = old.count();
+    let mut end = old.segment_count();
     for range in gone {
         end = nears_at(range, from, end);
     }
@@ -151,7 +158,7 @@ fn has_gone<K: Ord, V>(gone: &[Gone<K>], tree: &TreeIndex<K, V>) -> bool
     ensures some { IsTrue result → AllKeys (λ k. is_gone K.cmp gone.now k ≡ false) tree.now.pairs → ⊥ }
     ensures none { result ≡ false → AllKeys (λ k. is_gone K.cmp gone.now k ≡ false) tree.now.pairs }
 {
-    let mut pairs = ChangeScan::new(tree);
+    let mut pairs = PairScan::new(tree);
     while let Some((key, _)) = pairs.front() {
         if is_gone(gone, key) {
             return true;

@@ -7,8 +7,12 @@
 
 mod changes;
 pub mod draft;
+mod edits;
 mod gone;
 mod listed;
 mod merge;
+pub mod plans;
+mod room;
+mod row;
 mod scans;
 mod segments;

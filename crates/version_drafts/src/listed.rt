@@ -1,93 +1,83 @@
 //! The segments of a list of pairs, none of which is taken over.
 
-ghost use Rattle.std.specs.Prelude.{◌≡◌, ◌≤◌, ◌<◌, ◌+◌, ◌*◌, List, length, take, IfOk};
+ghost use Rattle.std.specs.Prelude.{◌≡◌, ◌≤◌, ◌<◌, ◌+◌, ◌*◌, [], List, length, take, IfOk};
+ghost use Rattle.std.specs.List.{All};
 ghost use Rattle.leaf_array.specs.Pairs.{IsAscending};
 ghost use Rattle.leaf_array.specs.Values.{ClonesAreSame};
 ghost use Rattle.version_views.specs.Cuts.{IsCut, pairs_in};
-ghost use Rattle.version_drafts.specs.Parts.{blocks_of_parts, made_in};
+ghost use Rattle.version_drafts.specs.Parts.{LiesWithin, blocks_of_parts, made_in};
 
-use crate::draft::BaseVersion;
 use crate::segments::{Segments, begun, expect, finish, push};
 use std::alloc::{AllocError, Global};
 use std::cmp::Ordering;
 use tree_index::TreeIndex;
+use version_views::{Directory, Trees, VersionView};
 
-/// A version of one segment at most. A list is cut beside one without any, so that none is taken over.
+/// Lends the segments of a directory whose owners are the trees themselves. A list is cut beside one without any, so that none
+/// is taken over.
 #[derive(Drop)]
-struct AtMostOne<K: Ord, V, N> {
-    only: Option<(TreeIndex<K, V>, N)>,
-}
+struct TreesInside {}
 
-impl<K: Ord, V, N: Copy> BaseVersion<K, V, N> for AtMostOne<K, V, N> {
-    ghost use Rattle.std.specs.Prelude.{[]};
-    ghost use Rattle.version_drafts.specs.Parts.{lone_blocks, lone_pairs};
+impl<K: Ord, V> Trees<K, V> for TreesInside {
+    ghost use Rattle.std.specs.Prelude.{◌≤◌};
 
-    ghost blocks = { λ v. lone_blocks v.only };
+    type Owner = TreeIndex<K, V>;
 
-    ghost separators = { λ _. [] };
+    ghost has = { λ _ tree. tree.depth ≤ 1 };
 
-    ghost named = { λ v _. lone_pairs v.only };
+    ghost pairs = { λ _ tree. tree.pairs };
 
-    fn count(&self) -> usize {
-        usize::from(self.only.is_some())
-    }
-
-    fn pairs(&self) -> usize {
-        match &self.only {
-            Some(only) => only.0.len(),
-            None => 0,
-        }
-    }
-
-    fn segment(&self, _place: usize) -> &TreeIndex<K, V> {
-        match &self.only {
-            Some(only) => &only.0,
-            None => unreachable!(),
-        }
-    }
-
-    fn separators(&self) -> &[K] {
-        &[]
-    }
-
-    fn name(&self, _place: usize) -> N {
-        match &self.only {
-            Some(only) => only.1,
-            None => unreachable!(),
-        }
-    }
-
-    fn contains(&self, key: &K) -> bool {
-        match &self.only {
-            Some(only) => only.0.contains(key),
-            None => false,
-        }
+    fn tree<'a>(&'a self, at: &'a TreeIndex<K, V>) -> &'a TreeIndex<K, V> {
+        at
     }
 }
 
 /// The segments of clones of these pairs, whose keys rise: all of them new, and as few as can hold the pairs. Fails only
 /// if an allocation fails.
-pub fn listed<K: Clone + Ord + Drop, V: Clone + Drop, N: Copy + Drop, const S: usize>(
+pub fn listed<K: Clone + Ord + Drop, V: Clone + Drop, const S: usize>(
     alloc: Global,
     pairs: &[(K, V)],
-) -> Result<Segments<K, V, N>, AllocError>
+) -> Result<Segments<K, V>, AllocError>
     requires size { (1 ≤ S) × (S ≤ 225) }
     requires keys { ClonesAreSame K.is_clone }
     requires values { ClonesAreSame V.is_clone }
     requires rising { IsAscending K.cmp pairs.now }
-    ensures cut { IfOk result (λ made. (named : N → List (K × V)) → IsCut K.cmp S (blocks_of_parts named made.parts.items) made.separators.items) }
-    ensures list { IfOk result (λ made. (named : N → List (K × V)) → pairs_in (blocks_of_parts named made.parts.items) ≡ pairs.now) }
+    ensures cut { IfOk result (λ made. (blocks : List (List (K × V))) → IsCut K.cmp S (blocks_of_parts blocks made.parts.items) made.separators.items) }
+    ensures list { IfOk result (λ made. (blocks : List (List (K × V))) → pairs_in (blocks_of_parts blocks made.parts.items) ≡ pairs.now) }
+    ensures within { IfOk result (λ made. All (LiesWithin 0) made.parts.items) }
     ensures length { IfOk result (λ made. made.length ≡ length pairs.now) }
     ensures new { IfOk result (λ made. made_in made.parts.items ≡ length made.parts.items) }
     ensures fewest { IfOk result (λ made. S * length made.parts.items < length pairs.now + S) }
 {
-    let old = AtMostOne { only: None };
-    let mut out = begun::<K, V, N, AtMostOne<K, V, N>, S>(alloc, &old, pairs.len())?;
-    expect::<K, V, N, S>(&mut out, pairs.len())?;
+    let none = Directory::new(0, 0, Vec::new(alloc), Vec::new(alloc));
+    let old = VersionView::new(&TreesInside {}, &none);
+    let segments = cut_beside::<K, V, TreesInside, S>(alloc, &old, pairs)?;
+    Ok(segments)
+}
+
+/// The segments of clones of these pairs, beside a version without any.
+fn cut_beside<K: Clone + Ord + Drop, V: Clone + Drop, W: Trees<K, V>, const S: usize>(
+    alloc: Global,
+    old: &VersionView<'_, K, V, W>,
+    pairs: &[(K, V)],
+) -> Result<Segments<K, V>, AllocError>
+    requires size { (1 ≤ S) × (S ≤ 225) }
+    requires keys { ClonesAreSame K.is_clone }
+    requires values { ClonesAreSame V.is_clone }
+    requires rising { IsAscending K.cmp pairs.now }
+    requires none { old.now ≡ [] }
+    ensures cut { IfOk result (λ made. IsCut K.cmp S (blocks_of_parts [] made.parts.items) made.separators.items) }
+    ensures list { IfOk result (λ made. pairs_in (blocks_of_parts [] made.parts.items) ≡ pairs.now) }
+    ensures within { IfOk result (λ made. All (LiesWithin 0) made.parts.items) }
+    ensures length { IfOk result (λ made. made.length ≡ length pairs.now) }
+    ensures fewest { IfOk result (λ made. S * made_in made.parts.items < length pairs.now + S) }
+{
+    let mut out = begun::<K, V, W, S>(alloc, old, pairs.len())?;
+    expect::<K, V, S>(&mut out, pairs.len())?;
     for pair in pairs {
-        push::<K, V, N, AtMostOne<K, V, N>, S>(&mut out, &old, pair.0.clone()?, pair.1.clone()?)?;
+        push::<K, V, W, S>(&mut out, old, pair.0.clone()?, pair.1.clone()?)?;
     }
-    let segments = finish::<K, V, N, AtMostOne<K, V, N>, S>(out, &old)?;
+    let segments = finish::<K, V, W, S>(out, old)?;
     Ok(segments)
 }
 

@@ -5,118 +5,145 @@ ghost use Rattle.leaf_array.specs.Pairs.{IsAscending};
 ghost use Rattle.leaf_array.specs.Values.{ClonesAreSame};
 ghost use Rattle.std.specs.List.{All};
 ghost use Rattle.version_drafts.specs.Changes.{ahead, apply_delta, changed, named_by, pair_left};
-ghost use Rattle.version_views.specs.Cuts.{IsCut, IsSeparated, pairs_in};
+ghost use Rattle.version_views.specs.Cuts.{IsCut, IsSeparated, pairs_in, separators_of};
 ghost use Rattle.version_drafts.specs.Cutting.{CountsFrom, CountsGiven, IsCutting, GivesNoMoreThanRead, IsPassedBy, IsReachedBy, IsTouched, IsUntouched, Joins, KeepsListFrom, KeepsListWithin, OfBlock, StaysThrifty, given_pairs, rest_behind};
 ghost use Rattle.version_drafts.specs.Gone.{IsSpan, is_gone, without_gone};
-ghost use Rattle.version_drafts.specs.Parts.{blocks_of_parts, made_in};
+ghost use Rattle.version_drafts.specs.Parts.{LiesWithin, blocks_of_parts, made_in};
 ghost use Rattle.version_views.specs.SeparatorSearch.{IsOrdered};
 
-use crate::changes::{Changes, Edit};
-use crate::draft::BaseVersion;
+use crate::changes::Changes;
+use crate::edits::Edits;
 use crate::gone::{Gone, apart_upto, covers, thins};
-use crate::scans::{ChangeScan, Sieve};
+use crate::row::{ChangeScan, Edit, EditRow};
+use crate::scans::Sieve;
 use crate::segments::{
     SegmentBuilder, Segments, begun, count_out, expect, finish, greatest_at, push, take_stretch,
 };
 use std::alloc::{AllocError, Global};
 use std::cmp::Ordering;
-use version_views::place_of;
+use version_views::{Trees, VersionView, place_of};
 
 /// The segments of the list that changes make of a version. A segment that no change touches is taken over, save where it
 /// has to be joined with what comes before it.
-pub(crate) fn merged<
-    K: Clone + Ord + Drop,
-    V: Clone + Drop,
-    N: Drop,
-    O: BaseVersion<K, V, N>,
-    const S: usize,
->(alloc: Global, old: &O, changes: &Changes<'_, K, V>) -> Result<Segments<K, V, N>, AllocError>
+pub(crate) fn merged<K: Clone + Ord + Drop, V: Clone + Drop, W: Trees<K, V>, const S: usize>(
+    alloc: Global,
+    old: &VersionView<'_, K, V, W>,
+    changes: &Changes<'_, K, V>,
+) -> Result<Segments<K, V>, AllocError>
     requires size { (1 ≤ S) × (S ≤ 225) }
     requires keys { ClonesAreSame K.is_clone }
     requires values { ClonesAreSame V.is_clone }
-    requires whole { IsCut K.cmp S (O.blocks old.now) (O.separators old.now) }
-    requires spans { All (IsSpan K.cmp (O.blocks old.now)) changes.now.gone.items }
-    ensures cut { IfOk result (λ made. IsCut K.cmp S (blocks_of_parts (O.named old.now) made.parts.items) made.separators.items) }
-    ensures list { IfOk result (λ made. pairs_in (blocks_of_parts (O.named old.now) made.parts.items) ≡ changed K.cmp changes.now (pairs_in (O.blocks old.now))) }
-    ensures length { IfOk result (λ made. made.length ≡ length (pairs_in (blocks_of_parts (O.named old.now) made.parts.items))) }
+    requires whole { IsCut K.cmp S old.now (separators_of old.now) }
+    requires spans { All (IsSpan K.cmp old.now) changes.now.gone.items }
+    ensures cut { IfOk result (λ made. IsCut K.cmp S (blocks_of_parts old.now made.parts.items) made.separators.items) }
+    ensures list { IfOk result (λ made. pairs_in (blocks_of_parts old.now made.parts.items) ≡ changed K.cmp changes.now (pairs_in old.now)) }
+    ensures within { IfOk result (λ made. All (LiesWithin (length old.now)) made.parts.items) }
+    ensures length { IfOk result (λ made. made.length ≡ length (pairs_in (blocks_of_parts old.now made.parts.items))) }
     ensures few { IfOk result (λ made. made_in made.parts.items ≤ 2 * named_by changes.now) }
 {
-    let named = changes.edits.len().saturating_add(changes.gone.len());
-    let mut out = begun::<K, V, N, O, S>(alloc, old, named)?;
-    let mut left = ChangeScan::new(&changes.edits);
-    let count = old.count();
+    match &changes.edits {
+        Edits::Row(row) => merged_with::<K, V, W, S>(alloc, old, row, &changes.gone),
+        Edits::Tree(tree) => {
+            let row = EditRow::listed(alloc, tree)?;
+            merged_with::<K, V, W, S>(alloc, old, &row, &changes.gone)
+        },
+    }
+}
+
+/// The segments of the list that a row of edits makes of what ranges leave of a version.
+fn merged_with<K: Clone + Ord + Drop, V: Clone + Drop, W: Trees<K, V>, const S: usize>(
+    alloc: Global,
+    old: &VersionView<'_, K, V, W>,
+    edits: &EditRow<'_, K, V>,
+    gone: &[Gone<K>],
+) -> Result<Segments<K, V>, AllocError>
+    requires size { (1 ≤ S) × (S ≤ 225) }
+    requires keys { ClonesAreSame K.is_clone }
+    requires values { ClonesAreSame V.is_clone }
+    requires whole { IsCut K.cmp S old.now (separators_of old.now) }
+    requires spans { All (IsSpan K.cmp old.now) gone.now }
+    ensures cut { IfOk result (λ made. IsCut K.cmp S (blocks_of_parts old.now made.parts.items) made.separators.items) }
+    ensures list { IfOk result (λ made. pairs_in (blocks_of_parts old.now made.parts.items) ≡ apply_delta K.cmp edits.now (without_gone K.cmp gone.now (pairs_in old.now))) }
+    ensures within { IfOk result (λ made. All (LiesWithin (length old.now)) made.parts.items) }
+    ensures length { IfOk result (λ made. made.length ≡ length (pairs_in (blocks_of_parts old.now made.parts.items))) }
+    ensures few { IfOk result (λ made. made_in made.parts.items ≤ 2 * (length edits.now + length gone.now)) }
+{
+    let named = edits.len().saturating_add(gone.len());
+    let mut out = begun::<K, V, W, S>(alloc, old, named)?;
+    let mut left = edits.scan();
+    let count = old.segment_count();
     let mut place = 0;
     while place < count {
-        place = pass::<K, V, N, O, S>(&mut out, &mut left, &changes.gone, old, place)?;
+        place = pass::<K, V, W, S>(&mut out, &mut left, gone, old, place)?;
     }
-    put_all::<K, V, N, O, S>(&mut out, &mut left, old)?;
-    let segments = finish::<K, V, N, O, S>(out, old)?;
+    put_all::<K, V, W, S>(&mut out, &mut left, old)?;
+    let segments = finish::<K, V, W, S>(out, old)?;
     Ok(segments)
 }
 
 /// Merges what is left of the segment at a place with the changes that touch it, or takes it over with those behind it that
 /// nothing touches. One that a range has all pairs of is passed by. Answers the place of the next segment.
-fn pass<K: Clone + Ord + Drop, V: Clone + Drop, N: Drop, O: BaseVersion<K, V, N>, const S: usize>(
-    out: &mut SegmentBuilder<K, V, N>,
-    changes: &mut ChangeScan<'_, K, Edit<'_, V>>,
+fn pass<K: Clone + Ord + Drop, V: Clone + Drop, W: Trees<K, V>, const S: usize>(
+    out: &mut SegmentBuilder<K, V>,
+    changes: &mut ChangeScan<'_, '_, K, V>,
     gone: &[Gone<K>],
-    old: &O,
+    old: &VersionView<'_, K, V, W>,
     place: usize,
 ) -> Result<usize, AllocError>
     requires keys { ClonesAreSame K.is_clone }
     requires values { ClonesAreSame V.is_clone }
-    requires old { IsCut K.cmp S (O.blocks old.now) (O.separators old.now) }
-    requires spans { All (IsSpan K.cmp (O.blocks old.now)) gone.now }
-    requires within { place < length (O.blocks old.now) }
-    requires whole { IsCutting (O.named old.now) K.cmp S (O.blocks old.now) out.old }
-    requires rising { IsAscending K.cmp (given_pairs (O.named old.now) out.old ++ ahead K.cmp changes.old gone.now place (O.blocks old.now)) }
-    requires counted { CountsFrom (O.named old.now) (O.blocks old.now) place out.old }
+    requires old { IsCut K.cmp S old.now (separators_of old.now) }
+    requires spans { All (IsSpan K.cmp old.now) gone.now }
+    requires within { place < length old.now }
+    requires whole { IsCutting K.cmp S old.now out.old }
+    requires rising { IsAscending K.cmp (given_pairs old.now out.old ++ ahead K.cmp changes.old gone.now place old.now) }
+    requires counted { CountsFrom old.now place out.old }
     ensures behind { IfOk result (λ next. place < next) }
-    ensures whole { OnOk result (IsCutting (O.named old.now) K.cmp S (O.blocks old.now) out.new) }
-    ensures list { IfOk result (λ next. KeepsListFrom (O.named old.now) K.cmp gone.now (O.blocks old.now) place changes.old out.old next changes.new out.new) }
-    ensures thrifty { IfOk result (λ next. StaysThrifty S (is_gone K.cmp gone.now) (O.blocks old.now) place (length changes.old) out.old next (length changes.new) out.new) }
-    ensures counted { IfOk result (λ next. CountsFrom (O.named old.now) (O.blocks old.now) next out.new) }
+    ensures whole { OnOk result (IsCutting K.cmp S old.now out.new) }
+    ensures list { IfOk result (λ next. KeepsListFrom K.cmp gone.now old.now place changes.old out.old next changes.new out.new) }
+    ensures thrifty { IfOk result (λ next. StaysThrifty S (is_gone K.cmp gone.now) old.now place (length changes.old) out.old next (length changes.new) out.new) }
+    ensures counted { IfOk result (λ next. CountsFrom old.now next out.new) }
 {
     // how many there are shows the proof that a place behind this one can be named
-    let _count = old.count();
+    let _count = old.segment_count();
     let next = place + 1;
-    if covers::<K, V, N, O>(gone, old, place) {
-        count_out::<K, V, N, O>(out, old, place);
+    if covers(gone, old, place) {
+        count_out(out, old, place);
         return Ok(next);
     }
-    if touches::<K, V, N, O, S>(changes, gone, old, place) {
-        merge_segment::<K, V, N, O, S>(out, changes, gone, old, place)?;
+    if touches::<K, V, W, S>(changes, gone, old, place) {
+        merge_segment::<K, V, W, S>(out, changes, gone, old, place)?;
         return Ok(next);
     }
-    if joins::<K, V, N, S>(out, old.segment(place).len()) {
-        merge_segment::<K, V, N, O, S>(out, changes, gone, old, place)?;
+    if joins::<K, V, S>(out, old.segment(place).len()) {
+        merge_segment::<K, V, W, S>(out, changes, gone, old, place)?;
         return Ok(next);
     }
-    let end = stretch_end::<K, V, N, O>(changes, gone, old, next);
-    take_stretch::<K, V, N, O, S>(out, old, place, end)?;
+    let end = stretch_end(changes, gone, old, next);
+    take_stretch::<K, V, W, S>(out, old, place, end)?;
     Ok(end)
 }
 
 /// Where the stretch from a place on ends: before the first segment there that the next change touches, or that lies near a
 /// range that is gone. The separators are halved, and no tree is read.
-fn stretch_end<K: Ord, V, N, O: BaseVersion<K, V, N>>(
-    changes: &ChangeScan<'_, K, Edit<'_, V>>,
+fn stretch_end<K: Ord, V, W: Trees<K, V>>(
+    changes: &ChangeScan<'_, '_, K, V>,
     gone: &[Gone<K>],
-    old: &O,
+    old: &VersionView<'_, K, V, W>,
     from: usize,
 ) -> usize
-    requires ordered { IsOrdered K.cmp (O.blocks old.now) (O.separators old.now) }
-    requires spans { All (IsSpan K.cmp (O.blocks old.now)) gone.now }
-    requires within { from ≤ length (O.blocks old.now) }
+    requires ordered { IsOrdered K.cmp old.now (separators_of old.now) }
+    requires spans { All (IsSpan K.cmp old.now) gone.now }
+    requires within { from ≤ length old.now }
     ensures from { from ≤ result }
-    ensures within { result ≤ length (O.blocks old.now) }
-    ensures passed { (i : ℕ) (b : List (K × V)) → from ≤ i → i < result → Some b ≡ slice_get (O.blocks old.now) i → IsUntouched K.cmp changes.now gone.now b }
+    ensures within { result ≤ length old.now }
+    ensures passed { (i : ℕ) (b : List (K × V)) → from ≤ i → i < result → Some b ≡ slice_get old.now i → IsUntouched K.cmp changes.now gone.now b }
 {
-    let apart = apart_upto::<K, V, N, O>(gone, old, from);
+    let apart = apart_upto(gone, old, from);
     if apart <= from {
         return from;
     }
-    let reached = reached_at::<K, V, N, O>(changes, old);
+    let reached = reached_at(changes, old);
     if reached <= from {
         return from;
     }
@@ -125,52 +152,52 @@ fn stretch_end<K: Ord, V, N, O: BaseVersion<K, V, N>>(
 
 /// The segment that the next change lies in or beside: those before it have lesser keys. Where there is no change, the place
 /// behind all.
-fn reached_at<K: Ord, V, N, O: BaseVersion<K, V, N>>(
-    changes: &ChangeScan<'_, K, Edit<'_, V>>,
-    old: &O,
+fn reached_at<K: Ord, V, W: Trees<K, V>>(
+    changes: &ChangeScan<'_, '_, K, V>,
+    old: &VersionView<'_, K, V, W>,
 ) -> usize
-    requires { IsOrdered K.cmp (O.blocks old.now) (O.separators old.now) }
-    ensures { (i : ℕ) (b : List (K × V)) → i < result → slice_get (O.blocks old.now) i ≡ Some b → IsPassedBy K.cmp changes.now b }
+    requires { IsOrdered K.cmp old.now (separators_of old.now) }
+    ensures { (i : ℕ) (b : List (K × V)) → i < result → slice_get old.now i ≡ Some b → IsPassedBy K.cmp changes.now b }
 {
     match changes.front() {
-        None => old.count(),
+        None => old.segment_count(),
         Some((key, _)) => place_of(old.separators(), key),
     }
 }
 
 /// Whether the next change touches the segment at a place, or a range that is gone has a pair of it.
-fn touches<K: Ord, V, N, O: BaseVersion<K, V, N>, const S: usize>(
-    changes: &ChangeScan<'_, K, Edit<'_, V>>,
+fn touches<K: Ord, V, W: Trees<K, V>, const S: usize>(
+    changes: &ChangeScan<'_, '_, K, V>,
     gone: &[Gone<K>],
-    old: &O,
+    old: &VersionView<'_, K, V, W>,
     place: usize,
 ) -> bool
-    requires old { IsCut K.cmp S (O.blocks old.now) (O.separators old.now) }
-    requires spans { All (IsSpan K.cmp (O.blocks old.now)) gone.now }
-    requires within { place < length (O.blocks old.now) }
-    ensures touched { IsTrue result → OfBlock (O.blocks old.now) place (IsTouched K.cmp changes.now gone.now) }
-    ensures passed { result ≡ false → OfBlock (O.blocks old.now) place (IsUntouched K.cmp changes.now gone.now) }
+    requires old { IsCut K.cmp S old.now (separators_of old.now) }
+    requires spans { All (IsSpan K.cmp old.now) gone.now }
+    requires within { place < length old.now }
+    ensures touched { IsTrue result → OfBlock old.now place (IsTouched K.cmp changes.now gone.now) }
+    ensures passed { result ≡ false → OfBlock old.now place (IsUntouched K.cmp changes.now gone.now) }
 {
-    if reaches::<K, V, N, O, S>(changes, old, place) {
+    if reaches::<K, V, W, S>(changes, old, place) {
         return true;
     }
-    thins::<K, V, N, O>(gone, old, place)
+    thins(gone, old, place)
 }
 
 /// Whether the next change touches the segment at a place: its key is at most the greatest one there.
-fn reaches<K: Ord, V, N, O: BaseVersion<K, V, N>, const S: usize>(
-    changes: &ChangeScan<'_, K, Edit<'_, V>>,
-    old: &O,
+fn reaches<K: Ord, V, W: Trees<K, V>, const S: usize>(
+    changes: &ChangeScan<'_, '_, K, V>,
+    old: &VersionView<'_, K, V, W>,
     place: usize,
 ) -> bool
-    requires old { IsCut K.cmp S (O.blocks old.now) (O.separators old.now) }
-    requires within { place < length (O.blocks old.now) }
-    ensures reached { IsTrue result → OfBlock (O.blocks old.now) place (IsReachedBy K.cmp changes.now) }
-    ensures passed { result ≡ false → OfBlock (O.blocks old.now) place (IsPassedBy K.cmp changes.now) }
+    requires old { IsCut K.cmp S old.now (separators_of old.now) }
+    requires within { place < length old.now }
+    ensures reached { IsTrue result → OfBlock old.now place (IsReachedBy K.cmp changes.now) }
+    ensures passed { result ≡ false → OfBlock old.now place (IsPassedBy K.cmp changes.now) }
 {
     match changes.front() {
         None => false,
-        Some((key, _)) => match greatest_at::<K, V, N, O>(old, place) {
+        Some((key, _)) => match greatest_at(old, place) {
             Some(last) => match key.cmp(last) {
                 Ordering::Less => true,
                 Ordering::Equal => true,
@@ -182,7 +209,7 @@ fn reaches<K: Ord, V, N, O: BaseVersion<K, V, N>, const S: usize>(
 }
 
 /// Whether a segment of `size` pairs fits into one with what comes before it.
-fn joins<K: Ord, V, N, const S: usize>(out: &SegmentBuilder<K, V, N>, size: usize) -> bool
+fn joins<K: Ord, V, const S: usize>(out: &SegmentBuilder<K, V>, size: usize) -> bool
     ensures { IsTrue result ↔ Joins S size out.now }
 {
     let last = match out.tail.len() {
@@ -193,38 +220,38 @@ fn joins<K: Ord, V, N, const S: usize>(out: &SegmentBuilder<K, V, N>, size: usiz
 }
 
 /// Tells how many pairs come of the segment at a place and of those behind it, up to one that no change touches.
-fn make_ready<K: Ord + Drop, V: Drop, N, O: BaseVersion<K, V, N>, const S: usize>(
-    out: &mut SegmentBuilder<K, V, N>,
-    changes: &ChangeScan<'_, K, Edit<'_, V>>,
-    old: &O,
+fn make_ready<K: Ord + Drop, V: Drop, W: Trees<K, V>, const S: usize>(
+    out: &mut SegmentBuilder<K, V>,
+    changes: &ChangeScan<'_, '_, K, V>,
+    old: &VersionView<'_, K, V, W>,
     place: usize,
 ) -> Result<(), AllocError>
-    requires old { IsCut K.cmp S (O.blocks old.now) (O.separators old.now) }
+    requires old { IsCut K.cmp S old.now (separators_of old.now) }
     ensures row { OnOk result (out.new.row ≡ out.old.row) }
     ensures held { OnOk result (out.new.held ≡ out.old.held) }
     ensures tail { OnOk result (out.new.tail.pairs ≡ out.old.tail.pairs) }
     ensures length { OnOk result (out.new.length ≡ out.old.length) }
 {
-    expect::<K, V, N, S>(out, pairs_ahead::<K, V, N, O, S>(changes, old, place))
+    expect::<K, V, S>(out, pairs_ahead::<K, V, W, S>(changes, old, place))
 }
 
 /// How many pairs come of the segment at a place and of those behind it, up to one that no change touches, and no further
 /// than two full trees take.
-fn pairs_ahead<K: Ord, V, N, O: BaseVersion<K, V, N>, const S: usize>(
-    changes: &ChangeScan<'_, K, Edit<'_, V>>,
-    old: &O,
+fn pairs_ahead<K: Ord, V, W: Trees<K, V>, const S: usize>(
+    changes: &ChangeScan<'_, '_, K, V>,
+    old: &VersionView<'_, K, V, W>,
     place: usize,
 ) -> usize
-    requires old { IsCut K.cmp S (O.blocks old.now) (O.separators old.now) }
+    requires old { IsCut K.cmp S old.now (separators_of old.now) }
 {
     let mut ahead = changes.copy();
     let mut total = 0usize;
-    for at in place..old.count() {
-        if at > place && !reaches::<K, V, N, O, S>(&ahead, old, at) {
+    for at in place..old.segment_count() {
+        if at > place && !reaches::<K, V, W, S>(&ahead, old, at) {
             return total;
         }
-        let more = pass_upto::<K, V, N, O, S>(&mut ahead, old, at);
-        total = total.saturating_add(old.segment(at).len().saturating_add(more));
+        let more = pass_upto::<K, V, W, S>(&mut ahead, old, at);
+        total = total.saturating_add((&*old).segment(at).len().saturating_add(more));
         if total / 2 >= S {
             return total;
         }
@@ -233,15 +260,15 @@ fn pairs_ahead<K: Ord, V, N, O: BaseVersion<K, V, N>, const S: usize>(
 }
 
 /// Passes the changes up to the end of the segment at a place, and counts them: at most as many as a tree takes.
-fn pass_upto<K: Ord, V, N, O: BaseVersion<K, V, N>, const S: usize>(
-    ahead: &mut ChangeScan<'_, K, Edit<'_, V>>,
-    old: &O,
+fn pass_upto<K: Ord, V, W: Trees<K, V>, const S: usize>(
+    ahead: &mut ChangeScan<'_, '_, K, V>,
+    old: &VersionView<'_, K, V, W>,
     place: usize,
 ) -> usize
-    requires separated { IsSeparated (O.blocks old.now) (O.separators old.now) }
-    requires within { place < length (O.blocks old.now) }
+    requires separated { IsSeparated old.now (separators_of old.now) }
+    requires within { place < length old.now }
 {
-    let Some(last) = greatest_at::<K, V, N, O>(old, place) else {
+    let Some(last) = greatest_at(old, place) else {
         return 0;
     };
     for count in 0..S {
@@ -259,110 +286,92 @@ fn pass_upto<K: Ord, V, N, O: BaseVersion<K, V, N>, const S: usize>(
 }
 
 /// Merges what is left of a segment with the changes up to its end.
-fn merge_segment<
-    K: Clone + Ord + Drop,
-    V: Clone + Drop,
-    N: Drop,
-    O: BaseVersion<K, V, N>,
-    const S: usize,
->(
-    out: &mut SegmentBuilder<K, V, N>,
-    changes: &mut ChangeScan<'_, K, Edit<'_, V>>,
+fn merge_segment<K: Clone + Ord + Drop, V: Clone + Drop, W: Trees<K, V>, const S: usize>(
+    out: &mut SegmentBuilder<K, V>,
+    changes: &mut ChangeScan<'_, '_, K, V>,
     gone: &[Gone<K>],
-    old: &O,
+    old: &VersionView<'_, K, V, W>,
     place: usize,
 ) -> Result<(), AllocError>
     requires keys { ClonesAreSame K.is_clone }
     requires values { ClonesAreSame V.is_clone }
-    requires old { IsCut K.cmp S (O.blocks old.now) (O.separators old.now) }
-    requires within { place < length (O.blocks old.now) }
-    requires sorted { IsAscending K.cmp (pairs_in (drop place (O.blocks old.now))) }
-    requires whole { IsCutting (O.named old.now) K.cmp S (O.blocks old.now) out.old }
-    requires rising { IsAscending K.cmp (given_pairs (O.named old.now) out.old ++ ahead K.cmp changes.old gone.now place (O.blocks old.now)) }
-    requires counted { CountsFrom (O.named old.now) (O.blocks old.now) place out.old }
-    ensures whole { OnOk result (IsCutting (O.named old.now) K.cmp S (O.blocks old.now) out.new) }
-    ensures list { OnOk result (KeepsListFrom (O.named old.now) K.cmp gone.now (O.blocks old.now) place changes.old out.old (place + 1) changes.new out.new) }
-    ensures filled { OnOk result (OfBlock (O.blocks old.now) place (λ b. GivesNoMoreThanRead S (length (without_gone K.cmp gone.now b) + length changes.old) (length changes.new) out.old out.new)) }
+    requires old { IsCut K.cmp S old.now (separators_of old.now) }
+    requires within { place < length old.now }
+    requires sorted { IsAscending K.cmp (pairs_in (drop place old.now)) }
+    requires whole { IsCutting K.cmp S old.now out.old }
+    requires rising { IsAscending K.cmp (given_pairs old.now out.old ++ ahead K.cmp changes.old gone.now place old.now) }
+    requires counted { CountsFrom old.now place out.old }
+    ensures whole { OnOk result (IsCutting K.cmp S old.now out.new) }
+    ensures list { OnOk result (KeepsListFrom K.cmp gone.now old.now place changes.old out.old (place + 1) changes.new out.new) }
+    ensures filled { OnOk result (OfBlock old.now place (λ b. GivesNoMoreThanRead S (length (without_gone K.cmp gone.now b) + length changes.old) (length changes.new) out.old out.new)) }
     ensures fewer { OnOk result (length changes.new ≤ length changes.old) }
-    ensures reached { OnOk result (OfBlock (O.blocks old.now) place (λ b. IsReachedBy K.cmp changes.old (without_gone K.cmp gone.now b) → length changes.new < length changes.old)) }
-    ensures counted { OnOk result (CountsFrom (O.named old.now) (O.blocks old.now) (place + 1) out.new) }
+    ensures reached { OnOk result (OfBlock old.now place (λ b. IsReachedBy K.cmp changes.old (without_gone K.cmp gone.now b) → length changes.new < length changes.old)) }
+    ensures counted { OnOk result (CountsFrom old.now (place + 1) out.new) }
 {
-    count_out::<K, V, N, O>(out, old, place);
-    make_ready::<K, V, N, O, S>(out, changes, old, place)?;
-    let mut pairs = Sieve::new(old.segment(place), gone);
+    count_out(out, old, place);
+    make_ready::<K, V, W, S>(out, changes, old, place)?;
+    let mut pairs = Sieve::new((&*old).segment(place), gone);
     let mut more = true;
     while more {
-        more = merge_more::<K, V, N, O, S>(out, changes, &mut pairs, gone, old, place)?;
+        more = merge_more::<K, V, W, S>(out, changes, &mut pairs, gone, old, place)?;
     }
     Ok(())
 }
 
 /// Takes the pairs that come before the next change, a leaf at a time, or where there is none what is first, and says whether
 /// there was a pair.
-fn merge_more<
-    K: Clone + Ord + Drop,
-    V: Clone + Drop,
-    N: Drop,
-    O: BaseVersion<K, V, N>,
-    const S: usize,
->(
-    out: &mut SegmentBuilder<K, V, N>,
-    changes: &mut ChangeScan<'_, K, Edit<'_, V>>,
-    pairs: &mut Sieve<'_, K, V>,
+fn merge_more<K: Clone + Ord + Drop, V: Clone + Drop, W: Trees<K, V>, const S: usize>(
+    out: &mut SegmentBuilder<K, V>,
+    changes: &mut ChangeScan<'_, '_, K, V>,
+    pairs: &mut Sieve<'_, '_, K, V>,
     gone: &[Gone<K>],
-    old: &O,
+    old: &VersionView<'_, K, V, W>,
     place: usize,
 ) -> Result<bool, AllocError>
     requires keys { ClonesAreSame K.is_clone }
     requires values { ClonesAreSame V.is_clone }
-    requires sorted { IsAscending K.cmp (rest_behind K.cmp gone.now (O.blocks old.now) place pairs.old) }
-    requires whole { IsCutting (O.named old.now) K.cmp S (O.blocks old.now) out.old }
-    requires rising { IsAscending K.cmp (given_pairs (O.named old.now) out.old ++ apply_delta K.cmp changes.old (rest_behind K.cmp gone.now (O.blocks old.now) place pairs.old)) }
-    ensures whole { OnOk result (IsCutting (O.named old.now) K.cmp S (O.blocks old.now) out.new) }
-    ensures list { OnOk result (KeepsListWithin (O.named old.now) K.cmp gone.now (O.blocks old.now) place pairs.old changes.old out.old pairs.new changes.new out.new) }
-    ensures sorted { OnOk result (IsAscending K.cmp (rest_behind K.cmp gone.now (O.blocks old.now) place pairs.new)) }
+    requires sorted { IsAscending K.cmp (rest_behind K.cmp gone.now old.now place pairs.old) }
+    requires whole { IsCutting K.cmp S old.now out.old }
+    requires rising { IsAscending K.cmp (given_pairs old.now out.old ++ apply_delta K.cmp changes.old (rest_behind K.cmp gone.now old.now place pairs.old)) }
+    ensures whole { OnOk result (IsCutting K.cmp S old.now out.new) }
+    ensures list { OnOk result (KeepsListWithin K.cmp gone.now old.now place pairs.old changes.old out.old pairs.new changes.new out.new) }
+    ensures sorted { OnOk result (IsAscending K.cmp (rest_behind K.cmp gone.now old.now place pairs.new)) }
     ensures filled { OnOk result (GivesNoMoreThanRead S (length pairs.old + length changes.old) (length pairs.new + length changes.new) out.old out.new) }
     ensures reached { OnOk result (IsReachedBy K.cmp changes.old pairs.old → IsReachedBy K.cmp changes.new pairs.new ⊎ (length changes.new < length changes.old)) }
     ensures fewer { IfOk result (λ more. more ≡ true → length changes.new + length pairs.new < length changes.old + length pairs.old) }
     ensures less { OnOk result (length changes.new ≤ length changes.old) }
     ensures done { IfOk result (λ more. more ≡ false → pairs.new ≡ []) }
-    ensures counted { OnOk result (CountsGiven (O.named old.now) out.old out.new) }
+    ensures counted { OnOk result (CountsGiven old.now out.old out.new) }
 {
-    if copy_run::<K, V, N, O, S>(out, changes, pairs, gone, old, place)? {
+    if copy_run::<K, V, W, S>(out, changes, pairs, gone, old, place)? {
         return Ok(true);
     }
-    merge_next::<K, V, N, O, S>(out, changes, pairs, gone, old, place)
+    merge_next::<K, V, W, S>(out, changes, pairs, gone, old, place)
 }
 
 /// Gives clones of the first pairs that come before the next change, those of one leaf, as far as the open tree has room, and
 /// says whether there were any.
-fn copy_run<
-    K: Clone + Ord + Drop,
-    V: Clone + Drop,
-    N: Drop,
-    O: BaseVersion<K, V, N>,
-    const S: usize,
->(
-    out: &mut SegmentBuilder<K, V, N>,
-    changes: &ChangeScan<'_, K, Edit<'_, V>>,
-    pairs: &mut Sieve<'_, K, V>,
+fn copy_run<K: Clone + Ord + Drop, V: Clone + Drop, W: Trees<K, V>, const S: usize>(
+    out: &mut SegmentBuilder<K, V>,
+    changes: &ChangeScan<'_, '_, K, V>,
+    pairs: &mut Sieve<'_, '_, K, V>,
     gone: &[Gone<K>],
-    old: &O,
+    old: &VersionView<'_, K, V, W>,
     place: usize,
 ) -> Result<bool, AllocError>
     requires keys { ClonesAreSame K.is_clone }
     requires values { ClonesAreSame V.is_clone }
-    requires sorted { IsAscending K.cmp (rest_behind K.cmp gone.now (O.blocks old.now) place pairs.old) }
-    requires whole { IsCutting (O.named old.now) K.cmp S (O.blocks old.now) out.old }
-    requires rising { IsAscending K.cmp (given_pairs (O.named old.now) out.old ++ apply_delta K.cmp changes.now (rest_behind K.cmp gone.now (O.blocks old.now) place pairs.old)) }
-    ensures whole { OnOk result (IsCutting (O.named old.now) K.cmp S (O.blocks old.now) out.new) }
-    ensures list { OnOk result (KeepsListWithin (O.named old.now) K.cmp gone.now (O.blocks old.now) place pairs.old changes.now out.old pairs.new changes.now out.new) }
-    ensures sorted { OnOk result (IsAscending K.cmp (rest_behind K.cmp gone.now (O.blocks old.now) place pairs.new)) }
+    requires sorted { IsAscending K.cmp (rest_behind K.cmp gone.now old.now place pairs.old) }
+    requires whole { IsCutting K.cmp S old.now out.old }
+    requires rising { IsAscending K.cmp (given_pairs old.now out.old ++ apply_delta K.cmp changes.now (rest_behind K.cmp gone.now old.now place pairs.old)) }
+    ensures whole { OnOk result (IsCutting K.cmp S old.now out.new) }
+    ensures list { OnOk result (KeepsListWithin K.cmp gone.now old.now place pairs.old changes.now out.old pairs.new changes.now out.new) }
+    ensures sorted { OnOk result (IsAscending K.cmp (rest_behind K.cmp gone.now old.now place pairs.new)) }
     ensures filled { OnOk result (GivesNoMoreThanRead S (length pairs.old + length changes.now) (length pairs.new + length changes.now) out.old out.new) }
     ensures reached { OnOk result (IsReachedBy K.cmp changes.now pairs.old → IsReachedBy K.cmp changes.now pairs.new) }
     ensures less { OnOk result (length pairs.new ≤ length pairs.old) }
     ensures fewer { IfOk result (λ some. some ≡ true → length pairs.new < length pairs.old) }
-    ensures counted { OnOk result (CountsGiven (O.named old.now) out.old out.new) }
+    ensures counted { OnOk result (CountsGiven old.now out.old out.new) }
 {
     let _ = gone;
     let _ = old;
@@ -377,56 +386,50 @@ fn copy_run<
 
 /// Takes what is first of changes and the pairs of the segment at a place, or both where they have one key, and says whether
 /// there was a pair.
-fn merge_next<
-    K: Clone + Ord + Drop,
-    V: Clone + Drop,
-    N: Drop,
-    O: BaseVersion<K, V, N>,
-    const S: usize,
->(
-    out: &mut SegmentBuilder<K, V, N>,
-    changes: &mut ChangeScan<'_, K, Edit<'_, V>>,
-    pairs: &mut Sieve<'_, K, V>,
+fn merge_next<K: Clone + Ord + Drop, V: Clone + Drop, W: Trees<K, V>, const S: usize>(
+    out: &mut SegmentBuilder<K, V>,
+    changes: &mut ChangeScan<'_, '_, K, V>,
+    pairs: &mut Sieve<'_, '_, K, V>,
     gone: &[Gone<K>],
-    old: &O,
+    old: &VersionView<'_, K, V, W>,
     place: usize,
 ) -> Result<bool, AllocError>
     requires keys { ClonesAreSame K.is_clone }
     requires values { ClonesAreSame V.is_clone }
-    requires sorted { IsAscending K.cmp (rest_behind K.cmp gone.now (O.blocks old.now) place pairs.old) }
-    requires whole { IsCutting (O.named old.now) K.cmp S (O.blocks old.now) out.old }
-    requires rising { IsAscending K.cmp (given_pairs (O.named old.now) out.old ++ apply_delta K.cmp changes.old (rest_behind K.cmp gone.now (O.blocks old.now) place pairs.old)) }
-    ensures whole { OnOk result (IsCutting (O.named old.now) K.cmp S (O.blocks old.now) out.new) }
-    ensures list { OnOk result (KeepsListWithin (O.named old.now) K.cmp gone.now (O.blocks old.now) place pairs.old changes.old out.old pairs.new changes.new out.new) }
-    ensures sorted { OnOk result (IsAscending K.cmp (rest_behind K.cmp gone.now (O.blocks old.now) place pairs.new)) }
+    requires sorted { IsAscending K.cmp (rest_behind K.cmp gone.now old.now place pairs.old) }
+    requires whole { IsCutting K.cmp S old.now out.old }
+    requires rising { IsAscending K.cmp (given_pairs old.now out.old ++ apply_delta K.cmp changes.old (rest_behind K.cmp gone.now old.now place pairs.old)) }
+    ensures whole { OnOk result (IsCutting K.cmp S old.now out.new) }
+    ensures list { OnOk result (KeepsListWithin K.cmp gone.now old.now place pairs.old changes.old out.old pairs.new changes.new out.new) }
+    ensures sorted { OnOk result (IsAscending K.cmp (rest_behind K.cmp gone.now old.now place pairs.new)) }
     ensures filled { OnOk result (GivesNoMoreThanRead S (length pairs.old + length changes.old) (length pairs.new + length changes.new) out.old out.new) }
     ensures reached { OnOk result (IsReachedBy K.cmp changes.old pairs.old → IsReachedBy K.cmp changes.new pairs.new ⊎ (length changes.new < length changes.old)) }
     ensures fewer { IfOk result (λ more. more ≡ true → length changes.new + length pairs.new < length changes.old + length pairs.old) }
     ensures less { OnOk result (length changes.new ≤ length changes.old) }
     ensures done { IfOk result (λ more. more ≡ false → pairs.new ≡ []) }
-    ensures counted { OnOk result (CountsGiven (O.named old.now) out.old out.new) }
+    ensures counted { OnOk result (CountsGiven old.now out.old out.new) }
 {
     let _ = gone;
     let Some((key, value)) = pairs.front() else {
         return Ok(false);
     };
     let Some((changed, to)) = changes.front() else {
-        copy::<K, V, N, O, S>(out, old, key, value)?;
+        copy::<K, V, W, S>(out, old, key, value)?;
         pairs.step();
         return Ok(true);
     };
     match changed.cmp(key) {
         Ordering::Less => {
-            put::<K, V, N, O, S>(out, old, changed, to)?;
+            put::<K, V, W, S>(out, old, changed, to)?;
             changes.step();
         },
         Ordering::Equal => {
-            put::<K, V, N, O, S>(out, old, changed, to)?;
+            put::<K, V, W, S>(out, old, changed, to)?;
             changes.step();
             pairs.step();
         },
         Ordering::Greater => {
-            copy::<K, V, N, O, S>(out, old, key, value)?;
+            copy::<K, V, W, S>(out, old, key, value)?;
             pairs.step();
         },
     }
@@ -434,71 +437,65 @@ fn merge_next<
 }
 
 /// Gives what the changes that are left leave, behind all pairs of the version.
-fn put_all<
-    K: Clone + Ord + Drop,
-    V: Clone + Drop,
-    N: Drop,
-    O: BaseVersion<K, V, N>,
-    const S: usize,
->(
-    out: &mut SegmentBuilder<K, V, N>,
-    changes: &mut ChangeScan<'_, K, Edit<'_, V>>,
-    old: &O,
+fn put_all<K: Clone + Ord + Drop, V: Clone + Drop, W: Trees<K, V>, const S: usize>(
+    out: &mut SegmentBuilder<K, V>,
+    changes: &mut ChangeScan<'_, '_, K, V>,
+    old: &VersionView<'_, K, V, W>,
 ) -> Result<(), AllocError>
     requires keys { ClonesAreSame K.is_clone }
     requires values { ClonesAreSame V.is_clone }
-    requires whole { IsCutting (O.named old.now) K.cmp S (O.blocks old.now) out.old }
-    requires rising { IsAscending K.cmp (given_pairs (O.named old.now) out.old ++ apply_delta K.cmp changes.old []) }
-    ensures whole { OnOk result (IsCutting (O.named old.now) K.cmp S (O.blocks old.now) out.new) }
-    ensures list { OnOk result (given_pairs (O.named old.now) out.new ≡ given_pairs (O.named old.now) out.old ++ apply_delta K.cmp changes.old []) }
+    requires whole { IsCutting K.cmp S old.now out.old }
+    requires rising { IsAscending K.cmp (given_pairs old.now out.old ++ apply_delta K.cmp changes.old []) }
+    ensures whole { OnOk result (IsCutting K.cmp S old.now out.new) }
+    ensures list { OnOk result (given_pairs old.now out.new ≡ given_pairs old.now out.old ++ apply_delta K.cmp changes.old []) }
     ensures filled { OnOk result (GivesNoMoreThanRead S (length changes.old) 0 out.old out.new) }
-    ensures counted { OnOk result (CountsGiven (O.named old.now) out.old out.new) }
+    ensures counted { OnOk result (CountsGiven old.now out.old out.new) }
 {
-    expect::<K, V, N, S>(out, changes.count())?;
+    expect::<K, V, S>(out, changes.count())?;
     while let Some((changed, to)) = changes.front() {
-        put::<K, V, N, O, S>(out, old, changed, to)?;
+        put::<K, V, W, S>(out, old, changed, to)?;
         changes.step();
     }
     Ok(())
 }
 
 /// Gives the pair that a change leaves, if it leaves one.
-fn put<K: Clone + Ord + Drop, V: Clone + Drop, N: Drop, O: BaseVersion<K, V, N>, const S: usize>(
-    out: &mut SegmentBuilder<K, V, N>,
-    old: &O,
+fn put<K: Clone + Ord + Drop, V: Clone + Drop, W: Trees<K, V>, const S: usize>(
+    out: &mut SegmentBuilder<K, V>,
+    old: &VersionView<'_, K, V, W>,
     key: &K,
     to: &Edit<'_, V>,
 ) -> Result<(), AllocError>
     requires keys { ClonesAreSame K.is_clone }
     requires values { ClonesAreSame V.is_clone }
-    requires whole { IsCutting (O.named old.now) K.cmp S (O.blocks old.now) out.old }
-    requires rising { IsAscending K.cmp (given_pairs (O.named old.now) out.old ++ pair_left key.now to.now) }
-    ensures whole { OnOk result (IsCutting (O.named old.now) K.cmp S (O.blocks old.now) out.new) }
-    ensures pairs { OnOk result (given_pairs (O.named old.now) out.new ≡ given_pairs (O.named old.now) out.old ++ pair_left key.now to.now) }
+    requires whole { IsCutting K.cmp S old.now out.old }
+    requires rising { IsAscending K.cmp (given_pairs old.now out.old ++ pair_left key.now to.now) }
+    ensures whole { OnOk result (IsCutting K.cmp S old.now out.new) }
+    ensures pairs { OnOk result (given_pairs old.now out.new ≡ given_pairs old.now out.old ++ pair_left key.now to.now) }
     ensures filled { OnOk result (GivesNoMoreThanRead S 1 0 out.old out.new) }
-    ensures counted { OnOk result (CountsGiven (O.named old.now) out.old out.new) }
+    ensures counted { OnOk result (CountsGiven old.now out.old out.new) }
 {
     match to.value() {
-        Some(value) => copy::<K, V, N, O, S>(out, old, key, value),
+        Some(value) => copy::<K, V, W, S>(out, old, key, value),
         None => Ok(()),
     }
 }
 
 /// Gives a clone of a pair.
-fn copy<K: Clone + Ord + Drop, V: Clone + Drop, N: Drop, O: BaseVersion<K, V, N>, const S: usize>(
-    out: &mut SegmentBuilder<K, V, N>,
-    old: &O,
+fn copy<K: Clone + Ord + Drop, V: Clone + Drop, W: Trees<K, V>, const S: usize>(
+    out: &mut SegmentBuilder<K, V>,
+    old: &VersionView<'_, K, V, W>,
     key: &K,
     value: &V,
 ) -> Result<(), AllocError>
     requires keys { ClonesAreSame K.is_clone }
     requires values { ClonesAreSame V.is_clone }
-    requires whole { IsCutting (O.named old.now) K.cmp S (O.blocks old.now) out.old }
-    requires rising { IsAscending K.cmp (given_pairs (O.named old.now) out.old ++ (key.now, value.now) ∷ []) }
-    ensures whole { OnOk result (IsCutting (O.named old.now) K.cmp S (O.blocks old.now) out.new) }
-    ensures pairs { OnOk result (given_pairs (O.named old.now) out.new ≡ given_pairs (O.named old.now) out.old ++ (key.now, value.now) ∷ []) }
+    requires whole { IsCutting K.cmp S old.now out.old }
+    requires rising { IsAscending K.cmp (given_pairs old.now out.old ++ (key.now, value.now) ∷ []) }
+    ensures whole { OnOk result (IsCutting K.cmp S old.now out.new) }
+    ensures pairs { OnOk result (given_pairs old.now out.new ≡ given_pairs old.now out.old ++ (key.now, value.now) ∷ []) }
     ensures filled { OnOk result (GivesNoMoreThanRead S 1 0 out.old out.new) }
-    ensures counted { OnOk result (CountsGiven (O.named old.now) out.old out.new) }
+    ensures counted { OnOk result (CountsGiven old.now out.old out.new) }
 {
-    push::<K, V, N, O, S>(out, old, key.clone()?, value.clone()?)
+    push::<K, V, W, S>(out, old, key.clone()?, value.clone()?)
 }

@@ -16,13 +16,13 @@ use version_views::Segment;
 
 /// The pairs of a tree by rising keys, without those that were passed.
 #[derive(Drop)]
-pub(crate) struct ChangeScan<'t, K: Ord, V> {
+pub(crate) struct PairScan<'t, K: Ord, V> {
     cursor: Iter<'t, K, V>,
 }
 
 /// Invariant: specs/ChangeScans.antt of `version_views`, IsReading: the cursor walks over all pairs of the tree, and has
 /// begun if there are some.
-impl<'t, K: Ord, V> Model for ChangeScan<'t, K, V> {
+impl<'t, K: Ord, V> Model for PairScan<'t, K, V> {
     ghost use Rattle.std.specs.Prelude.{List};
     ghost use Rattle.version_views.specs.ChangeScans.{IsReading, unread};
 
@@ -33,46 +33,14 @@ impl<'t, K: Ord, V> Model for ChangeScan<'t, K, V> {
     ghost invariant = { λ s. IsReading s.cursor };
 }
 
-impl<'t, K: Ord, V> ChangeScan<'t, K, V> {
+impl<'t, K: Ord, V> PairScan<'t, K, V> {
     /// All pairs of a tree.
     pub(crate) fn new(tree: &'t TreeIndex<K, V>) -> Self
         ensures { result ≡ tree.now.pairs }
     {
         let mut cursor = tree.iter();
         let _ = cursor.next();
-        ChangeScan { cursor }
-    }
-
-    /// The same pairs.
-    pub(crate) fn copy(&self) -> Self
-        ensures { result ≡ self.now }
-    {
-        ChangeScan {
-            cursor: self.cursor.clone(),
-        }
-    }
-
-    /// How many pairs are left: each is passed on the way.
-    pub(crate) fn count(&self) -> usize {
-        let mut ahead = self.copy();
-        let mut count = 0usize;
-        while let Some((key, _)) = ahead.front() {
-            let _ = key;
-            ahead.step();
-            count = count.saturating_add(1);
-        }
-        count
-    }
-
-    /// The key of the first pair that is left.
-    #[inline(always)]
-    pub(crate) fn key(&self) -> Option<&'t K>
-        ensures { option_copied result ≡ option_map (λ p. p.0) (slice_get self.now 0) }
-    {
-        match self.front() {
-            Some((key, _)) => Some(key),
-            None => None,
-        }
+        PairScan { cursor }
     }
 
     /// How many of the first pairs that are left, in one leaf, have keys below this one; all of them, where none is named.
@@ -127,13 +95,13 @@ impl<'t, K: Ord, V> ChangeScan<'t, K, V> {
 
 /// The pairs of a tree by rising keys that lie in no range that is gone, without those that were passed.
 #[derive(Drop)]
-pub(crate) struct Sieve<'t, K: Ord, V> {
-    pairs: ChangeScan<'t, K, V>,
-    gone: &'t [Gone<K>],
+pub(crate) struct Sieve<'t, 'g, K: Ord, V> {
+    pairs: PairScan<'t, K, V>,
+    gone: &'g [Gone<K>],
 }
 
 /// Invariant: specs/Gone.antt, FirstIsLeft: the first pair that is left isn't gone.
-impl<'t, K: Ord, V> Model for Sieve<'t, K, V> {
+impl<'t, 'g, K: Ord, V> Model for Sieve<'t, 'g, K, V> {
     ghost use Rattle.std.specs.Prelude.{List};
     ghost use Rattle.version_drafts.specs.Gone.{FirstIsLeft, without_gone};
 
@@ -144,12 +112,12 @@ impl<'t, K: Ord, V> Model for Sieve<'t, K, V> {
     ghost invariant = { λ s. FirstIsLeft K.cmp s.gone.now s.pairs };
 }
 
-impl<'t, K: Ord, V> Sieve<'t, K, V> {
+impl<'t, 'g, K: Ord, V> Sieve<'t, 'g, K, V> {
     /// All pairs of a tree that lie in none of these ranges.
-    pub(crate) fn new(tree: &'t TreeIndex<K, V>, gone: &'t [Gone<K>]) -> Self
+    pub(crate) fn new(tree: &'t TreeIndex<K, V>, gone: &'g [Gone<K>]) -> Self
         ensures { result ≡ without_gone K.cmp gone.now tree.now.pairs }
     {
-        let mut pairs = ChangeScan::new(tree);
+        let mut pairs = PairScan::new(tree);
         pass_gone(&mut pairs, gone);
         Sieve { pairs, gone }
     }
@@ -205,7 +173,7 @@ impl<'t, K: Ord, V> Sieve<'t, K, V> {
 
 /// Passes the pairs up to the first one that isn't gone.
 #[inline(always)]
-fn pass_gone<K: Ord, V>(pairs: &mut ChangeScan<'_, K, V>, gone: &[Gone<K>])
+fn pass_gone<K: Ord, V>(pairs: &mut PairScan<'_, K, V>, gone: &[Gone<K>])
     ensures same { without_gone K.cmp gone.now pairs.new ≡ without_gone K.cmp gone.now pairs.old }
     ensures left { FirstIsLeft K.cmp gone.now pairs.new }
 {

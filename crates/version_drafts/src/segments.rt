@@ -1,53 +1,58 @@
 //! Lists of pairs cut into segments, some of which are taken over from an older version.
 
-ghost use Rattle.std.specs.Prelude.{◌≡◌, ◌≤◌, ◌<◌, ◌+◌, ◌-◌, ◌++◌, ◌∷◌, [], Some, None, List, length, map, option_copied, slice_get, IfOk, OnOk};
+ghost use Rattle.std.specs.Prelude.{◌≡◌, ◌≤◌, ◌<◌, ◌+◌, ◌-◌, ◌++◌, ◌∷◌, [], Some, None, List, ℕ, length, map, option_copied, slice_get, IfOk, IfSome, OnOk};
 ghost use Rattle.leaf_array.specs.Pairs.{IsAscending};
 ghost use Rattle.leaf_array.specs.Values.{ClonesAreSame};
-ghost use Rattle.version_views.specs.Cuts.{IsCut, IsSeparated, greatest_key, pairs_in};
-ghost use Rattle.version_drafts.specs.Cutting.{CountsFrom, CountsGiven, IsClosing, IsCutting, IsSegmentRow, StaysApart, TakesStretch, between, given_pairs, room_spent, trees};
-ghost use Rattle.version_drafts.specs.Parts.{HasMadeTree, blocks_of_parts, made_in};
+ghost use Rattle.version_views.specs.Cuts.{IsCut, IsSeparated, greatest_key, pairs_in, separators_of};
+ghost use Rattle.version_drafts.specs.Cutting.{CountsFrom, CountsGiven, IsClosing, IsCutting, IsSegmentRow, StaysApart, given_pairs, room_spent, trees};
+ghost use Rattle.version_drafts.specs.Parts.{HasMadeTree, LiesWithin, between, blocks_of_parts, made_in, segments_in, stretch_of};
+ghost use Rattle.std.specs.List.{All};
 
-use crate::draft::BaseVersion;
-use crate::scans::ChangeScan;
+use crate::scans::PairScan;
 use std::alloc::{AllocError, Global};
 use std::mem;
 use tree_index::TreeIndex;
-use version_views::Segment;
+use version_views::{Segment, Trees, VersionView};
 
-/// A segment of a version that is being built: one of the older version, by its name, or a new one.
+/// A part of a version that is being built: a stretch of segments of the older version, or a new segment.
 #[derive(Drop)]
-pub enum Part<K: Ord, V, N> {
-    /// The older segment of this name, which is taken over.
-    Taken(N),
+pub enum Part<K: Ord, V> {
+    /// The segments of the older version from one place up to another, which are taken over.
+    Taken {
+        /// The place of the first one.
+        from: usize,
+        /// The place behind the last one.
+        upto: usize,
+    },
     /// A segment that was made for it: boxed, since there are few, and parts are moved.
     Made(Box<Segment<K, V>>),
 }
 
-/// The segments of a list, in order, with the greatest key of each but the last.
+/// The segments of a list, in order, by parts, with the greatest key of each but the last.
 #[derive(Drop)]
-pub struct Segments<K: Ord, V, N> {
-    /// The segments.
-    pub parts: Vec<Part<K, V, N>>,
+pub struct Segments<K: Ord, V> {
+    /// The stretches that are taken over, and the new segments.
+    pub parts: Vec<Part<K, V>>,
     /// The greatest key of each segment but the last.
     pub separators: Vec<K>,
     /// How many pairs all segments hold.
     pub length: usize,
 }
 
-/// Parts in a row, with the greatest key of each.
+/// Parts in a row, with the greatest key of each segment.
 #[derive(Drop)]
-pub(crate) struct Row<K: Ord, V, N> {
-    pub(crate) parts: Vec<Part<K, V, N>>,
+pub(crate) struct Row<K: Ord, V> {
+    pub(crate) parts: Vec<Part<K, V>>,
     pub(crate) separators: Vec<K>,
-    // how many pairs the last part has; 0 where there is none
+    // how many pairs the last segment has; 0 where there is none
     pub(crate) last: usize,
 }
 
-/// Puts a part behind the others, with its greatest key and how many pairs it has.
+/// Puts a new segment behind the others, with its greatest key and how many pairs it has.
 #[inline(always)]
-pub(crate) fn give<K: Ord + Drop, V: Drop, N: Drop>(
-    row: &mut Row<K, V, N>,
-    part: Part<K, V, N>,
+fn give<K: Ord + Drop, V: Drop>(
+    row: &mut Row<K, V>,
+    part: Part<K, V>,
     greatest: K,
     size: usize,
 ) -> Result<(), AllocError>
@@ -62,7 +67,7 @@ pub(crate) fn give<K: Ord + Drop, V: Drop, N: Drop>(
 }
 
 /// How many parts are new.
-pub fn made_of<K: Ord, V, N>(parts: &[Part<K, V, N>]) -> usize
+pub fn made_of<K: Ord, V>(parts: &[Part<K, V>]) -> usize
     ensures count { result ≡ made_in parts.now }
     ensures few { result ≤ length parts.now }
 {
@@ -75,12 +80,30 @@ pub fn made_of<K: Ord, V, N>(parts: &[Part<K, V, N>]) -> usize
     made
 }
 
+/// How many segments parts have; none where that is more than a number can tell.
+pub(crate) fn count_of<K: Ord, V>(parts: &[Part<K, V>]) -> Option<usize>
+    ensures { IfSome result (λ n. n ≡ segments_in parts.now) }
+{
+    let mut count = 0usize;
+    for part in parts {
+        let more = match part {
+            Part::Taken { from, upto } => upto.saturating_sub(*from),
+            Part::Made(_) => 1,
+        };
+        count = match count.checked_add(more) {
+            Some(count) => count,
+            None => return None,
+        };
+    }
+    Some(count)
+}
+
 /// The pairs that were given so far, by rising keys: in segments that are done, and in a last tree that takes more.
 #[derive(Drop)]
-pub(crate) struct SegmentBuilder<K: Ord, V, N> {
+pub(crate) struct SegmentBuilder<K: Ord, V> {
     pub(crate) alloc: Global,
-    pub(crate) row: Row<K, V, N>,
-    // where the last segment of the row is one of the older version, its place there
+    pub(crate) row: Row<K, V>,
+    // where the last segment of the row is one of the older version, its place there: the last one of the last stretch
     pub(crate) held: Option<usize>,
     pub(crate) tail: Segment<K, V>,
     // how many pairs were given, and how many the older segments have that are yet to come: so nothing is counted where a
@@ -90,20 +113,21 @@ pub(crate) struct SegmentBuilder<K: Ord, V, N> {
     pub(crate) until: usize,
 }
 
-/// A builder that was given no pair, with room for all segments that changes of that many keys and ranges can leave.
-pub(crate) fn begun<K: Ord + Drop, V: Drop, N: Drop, O: BaseVersion<K, V, N>, const S: usize>(
+/// A builder that was given no pair, with room for the separators of all segments that changes of that many keys and ranges
+/// can leave.
+pub(crate) fn begun<K: Ord + Drop, V: Drop, W: Trees<K, V>, const S: usize>(
     alloc: Global,
-    old: &O,
+    old: &VersionView<'_, K, V, W>,
     named: usize,
-) -> Result<SegmentBuilder<K, V, N>, AllocError>
+) -> Result<SegmentBuilder<K, V>, AllocError>
     requires { (1 ≤ S) × (S ≤ 225) }
-    ensures whole { IfOk result (λ out. IsCutting (O.named old.now) K.cmp S (O.blocks old.now) out) }
-    ensures empty { IfOk result (λ out. given_pairs (O.named old.now) out ≡ []) }
+    ensures whole { IfOk result (λ out. IsCutting K.cmp S old.now out) }
+    ensures empty { IfOk result (λ out. given_pairs old.now out ≡ []) }
     ensures none { IfOk result (λ out. (trees out ≡ 0) × (out.row.last ≡ 0)) }
-    ensures counted { IfOk result (CountsFrom (O.named old.now) (O.blocks old.now) 0) }
+    ensures counted { IfOk result (CountsFrom old.now 0) }
 {
-    let most = most_segments(old.count(), named, S);
-    let parts = Vec::with_capacity(alloc, most)?;
+    let most = most_segments(old.segment_count(), named, S);
+    let parts = Vec::with_capacity(alloc, most.min(most_parts(named)))?;
     let separators = Vec::with_capacity(alloc, most)?;
     Ok(SegmentBuilder {
         alloc,
@@ -114,7 +138,7 @@ pub(crate) fn begun<K: Ord + Drop, V: Drop, N: Drop, O: BaseVersion<K, V, N>, co
         },
         held: None,
         tail: Segment::new(alloc),
-        length: old.pairs(),
+        length: old.len(),
         until: 0,
     })
 }
@@ -129,25 +153,30 @@ fn most_segments(count: usize, named: usize, s: usize) -> usize
     count.saturating_add(touched).min(filled.saturating_add(2))
 }
 
+/// How many parts `named` changes leave at most: two new segments for each change, with a stretch between any two.
+fn most_parts(named: usize) -> usize {
+    named.saturating_mul(4).saturating_add(1)
+}
+
 /// Takes the pairs of the older segment at a place off the count: it isn't taken over, and what is left of it is yet to come.
-pub(crate) fn count_out<K: Ord, V, N, O: BaseVersion<K, V, N>>(
-    out: &mut SegmentBuilder<K, V, N>,
-    old: &O,
+pub(crate) fn count_out<K: Ord, V, W: Trees<K, V>>(
+    out: &mut SegmentBuilder<K, V>,
+    old: &VersionView<'_, K, V, W>,
     place: usize,
 )
-    requires within { place < length (O.blocks old.now) }
-    requires counted { CountsFrom (O.named old.now) (O.blocks old.now) place out.old }
+    requires within { place < length old.now }
+    requires counted { CountsFrom old.now place out.old }
     ensures row { out.new.row ≡ out.old.row }
     ensures held { out.new.held ≡ out.old.held }
     ensures tail { out.new.tail.pairs ≡ out.old.tail.pairs }
-    ensures counted { CountsFrom (O.named old.now) (O.blocks old.now) (place + 1) out.new }
+    ensures counted { CountsFrom old.now (place + 1) out.new }
 {
     out.length -= old.segment(place).len();
 }
 
 /// Says about how many pairs come next, so that a tree has room for them from its beginning on.
-pub(crate) fn expect<K: Ord + Drop, V: Drop, N, const S: usize>(
-    out: &mut SegmentBuilder<K, V, N>,
+pub(crate) fn expect<K: Ord + Drop, V: Drop, const S: usize>(
+    out: &mut SegmentBuilder<K, V>,
     pairs: usize,
 ) -> Result<(), AllocError>
     ensures row { OnOk result (out.new.row ≡ out.old.row) }
@@ -157,32 +186,31 @@ pub(crate) fn expect<K: Ord + Drop, V: Drop, N, const S: usize>(
 {
     out.until = out.length.saturating_add(pairs);
     if pairs > 0 && out.tail.is_empty() {
-        out.tail = Segment::with_capacity(out.alloc, room_ahead::<K, V, N, S>(out))?;
+        out.tail = Segment::with_capacity(out.alloc, room_ahead::<K, V, S>(out))?;
     }
     Ok(())
 }
 
 /// For how many of the pairs that are known to come one tree has room.
-fn room_ahead<K: Ord, V, N, const S: usize>(out: &SegmentBuilder<K, V, N>) -> usize {
+fn room_ahead<K: Ord, V, const S: usize>(out: &SegmentBuilder<K, V>) -> usize {
     out.until.saturating_sub(out.length).min(S)
 }
 
 /// Takes a pair whose key is above all that were given. `usize::MAX` pairs are the most: one more is answered as memory.
-pub(crate) fn push<
-    K: Clone + Ord + Drop,
-    V: Drop,
-    N: Drop,
-    O: BaseVersion<K, V, N>,
-    const S: usize,
->(out: &mut SegmentBuilder<K, V, N>, old: &O, key: K, value: V) -> Result<(), AllocError>
+pub(crate) fn push<K: Clone + Ord + Drop, V: Drop, W: Trees<K, V>, const S: usize>(
+    out: &mut SegmentBuilder<K, V>,
+    old: &VersionView<'_, K, V, W>,
+    key: K,
+    value: V,
+) -> Result<(), AllocError>
     requires clones { ClonesAreSame K.is_clone }
-    requires whole { IsCutting (O.named old.now) K.cmp S (O.blocks old.now) out.old }
-    requires rising { IsAscending K.cmp (given_pairs (O.named old.now) out.old ++ (key, value) ∷ []) }
-    ensures whole { OnOk result (IsCutting (O.named old.now) K.cmp S (O.blocks old.now) out.new) }
-    ensures pairs { OnOk result (given_pairs (O.named old.now) out.new ≡ given_pairs (O.named old.now) out.old ++ (key, value) ∷ []) }
+    requires whole { IsCutting K.cmp S old.now out.old }
+    requires rising { IsAscending K.cmp (given_pairs old.now out.old ++ (key, value) ∷ []) }
+    ensures whole { OnOk result (IsCutting K.cmp S old.now out.new) }
+    ensures pairs { OnOk result (given_pairs old.now out.new ≡ given_pairs old.now out.old ++ (key, value) ∷ []) }
     ensures spent { OnOk result (room_spent S out.new ≡ room_spent S out.old + 1) }
     ensures some { OnOk result (0 < length out.new.tail.pairs) }
-    ensures counted { OnOk result (CountsGiven (O.named old.now) out.old out.new) }
+    ensures counted { OnOk result (CountsGiven old.now out.old out.new) }
 {
     let _ = old;
     let Some(length) = out.length.checked_add(1) else {
@@ -195,7 +223,7 @@ pub(crate) fn push<
         out.length = length;
         Ok(())
     } else {
-        let next = single(out.alloc, room_ahead::<K, V, N, S>(out), key, value)?;
+        let next = single(out.alloc, room_ahead::<K, V, S>(out), key, value)?;
         close(out, next)?;
         out.length = length;
         Ok(())
@@ -204,69 +232,50 @@ pub(crate) fn push<
 
 /// Takes the segments of the older version from one place up to another over, whose keys are above all that were given. No
 /// key is compared.
-pub(crate) fn take_stretch<
-    K: Clone + Ord + Drop,
-    V: Clone + Drop,
-    N: Drop,
-    O: BaseVersion<K, V, N>,
-    const S: usize,
->(out: &mut SegmentBuilder<K, V, N>, old: &O, from: usize, upto: usize) -> Result<(), AllocError>
+pub(crate) fn take_stretch<K: Clone + Ord + Drop, V: Clone + Drop, W: Trees<K, V>, const S: usize>(
+    out: &mut SegmentBuilder<K, V>,
+    old: &VersionView<'_, K, V, W>,
+    from: usize,
+    upto: usize,
+) -> Result<(), AllocError>
     requires keys { ClonesAreSame K.is_clone }
     requires values { ClonesAreSame V.is_clone }
-    requires old { IsCut K.cmp S (O.blocks old.now) (O.separators old.now) }
-    requires whole { IsCutting (O.named old.now) K.cmp S (O.blocks old.now) out.old }
-    requires apart { StaysApart (O.named old.now) K.cmp S (O.blocks old.now) from out.old }
+    requires old { IsCut K.cmp S old.now (separators_of old.now) }
+    requires whole { IsCutting K.cmp S old.now out.old }
+    requires apart { StaysApart K.cmp S old.now from out.old }
     requires some { from < upto }
-    requires within { upto ≤ length (O.blocks old.now) }
-    requires rising { IsAscending K.cmp (given_pairs (O.named old.now) out.old ++ pairs_in (between from upto (O.blocks old.now))) }
-    ensures whole { OnOk result (IsCutting (O.named old.now) K.cmp S (O.blocks old.now) out.new) }
-    ensures pairs { OnOk result (given_pairs (O.named old.now) out.new ≡ given_pairs (O.named old.now) out.old ++ pairs_in (between from upto (O.blocks old.now))) }
+    requires within { upto ≤ length old.now }
+    requires rising { IsAscending K.cmp (given_pairs old.now out.old ++ pairs_in (between from upto old.now)) }
+    ensures whole { OnOk result (IsCutting K.cmp S old.now out.new) }
+    ensures pairs { OnOk result (given_pairs old.now out.new ≡ given_pairs old.now out.old ++ pairs_in (between from upto old.now)) }
     ensures trees { OnOk result (trees out.new ≡ trees out.old) }
-    ensures last { OnOk result ((b : List (K × V)) → Some b ≡ slice_get (O.blocks old.now) (upto - 1) → out.new.row.last ≡ length b) }
+    ensures last { OnOk result ((b : List (K × V)) → Some b ≡ slice_get old.now (upto - 1) → out.new.row.last ≡ length b) }
     ensures length { OnOk result (out.new.length ≡ out.old.length) }
 {
-    seal::<K, V, N, O, S>(out, old)?;
-    name_stretch::<K, V, N, O>(&mut out.row.parts, old, from, upto)?;
-    copy_separators::<K, V, N, O>(&mut out.row.separators, old, from, upto)?;
+    seal::<K, V, W, S>(out, old)?;
+    out.row.parts.push(Part::Taken { from, upto })?;
+    copy_separators(&mut out.row.separators, old, from, upto)?;
     let last = upto - 1;
     out.row.last = old.segment(last).len();
     out.held = Some(last);
     Ok(())
 }
 
-/// Puts the older segments from one place up to another behind parts, by their names. No segment is read.
-fn name_stretch<K: Ord, V, N, O: BaseVersion<K, V, N>>(
-    parts: &mut Vec<Part<K, V, N>>,
-    old: &O,
-    from: usize,
-    upto: usize,
-) -> Result<(), AllocError>
-    requires ordered { from ≤ upto }
-    requires within { upto ≤ length (O.blocks old.now) }
-    ensures { OnOk result (TakesStretch (O.named old.now) (O.blocks old.now) from upto parts.old.items parts.new.items) }
-{
-    parts.reserve(upto - from)?;
-    for place in from..upto {
-        parts.push_reserved(Part::Taken(old.name(place)));
-    }
-    Ok(())
-}
-
 /// Puts clones of the greatest keys of the older segments from one place up to another behind keys: a slice of the
 /// separators, and the key of the last segment.
-fn copy_separators<K: Clone + Ord + Drop, V, N, O: BaseVersion<K, V, N>>(
+fn copy_separators<K: Clone + Ord + Drop, V, W: Trees<K, V>>(
     keys: &mut Vec<K>,
-    old: &O,
+    old: &VersionView<'_, K, V, W>,
     from: usize,
     upto: usize,
 ) -> Result<(), AllocError>
     requires keys { ClonesAreSame K.is_clone }
-    requires separated { IsSeparated (O.blocks old.now) (O.separators old.now) }
+    requires separated { IsSeparated old.now (separators_of old.now) }
     requires some { from < upto }
-    requires within { upto ≤ length (O.blocks old.now) }
-    ensures { OnOk result (map Some keys.new.items ≡ map Some keys.old.items ++ map greatest_key (between from upto (O.blocks old.now))) }
+    requires within { upto ≤ length old.now }
+    ensures { OnOk result (map Some keys.new.items ≡ map Some keys.old.items ++ map greatest_key (between from upto old.now)) }
 {
-    let last = match greatest_at::<K, V, N, O>(old, upto - 1) {
+    let last = match greatest_at(old, upto - 1) {
         Some(key) => key.clone()?,
         None => return Err(AllocError),
     };
@@ -276,23 +285,21 @@ fn copy_separators<K: Clone + Ord + Drop, V, N, O: BaseVersion<K, V, N>>(
 }
 
 /// The segments of all pairs that were given.
-pub(crate) fn finish<
-    K: Clone + Ord + Drop,
-    V: Clone + Drop,
-    N: Drop,
-    O: BaseVersion<K, V, N>,
-    const S: usize,
->(mut out: SegmentBuilder<K, V, N>, old: &O) -> Result<Segments<K, V, N>, AllocError>
+pub(crate) fn finish<K: Clone + Ord + Drop, V: Clone + Drop, W: Trees<K, V>, const S: usize>(
+    mut out: SegmentBuilder<K, V>,
+    old: &VersionView<'_, K, V, W>,
+) -> Result<Segments<K, V>, AllocError>
     requires keys { ClonesAreSame K.is_clone }
     requires values { ClonesAreSame V.is_clone }
-    requires whole { IsCutting (O.named old.now) K.cmp S (O.blocks old.now) out }
-    requires counted { out.length ≡ length (given_pairs (O.named old.now) out) }
-    ensures cut { IfOk result (λ made. IsCut K.cmp S (blocks_of_parts (O.named old.now) made.parts.items) made.separators.items) }
-    ensures list { IfOk result (λ made. pairs_in (blocks_of_parts (O.named old.now) made.parts.items) ≡ given_pairs (O.named old.now) out) }
-    ensures length { IfOk result (λ made. made.length ≡ length (pairs_in (blocks_of_parts (O.named old.now) made.parts.items))) }
+    requires whole { IsCutting K.cmp S old.now out }
+    requires counted { out.length ≡ length (given_pairs old.now out) }
+    ensures cut { IfOk result (λ made. IsCut K.cmp S (blocks_of_parts old.now made.parts.items) made.separators.items) }
+    ensures list { IfOk result (λ made. pairs_in (blocks_of_parts old.now made.parts.items) ≡ given_pairs old.now out) }
+    ensures within { IfOk result (λ made. All (LiesWithin (length old.now)) made.parts.items) }
+    ensures length { IfOk result (λ made. made.length ≡ length (pairs_in (blocks_of_parts old.now made.parts.items))) }
     ensures made { IfOk result (λ made. made_in made.parts.items ≡ trees out) }
 {
-    seal::<K, V, N, O, S>(&mut out, old)?;
+    seal::<K, V, W, S>(&mut out, old)?;
     let SegmentBuilder {
         alloc: _,
         row,
@@ -315,15 +322,15 @@ pub(crate) fn finish<
 }
 
 /// Ends the open tree if it has a pair, with the older segment before it where both fit into one.
-fn seal<K: Clone + Ord + Drop, V: Clone + Drop, N: Drop, O: BaseVersion<K, V, N>, const S: usize>(
-    out: &mut SegmentBuilder<K, V, N>,
-    old: &O,
+fn seal<K: Clone + Ord + Drop, V: Clone + Drop, W: Trees<K, V>, const S: usize>(
+    out: &mut SegmentBuilder<K, V>,
+    old: &VersionView<'_, K, V, W>,
 ) -> Result<(), AllocError>
     requires keys { ClonesAreSame K.is_clone }
     requires values { ClonesAreSame V.is_clone }
-    requires whole { IsCutting (O.named old.now) K.cmp S (O.blocks old.now) out.old }
-    ensures row { OnOk result (IsSegmentRow (O.named old.now) S out.new.row) }
-    ensures pairs { OnOk result (pairs_in (blocks_of_parts (O.named old.now) out.new.row.parts.items) ≡ given_pairs (O.named old.now) out.old) }
+    requires whole { IsCutting K.cmp S old.now out.old }
+    ensures row { OnOk result (IsSegmentRow old.now S out.new.row) }
+    ensures pairs { OnOk result (pairs_in (blocks_of_parts old.now out.new.row.parts.items) ≡ given_pairs old.now out.old) }
     ensures made { OnOk result (made_in out.new.row.parts.items ≡ trees out.old) }
     ensures last { OnOk result (0 < length out.old.tail.pairs → length out.old.tail.pairs ≤ out.new.row.last) }
     ensures same { OnOk result (length out.old.tail.pairs ≡ 0 → out.new.row.last ≡ out.old.row.last) }
@@ -333,23 +340,23 @@ fn seal<K: Clone + Ord + Drop, V: Clone + Drop, N: Drop, O: BaseVersion<K, V, N>
     if out.tail.is_empty() {
         return Ok(());
     }
-    join::<K, V, N, O, S>(out, old)?;
+    join::<K, V, W, S>(out, old)?;
     let next = Segment::new(out.alloc);
     close(out, next)?;
     Ok(())
 }
 
 /// Brings the older segment that is held into the open tree, where both fit into one.
-fn join<K: Clone + Ord + Drop, V: Clone + Drop, N: Drop, O: BaseVersion<K, V, N>, const S: usize>(
-    out: &mut SegmentBuilder<K, V, N>,
-    old: &O,
+fn join<K: Clone + Ord + Drop, V: Clone + Drop, W: Trees<K, V>, const S: usize>(
+    out: &mut SegmentBuilder<K, V>,
+    old: &VersionView<'_, K, V, W>,
 ) -> Result<(), AllocError>
     requires keys { ClonesAreSame K.is_clone }
     requires values { ClonesAreSame V.is_clone }
-    requires whole { IsCutting (O.named old.now) K.cmp S (O.blocks old.now) out.old }
+    requires whole { IsCutting K.cmp S old.now out.old }
     requires some { 0 < length out.old.tail.pairs }
-    ensures closing { OnOk result (IsClosing (O.named old.now) S out.new) }
-    ensures pairs { OnOk result (given_pairs (O.named old.now) out.new ≡ given_pairs (O.named old.now) out.old) }
+    ensures closing { OnOk result (IsClosing old.now S out.new) }
+    ensures pairs { OnOk result (given_pairs old.now out.new ≡ given_pairs old.now out.old) }
     ensures made { OnOk result (made_in out.new.row.parts.items ≡ made_in out.old.row.parts.items) }
     ensures tail { OnOk result (length out.old.tail.pairs ≤ length out.new.tail.pairs) }
     ensures length { OnOk result (out.new.length ≡ out.old.length) }
@@ -362,18 +369,38 @@ fn join<K: Clone + Ord + Drop, V: Clone + Drop, N: Drop, O: BaseVersion<K, V, N>
         return Ok(());
     }
     absorb(out.alloc, &mut out.tail, old.segment(place))?;
-    let _part = out.row.parts.pop();
+    shorten(&mut out.row.parts, place)?;
     let _greatest = out.row.separators.pop();
     Ok(())
 }
 
+/// The stretch that is the last part ends before the segment at this place, which was its last one. Condition: it was.
+fn shorten<K: Ord + Drop, V: Drop>(
+    parts: &mut Vec<Part<K, V>>,
+    place: usize,
+) -> Result<(), AllocError>
+    requires { (front : List (Part K V)) × (from : ℕ) × (parts.old.items ≡ front ++ Part.Taken from (place + 1) ∷ []) }
+    ensures { OnOk result ((front : List (Part K V)) (from : ℕ) → parts.old.items ≡ front ++ Part.Taken from (place + 1) ∷ [] → parts.new.items ≡ front ++ stretch_of from place) }
+{
+    match parts.pop() {
+        Some(Part::Taken { from, upto: _ }) => {
+            if from >= place {
+                return Ok(());
+            }
+            parts.push(Part::Taken { from, upto: place })?;
+            Ok(())
+        },
+        _ => unreachable!(),
+    }
+}
+
 /// Puts the open tree behind the segments that are done, and begins another one.
-fn close<K: Clone + Ord + Drop, V: Drop, N: Drop>(
-    out: &mut SegmentBuilder<K, V, N>,
+fn close<K: Clone + Ord + Drop, V: Drop>(
+    out: &mut SegmentBuilder<K, V>,
     next: Segment<K, V>,
 ) -> Result<(), AllocError>
     requires { ClonesAreSame K.is_clone }
-    ensures parts { OnOk result ((part : Part K V N) × HasMadeTree out.old.tail part × (out.new.row.parts.items ≡ out.old.row.parts.items ++ part ∷ [])) }
+    ensures parts { OnOk result ((part : Part K V) × HasMadeTree out.old.tail part × (out.new.row.parts.items ≡ out.old.row.parts.items ++ part ∷ [])) }
     ensures separators { OnOk result (map Some out.new.row.separators.items ≡ map Some out.old.row.separators.items ++ greatest_key out.old.tail.pairs ∷ []) }
     ensures last { OnOk result (out.new.row.last ≡ length out.old.tail.pairs) }
     ensures held { OnOk result (out.new.held ≡ None) }
@@ -392,10 +419,10 @@ fn close<K: Clone + Ord + Drop, V: Drop, N: Drop>(
 }
 
 /// Wraps a new segment as a part.
-fn made<K: Ord + Drop, V: Drop, N>(
+fn made<K: Ord + Drop, V: Drop>(
     alloc: Global,
     tree: Segment<K, V>,
-) -> Result<Part<K, V, N>, AllocError>
+) -> Result<Part<K, V>, AllocError>
     ensures { IfOk result (λ part. HasMadeTree tree part) }
 {
     Ok(Part::Made(Box::new(alloc, tree)?))
@@ -430,7 +457,7 @@ fn append<K: Clone + Ord + Drop, V: Clone + Drop>(
     requires room { length into.old.pairs + length tree.now.pairs ≤ 225 }
     ensures { OnOk result (into.new.pairs ≡ into.old.pairs ++ tree.now.pairs) }
 {
-    let mut left = ChangeScan::new(tree);
+    let mut left = PairScan::new(tree);
     left.push_run(into, tree.len())?;
     Ok(())
 }
@@ -453,13 +480,13 @@ fn single<K: Clone + Ord + Drop, V: Drop>(
 }
 
 /// The greatest key of the segment at a place: of each but the last, its separator.
-pub(crate) fn greatest_at<'o, K: Ord, V: 'o, N: 'o, O: BaseVersion<K, V, N>>(
-    old: &'o O,
+pub(crate) fn greatest_at<'o, K: Ord + 'o, V: 'o, W: Trees<K, V> + 'o>(
+    old: &VersionView<'o, K, V, W>,
     place: usize,
 ) -> Option<&'o K>
-    requires separated { IsSeparated (O.blocks old.now) (O.separators old.now) }
-    requires within { place < length (O.blocks old.now) }
-    ensures { (b : List (K × V)) → Some b ≡ slice_get (O.blocks old.now) place → option_copied result ≡ greatest_key b }
+    requires separated { IsSeparated old.now (separators_of old.now) }
+    requires within { place < length old.now }
+    ensures { (b : List (K × V)) → Some b ≡ slice_get old.now place → option_copied result ≡ greatest_key b }
 {
     match old.separators().get(place) {
         Some(key) => Some(key),

@@ -4,6 +4,7 @@ pub mod ChangeScanLemmas
 pub mod CursorEndLemmas
 pub mod FilterLemmas
 pub mod FlipLemmas
+pub mod FoundLemmas
 pub mod HalvingLemmas
 pub mod LocatingLemmas
 pub mod OptionLemmas

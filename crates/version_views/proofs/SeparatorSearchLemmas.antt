@@ -13,7 +13,8 @@ use Rattle.std.proofs.lemmas.Map.Keys.{sorted_head}
 use Rattle.leaf_array.specs.Pairs.{IsAscending}
 use Rattle.tree_index.specs.Shape.{AllKeys}
 use Rattle.tree_index.proofs.ShapeLemmas.{upto_less}
-use Rattle.version_views.specs.Cuts.{pairs_in, greatest_key, IsSeparated}
+use Rattle.std.specs.List.{filter_map}
+use Rattle.version_views.specs.Cuts.{pairs_in, greatest_key, separators_of, IsSeparated}
 use Rattle.version_views.specs.SeparatorSearch.{IsPlaceOf}
 use Rattle.version_views.proofs.FilterLemmas.{rising_front, rising_rear}
 
@@ -158,3 +159,17 @@ module _ {K V : Type 0} where
         where
           some_block : (x p : List (K × V)) → Some x ≡ Some p → x ≡ p
           some_block x p e = cc
+
+-- keys that are separators of blocks are their greatest ones
+module _ {K V : Type 0} where
+  greatest_of : (keys : List K) (bs : List (List (K × V))) → map Some keys ≡ map greatest_key bs → keys ≡ filter_map greatest_key bs
+  greatest_of [] [] e = refl
+  greatest_of [] (b ∷ bs) e = absurd (cc)
+  greatest_of (k ∷ ks) [] e = absurd (cc)
+  greatest_of (k ∷ ks) (b ∷ bs) e =
+      let first : greatest_key b ≡ Some k = cc in
+      let rest : map Some ks ≡ map greatest_key bs = cc in
+      rw first (ap (λ xs. k ∷ xs) (greatest_of ks bs rest))
+
+  pub separators_are : (blocks : List (List (K × V))) (keys : List K) → IsSeparated blocks keys → keys ≡ separators_of blocks
+  separators_are blocks keys e = greatest_of keys (take (length blocks - 1) blocks) e

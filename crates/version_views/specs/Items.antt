@@ -15,6 +15,11 @@ segment_owners d = d.segments.items
 abbrev pub slots_of : {K : Type 0} → Directory K Kept → List ℕ
 slots_of d = map kept_slot (segment_owners d)
 
+-- those of the segments whose owners an item keeps: a directory those of its segments, in order
+abbrev pub slots_kept : {K V : Type 0} {s : ℕ} → Item K V s → List ℕ
+slots_kept (items.Directory d) = slots_of d
+slots_kept (items.Segment t) = []
+
 -- a directory gives its segments up from the last one on
 abbrev pub held_by : {K V : Type 0} {s : ℕ} → Item K V s → List Hold
 held_by (items.Directory d) = reverse (map SharedItem (slots_of d))

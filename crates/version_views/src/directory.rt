@@ -9,6 +9,7 @@ use std::alloc::Global;
 ///
 /// A segment has 1 to `S` pairs, two neighbours together more than `S`; a separator is the greatest key of its segment,
 /// and the last segment has none.
+#[derive(Drop)]
 pub struct Directory<K, O> {
     pub(crate) number: u64,
     // how many pairs there are

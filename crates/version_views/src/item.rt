@@ -5,7 +5,7 @@ ghost use Rattle.version_views.specs.Versions.{IsSegment, segment_pairs};
 
 use crate::directory::Directory;
 use crate::segment::Segment;
-use sdd_table::holds::{Held, Holds};
+use sdd_table::holds::{Held, Holds, KeepsRow};
 use sdd_table::owner::Kept;
 use tree_index::TreeIndex;
 
@@ -36,6 +36,20 @@ impl<K: Ord, V, const S: usize> Item<K, V, S> {
         match self {
             Item::Segment(segment) => segment.tree(),
             Item::Directory(_) => unreachable!(),
+        }
+    }
+}
+
+/// A directory keeps the owners of its segments, in order; a segment keeps none.
+impl<K: Ord, V, const S: usize> KeepsRow for Item<K, V, S> {
+    ghost use Rattle.version_views.specs.Items.{slots_kept};
+
+    ghost kept = { slots_kept };
+
+    fn row(&self) -> &[Kept] {
+        match self {
+            Item::Directory(directory) => directory.owners(),
+            Item::Segment(_) => &[],
         }
     }
 }

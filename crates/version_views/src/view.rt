@@ -1,7 +1,8 @@
 //! A version to be read, whatever lends its segments.
 
 ghost use Rattle.std.specs.Prelude.{◌≡◌, ◌<◌, ◌≤◌, ◌+◌, ◌*◌, ◌-◌, ◌^◌, [], ℕ, None, Some, false, length, slice_get, true};
-ghost use Rattle.version_views.specs.Cuts.{pairs_in};
+ghost use Rattle.leaf_array.specs.Pairs.{has_key};
+ghost use Rattle.version_views.specs.Cuts.{pairs_in, separators_of};
 ghost use Rattle.version_views.specs.CursorEnds.{AreRising, IsBlockAround};
 ghost use Rattle.version_views.specs.SeparatorSearch.{IsPlaceOf};
 ghost use Rattle.version_views.specs.Views.{IsView, LooksUp, blocks_at, cursor_within};
@@ -128,11 +129,33 @@ impl<'a, K: Ord, V, W: Trees<K, V>> VersionView<'a, K, V, W> {
         }
     }
 
+    /// Whether a pair has this key: as `get`, without the pair.
+    pub fn contains(&self, key: &K) -> bool
+        ensures { result ≡ has_key K.cmp key.now (pairs_in self.now) }
+    {
+        self.get(key).is_some()
+    }
+
     /// How many segments there are.
-    pub(crate) fn segment_count(&self) -> usize
+    pub fn segment_count(&self) -> usize
         ensures { result ≡ length self.now }
     {
         self.directory.segments.len()
+    }
+
+    /// The greatest key of each segment but the last, in order.
+    pub fn separators(&self) -> &'a [K]
+        ensures { result.now ≡ separators_of self.now }
+    {
+        &self.directory.separators
+    }
+
+    /// The tree of the segment at a place. Condition: there is one.
+    pub fn segment(&self, place: usize) -> &'a TreeIndex<K, V>
+        requires { place < length self.now }
+        ensures { Some result.now.pairs ≡ slice_get self.now place }
+    {
+        self.tree(place)
     }
 
     /// The tree of a segment.

@@ -1,8 +1,8 @@
-use Rattle.std.proofs.Common.{◌≡◌, ◌++◌, ◌∷◌, [], arith, length, length-append, not, refl, sym, ap, ◌∙◌, subst}
+use Rattle.std.proofs.Common.{◌≡◌, ◌++◌, ◌∷◌, [], arith, length, length-append, not, sym, ap, ◌∙◌, subst}
 use Rattle.std.proofs.lemmas.List.Elements.{All-push}
 use Rattle.std.specs.List.{All}
 use Rattle.std.specs.BTreeMap.Range.{range_contains}
-use Rattle.version_drafts.specs.Changes.{apply_delta}
+use Rattle.version_drafts.specs.Changes.{apply_delta, noted_in}
 use Rattle.version_views.specs.Cuts.{pairs_in}
 use Rattle.version_drafts.specs.Gone.{IsSpan, is_gone, without_gone}
 use Rattle.version_drafts.proofs.DeltaLemmas.{kept_amended}
@@ -16,12 +16,12 @@ returns-clause-list g c =
     let lower = c.args.lower.now in
     let upper = c.args.upper.now in
     let gone = c.args.changes.now.gone.items in
-    let edits = c.args.changes.now.edits.pairs in
-    let old = pairs_in (g.O.BaseVersion.blocks c.args.old.now) in
+    let edits = noted_in c.args.changes.now.edits in
+    let old = pairs_in c.args.old.now in
     let test = λ (y : g.row.K.Denot). range_contains cmp lower upper y in
     let range = c.in_ok-range_of.field-0 in
     let e = c.in_ok-range_of.ensures in
-    let left : c.remove_range_sync.new.self.pairs ≡ kept (outside test) edits = c.remove_range_sync.ensures.removed ∙ rw (c.as_ref.ensures, c.as_ref-2.ensures) refl in
+    let left : noted_in c.forget_range.new.self ≡ kept (outside test) edits = c.forget_range.ensures in
     let more : without_gone cmp (gone ++ range ∷ []) old ≡ kept (outside test) (without_gone cmp gone old) = without_more cmp gone range old ∙ (ap (λ l. kept (outside (λ y. range_contains cmp l range.upper y)) (without_gone cmp gone old)) e.lower ∙ ap (λ u. kept (outside (λ y. range_contains cmp lower u y)) (without_gone cmp gone old)) e.upper) in
     ap (λ cs. apply_delta cmp cs (without_gone cmp c.push.new.self.items old)) left
     ∙ (ap (λ gs. apply_delta cmp (kept (outside test) edits) (without_gone cmp gs old)) c.in_ok-push.ensures.items
@@ -33,9 +33,9 @@ returns-clause-few g c =
     let cmp = g.K.Ord.cmp in
     let lower = c.args.lower.now in
     let upper = c.args.upper.now in
-    let edits = c.args.changes.now.edits.pairs in
+    let edits = noted_in c.args.changes.now.edits in
     let test = λ (y : g.row.K.Denot). range_contains cmp lower upper y in
-    let left : c.remove_range_sync.new.self.pairs ≡ kept (outside test) edits = c.remove_range_sync.ensures.removed ∙ rw (c.as_ref.ensures, c.as_ref-2.ensures) refl in
+    let left : noted_in c.forget_range.new.self ≡ kept (outside test) edits = c.forget_range.ensures in
     let few = kept_upto (outside test) edits in
     let same = ap length left in
     let one = ap length c.in_ok-push.ensures.items ∙ length-append c.args.changes.now.gone.items (c.in_ok-range_of.field-0 ∷ []) in
@@ -43,5 +43,5 @@ returns-clause-few g c =
 
 pub returns-clause-spans : goal.returns-clause-spans
 returns-clause-spans g c =
-    let P = IsSpan g.K.Ord.cmp (g.O.BaseVersion.blocks c.args.old.now) in
+    let P = IsSpan g.K.Ord.cmp c.args.old.now in
     subst (All P) (sym c.in_ok-push.ensures.items) (All-push P c.args.changes.now.gone.items c.in_ok-range_of.field-0 c.requires.spans c.in_ok-range_of.ensures.span)

@@ -13,7 +13,7 @@ use Rattle.version_drafts.proofs.draft.drafted.Goals as goal
 pub loop-write-init : goal.loop-write-init
 loop-write-init g c =
     let cmp = g.K.Ord.cmp in
-    let blocks = g.O.BaseVersion.blocks c.args.old.now in
+    let blocks = c.args.old.now in
     let old = pairs_in blocks in
     let none : changed cmp c.in_ok-changes.changes old ≡ old = ap (λ cs. apply_delta cmp cs (without_gone cmp c.in_ok-changes.changes.gone.items old)) c.in_ok-changes.ensures.edits ∙ (ap (λ gs. without_gone cmp gs old) c.in_ok-changes.ensures.gone ∙ without_none cmp old) in
     record {
@@ -33,16 +33,16 @@ loop-write-preserved g c =
     let at = c.loop-write.write-index in
     let i = c.loop-write.invariant in
     let e = c.in_ok-apply.ensures in
-    let now = changed cmp c.loop-write.changes (pairs_in (g.O.BaseVersion.blocks c.args.old.now)) in
+    let now = changed cmp c.loop-write.changes (pairs_in c.args.old.now) in
     let here = drop_more ws at c.write-item.result (omega (arith, c.loop-write-test.true)) ∙ ap (λ w. w ∷ drop (at + 1) ws) (sym c.write-item.is) in
     record {
       list = ap (after_writes cmp (drop (at + 1) ws)) e.list ∙ (sym (ap (λ xs. after_writes cmp xs now) here) ∙ i.list);
       few = (let before = i.few in let more = e.few in omega (arith, before, more));
       spans = e.spans;
       replies =
-          ap (λ rs. rs ++ replies_to cmp (drop (at + 1) ws) (changed cmp c.apply.new.changes (pairs_in (g.O.BaseVersion.blocks c.args.old.now)))) c.in_ok-push.ensures.items
-          ∙ (append_assoc c.loop-write.replies.items (c.in_ok-apply.field-0 ∷ []) (replies_to cmp (drop (at + 1) ws) (changed cmp c.apply.new.changes (pairs_in (g.O.BaseVersion.blocks c.args.old.now))))
-          ∙ (ap (λ r. c.loop-write.replies.items ++ r ∷ replies_to cmp (drop (at + 1) ws) (changed cmp c.apply.new.changes (pairs_in (g.O.BaseVersion.blocks c.args.old.now)))) e.reply
+          ap (λ rs. rs ++ replies_to cmp (drop (at + 1) ws) (changed cmp c.apply.new.changes (pairs_in c.args.old.now))) c.in_ok-push.ensures.items
+          ∙ (append_assoc c.loop-write.replies.items (c.in_ok-apply.field-0 ∷ []) (replies_to cmp (drop (at + 1) ws) (changed cmp c.apply.new.changes (pairs_in c.args.old.now)))
+          ∙ (ap (λ r. c.loop-write.replies.items ++ r ∷ replies_to cmp (drop (at + 1) ws) (changed cmp c.apply.new.changes (pairs_in c.args.old.now))) e.reply
           ∙ (ap (λ ps. c.loop-write.replies.items ++ reply_to cmp c.write-item.result now ∷ replies_to cmp (drop (at + 1) ws) ps) e.list
           ∙ (sym (ap (λ xs. c.loop-write.replies.items ++ replies_to cmp xs now) here) ∙ i.replies))));
     }
@@ -50,7 +50,7 @@ loop-write-preserved g c =
 pub returns-clause-list : goal.returns-clause-list
 returns-clause-list g c =
     let cmp = g.K.Ord.cmp in
-    let now = changed cmp c.loop-write.changes (pairs_in (g.O.BaseVersion.blocks c.args.old.now)) in
+    let now = changed cmp c.loop-write.changes (pairs_in c.args.old.now) in
     let all : length c.args.writes.now ≤ c.loop-write.write-index = omega (arith, c.loop-write-test.false) in
     c.in_ok-segments.ensures.list ∙ (sym (ap (λ ws. after_writes cmp ws now) (drop_out c.loop-write.write-index c.args.writes.now all)) ∙ c.loop-write.invariant.list)
 
@@ -65,7 +65,7 @@ returns-clause-few g c =
 pub returns-clause-replies : goal.returns-clause-replies
 returns-clause-replies g c =
     let cmp = g.K.Ord.cmp in
-    let now = changed cmp c.loop-write.changes (pairs_in (g.O.BaseVersion.blocks c.args.old.now)) in
+    let now = changed cmp c.loop-write.changes (pairs_in c.args.old.now) in
     let told = c.loop-write.replies.items in
     let all : length c.args.writes.now ≤ c.loop-write.write-index = omega (arith, c.loop-write-test.false) in
     sym (ap (λ ws. told ++ replies_to cmp ws now) (drop_out c.loop-write.write-index c.args.writes.now all) ∙ append-nil told) ∙ c.loop-write.invariant.replies

@@ -10,7 +10,7 @@ use Rattle.version_drafts.proofs.draft.drafted.Given as goal
 abbrev pub invariant-loop-write : goal.invariant-loop-write
 invariant-loop-write g l =
     let cmp = g.K.Ord.cmp in
-    let blocks = g.O.BaseVersion.blocks l.old in
+    let blocks = l.old in
     let old = pairs_in blocks in
     record {
       list : after_writes cmp (drop l.write-index l.writes) (changed cmp l.changes old) ≡ after_writes cmp l.writes old;

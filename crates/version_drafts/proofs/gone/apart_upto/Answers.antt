@@ -4,5 +4,5 @@ use Rattle.version_drafts.proofs.gone.apart_upto.Goals as goal
 
 pub returns-clause-apart : goal.returns-clause-apart
 returns-clause-apart g c = λ i b from less here.
-    none_near g.K.Ord.cmp (g.O.BaseVersion.blocks c.args.old.now) c.args.gone.now i b c.requires
+    none_near g.K.Ord.cmp c.args.old.now c.args.gone.now i b c.requires
     (λ j d lt. c.loop-range.invariant.apart j d (let all = c.loop-range-test.false in let upto = c.loop-range.auto.range-index-end in omega (arith, lt, all, upto)) i from less) here

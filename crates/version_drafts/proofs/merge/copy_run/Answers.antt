@@ -15,26 +15,26 @@ use Rattle.version_drafts.proofs.merge.copy_run.Goals as goal
 pub push_run-requires-clause-rising : goal.push_run-requires-clause-rising
 push_run-requires-clause-rising g c = λ n below.
     let cmp = g.K.Ord.cmp in
-    let named = g.O.BaseVersion.named c.args.old.now in
-    let rest = without_gone cmp c.args.gone.now (pairs_in (drop (c.args.place + 1) (g.O.BaseVersion.blocks c.args.old.now))) in
+    let blocks = c.args.old.now in
+    let rest = without_gone cmp c.args.gone.now (pairs_in (drop (c.args.place + 1) c.args.old.now)) in
     let cs = c.args.changes.now in
     let ps = c.args.pairs.now in
     let out = c.args.out.now in
-    run_rises g.met.K.Ord.total cs ps rest n (passed_of cmp cs (take n ps) c.key.result c.key.ensures below) (pairs_in (blocks_of_parts named out.row.parts.items)) out.tail.pairs c.requires.rising
+    run_rises g.met.K.Ord.total cs ps rest n (passed_of cmp cs (take n ps) c.key.result c.key.ensures below) (pairs_in (blocks_of_parts blocks out.row.parts.items)) out.tail.pairs c.requires.rising
 
 pub returns-clause-whole : goal.returns-clause-whole
 returns-clause-whole g c =
     let cmp = g.K.Ord.cmp in
-    let named = g.O.BaseVersion.named c.args.old.now in
-    let rest = without_gone cmp c.args.gone.now (pairs_in (drop (c.args.place + 1) (g.O.BaseVersion.blocks c.args.old.now))) in
+    let blocks = c.args.old.now in
+    let rest = without_gone cmp c.args.gone.now (pairs_in (drop (c.args.place + 1) c.args.old.now)) in
     let cs = c.args.changes.now in
     let ps = c.args.pairs.now in
     let out = c.args.out.now in
     let n = c.in_ok-count.count in
     let e = c.in_ok-count.ensures in
     let passed = passed_of cmp cs (take n ps) c.key.result c.key.ensures e.below in
-    let out' : SegmentBuilder g.row.K.Denot g.row.V.Denot g.row.N.Denot = record out { tail = c.push_run.new.into; length = c.in-Some.length } in
-    let up = run_given g.met.K.Ord.total cs ps rest n passed (given_pairs named out) c.requires.rising in
+    let out' : SegmentBuilder g.row.K.Denot g.row.V.Denot = record out { tail = c.push_run.new.into; length = c.in-Some.length } in
+    let up = run_given g.met.K.Ord.total cs ps rest n passed (given_pairs blocks out) c.requires.rising in
     let size = length-take n ps in
     let room = c.requires.whole.room in
     cutting_run c.requires.whole (take n ps) up out' refl refl e.pushed (omega (arith, size, room, e.most, c.len-room.ensures))
@@ -42,41 +42,41 @@ returns-clause-whole g c =
 pub returns-clause-list : goal.returns-clause-list
 returns-clause-list g c =
     let cmp = g.K.Ord.cmp in
-    let named = g.O.BaseVersion.named c.args.old.now in
-    let rest = without_gone cmp c.args.gone.now (pairs_in (drop (c.args.place + 1) (g.O.BaseVersion.blocks c.args.old.now))) in
+    let blocks = c.args.old.now in
+    let rest = without_gone cmp c.args.gone.now (pairs_in (drop (c.args.place + 1) c.args.old.now)) in
     let cs = c.args.changes.now in
     let ps = c.args.pairs.now in
     let out = c.args.out.now in
     let n = c.in_ok-count.count in
     let e = c.in_ok-count.ensures in
     let passed = passed_of cmp cs (take n ps) c.key.result c.key.ensures e.below in
-    let out' : SegmentBuilder g.row.K.Denot g.row.V.Denot g.row.N.Denot = record out { tail = c.push_run.new.into; length = c.in-Some.length } in
-    let up = run_given g.met.K.Ord.total cs ps rest n passed (given_pairs named out) c.requires.rising in
+    let out' : SegmentBuilder g.row.K.Denot g.row.V.Denot = record out { tail = c.push_run.new.into; length = c.in-Some.length } in
+    let up = run_given g.met.K.Ord.total cs ps rest n passed (given_pairs blocks out) c.requires.rising in
     let size = length-take n ps in
     let split = run_split g.met.K.Ord.total cs ps rest n passed c.push_run.new.self e.passed in
-    taken (given_pairs named out) (given_pairs named out') (take n ps) (apply_delta cmp cs (c.push_run.new.self ++ rest)) (apply_delta cmp cs (ps ++ rest)) (run_given_behind c.requires.whole (take n ps) up out' refl refl e.pushed) split
+    taken (given_pairs blocks out) (given_pairs blocks out') (take n ps) (apply_delta cmp cs (c.push_run.new.self ++ rest)) (apply_delta cmp cs (ps ++ rest)) (run_given_behind c.requires.whole (take n ps) up out' refl refl e.pushed) split
 
 pub returns-clause-counted : goal.returns-clause-counted
 returns-clause-counted g c =
     let cmp = g.K.Ord.cmp in
-    let named = g.O.BaseVersion.named c.args.old.now in
-    let rest = without_gone cmp c.args.gone.now (pairs_in (drop (c.args.place + 1) (g.O.BaseVersion.blocks c.args.old.now))) in
+    let blocks = c.args.old.now in
+    let rest = without_gone cmp c.args.gone.now (pairs_in (drop (c.args.place + 1) c.args.old.now)) in
     let cs = c.args.changes.now in
     let ps = c.args.pairs.now in
     let out = c.args.out.now in
     let n = c.in_ok-count.count in
     let e = c.in_ok-count.ensures in
     let passed = passed_of cmp cs (take n ps) c.key.result c.key.ensures e.below in
-    let out' : SegmentBuilder g.row.K.Denot g.row.V.Denot g.row.N.Denot = record out { tail = c.push_run.new.into; length = c.in-Some.length } in
-    let up = run_given g.met.K.Ord.total cs ps rest n passed (given_pairs named out) c.requires.rising in
+    let out' : SegmentBuilder g.row.K.Denot g.row.V.Denot = record out { tail = c.push_run.new.into; length = c.in-Some.length } in
+    let up = run_given g.met.K.Ord.total cs ps rest n passed (given_pairs blocks out) c.requires.rising in
     let size = length-take n ps in
-    counts_run named out out' (take n ps) (run_given_behind c.requires.whole (take n ps) up out' refl refl e.pushed) (omega (arith, size, e.within, c.in-Some.ensures.1))
+    counts_run blocks out out' (take n ps) (run_given_behind c.requires.whole (take n ps) up out' refl refl e.pushed) (omega (arith, size, e.within, c.in-Some.ensures.1))
 
 pub returns-clause-sorted : goal.returns-clause-sorted
 returns-clause-sorted g c =
     let cmp = g.K.Ord.cmp in
-    let named = g.O.BaseVersion.named c.args.old.now in
-    let rest = without_gone cmp c.args.gone.now (pairs_in (drop (c.args.place + 1) (g.O.BaseVersion.blocks c.args.old.now))) in
+    let blocks = c.args.old.now in
+    let rest = without_gone cmp c.args.gone.now (pairs_in (drop (c.args.place + 1) c.args.old.now)) in
     let cs = c.args.changes.now in
     let ps = c.args.pairs.now in
     let out = c.args.out.now in
@@ -88,16 +88,16 @@ returns-clause-sorted g c =
 pub returns-clause-filled : goal.returns-clause-filled
 returns-clause-filled g c =
     let cmp = g.K.Ord.cmp in
-    let named = g.O.BaseVersion.named c.args.old.now in
-    let rest = without_gone cmp c.args.gone.now (pairs_in (drop (c.args.place + 1) (g.O.BaseVersion.blocks c.args.old.now))) in
+    let blocks = c.args.old.now in
+    let rest = without_gone cmp c.args.gone.now (pairs_in (drop (c.args.place + 1) c.args.old.now)) in
     let cs = c.args.changes.now in
     let ps = c.args.pairs.now in
     let out = c.args.out.now in
     let n = c.in_ok-count.count in
     let e = c.in_ok-count.ensures in
     let passed = passed_of cmp cs (take n ps) c.key.result c.key.ensures e.below in
-    let out' : SegmentBuilder g.row.K.Denot g.row.V.Denot g.row.N.Denot = record out { tail = c.push_run.new.into; length = c.in-Some.length } in
-    let up = run_given g.met.K.Ord.total cs ps rest n passed (given_pairs named out) c.requires.rising in
+    let out' : SegmentBuilder g.row.K.Denot g.row.V.Denot = record out { tail = c.push_run.new.into; length = c.in-Some.length } in
+    let up = run_given g.met.K.Ord.total cs ps rest n passed (given_pairs blocks out) c.requires.rising in
     let size = length-take n ps in
     let left = length-drop n ps in
     let next = ap length e.passed in
@@ -108,8 +108,8 @@ returns-clause-filled g c =
 pub returns-clause-reached : goal.returns-clause-reached
 returns-clause-reached g c =
     let cmp = g.K.Ord.cmp in
-    let named = g.O.BaseVersion.named c.args.old.now in
-    let rest = without_gone cmp c.args.gone.now (pairs_in (drop (c.args.place + 1) (g.O.BaseVersion.blocks c.args.old.now))) in
+    let blocks = c.args.old.now in
+    let rest = without_gone cmp c.args.gone.now (pairs_in (drop (c.args.place + 1) c.args.old.now)) in
     let cs = c.args.changes.now in
     let ps = c.args.pairs.now in
     let out = c.args.out.now in

@@ -14,29 +14,29 @@ returns-in_default-clause-done g c = λ e. none_of c.args.pairs.now c.in_default
 pub copy-requires-clause-rising : goal.copy-requires-clause-rising
 copy-requires-clause-rising g c =
     let p : g.row.K.Denot × g.row.V.Denot = (c.in-Some.key.now, c.in-Some.value.now) in
-    let rest = without_gone g.K.Ord.cmp c.args.gone.now (pairs_in (drop (c.args.place + 1) (g.O.BaseVersion.blocks c.args.old.now))) in
+    let rest = without_gone g.K.Ord.cmp c.args.gone.now (pairs_in (drop (c.args.place + 1) c.args.old.now)) in
     let cs = c.args.changes.now in
     let ps = c.args.pairs.now ++ rest in
     let both = first_both c.args.pairs.now rest p (head_of c.args.pairs.now p c.in-Some.ensures) in
     let split = rest_of_pairs g.met.K.Ord.total cs ps p (none_of cs c.in_default-front.ensures) both in
-    rising_part g.K.Ord.cmp (given_pairs (g.O.BaseVersion.named c.args.old.now) c.args.out.now) (p ∷ []) (apply_delta g.K.Ord.cmp cs (drop 1 ps)) (apply_delta g.K.Ord.cmp cs ps) split c.requires.rising
+    rising_part g.K.Ord.cmp (given_pairs c.args.old.now c.args.out.now) (p ∷ []) (apply_delta g.K.Ord.cmp cs (drop 1 ps)) (apply_delta g.K.Ord.cmp cs ps) split c.requires.rising
 
 pub returns-in_default-front-clause-list : goal.returns-in_default-front-clause-list
 returns-in_default-front-clause-list g c =
     let p : g.row.K.Denot × g.row.V.Denot = (c.in-Some.key.now, c.in-Some.value.now) in
-    let rest = without_gone g.K.Ord.cmp c.args.gone.now (pairs_in (drop (c.args.place + 1) (g.O.BaseVersion.blocks c.args.old.now))) in
-    let named = g.O.BaseVersion.named c.args.old.now in
+    let rest = without_gone g.K.Ord.cmp c.args.gone.now (pairs_in (drop (c.args.place + 1) c.args.old.now)) in
+    let blocks = c.args.old.now in
     let cs = c.args.changes.now in
     let ps = c.args.pairs.now ++ rest in
     let first = head_of c.args.pairs.now p c.in-Some.ensures in
     let next = drop_both c.args.pairs.now rest p first ∙ ap (λ qs. qs ++ rest) (sym c.step.ensures) in
     let split = rest_of_pairs g.met.K.Ord.total cs ps p (none_of cs c.in_default-front.ensures) (first_both c.args.pairs.now rest p first) ∙ ap (λ qs. p ∷ [] ++ apply_delta g.K.Ord.cmp cs qs) next in
-    taken (given_pairs named c.args.out.now) (given_pairs named c.copy.new.out) (p ∷ []) (apply_delta g.K.Ord.cmp cs (c.step.new.self ++ rest)) (apply_delta g.K.Ord.cmp cs ps) c.in_ok-copy.ensures.pairs split
+    taken (given_pairs blocks c.args.out.now) (given_pairs blocks c.copy.new.out) (p ∷ []) (apply_delta g.K.Ord.cmp cs (c.step.new.self ++ rest)) (apply_delta g.K.Ord.cmp cs ps) c.in_ok-copy.ensures.pairs split
 
 pub returns-in_default-front-clause-sorted : goal.returns-in_default-front-clause-sorted
 returns-in_default-front-clause-sorted g c =
     let p : g.row.K.Denot × g.row.V.Denot = (c.in-Some.key.now, c.in-Some.value.now) in
-    let rest = without_gone g.K.Ord.cmp c.args.gone.now (pairs_in (drop (c.args.place + 1) (g.O.BaseVersion.blocks c.args.old.now))) in
+    let rest = without_gone g.K.Ord.cmp c.args.gone.now (pairs_in (drop (c.args.place + 1) c.args.old.now)) in
     let first = head_of c.args.pairs.now p c.in-Some.ensures in
     let next = drop_both c.args.pairs.now rest p first ∙ ap (λ qs. qs ++ rest) (sym c.step.ensures) in
     subst (IsAscending g.K.Ord.cmp) next (rising_rest g.K.Ord.cmp (c.args.pairs.now ++ rest) p (first_both c.args.pairs.now rest p first) c.requires.sorted)
@@ -44,57 +44,57 @@ returns-in_default-front-clause-sorted g c =
 pub put-requires-clause-rising : goal.put-requires-clause-rising
 put-requires-clause-rising g c =
     let p : g.row.K.Denot × g.row.V.Denot = (c.in-Some.key.now, c.in-Some.value.now) in
-    let rest = without_gone g.K.Ord.cmp c.args.gone.now (pairs_in (drop (c.args.place + 1) (g.O.BaseVersion.blocks c.args.old.now))) in
+    let rest = without_gone g.K.Ord.cmp c.args.gone.now (pairs_in (drop (c.args.place + 1) c.args.old.now)) in
     let cs = c.args.changes.now in
     let ps = c.args.pairs.now ++ rest in
     let both = first_both c.args.pairs.now rest p (head_of c.args.pairs.now p c.in-Some.ensures) in
     let k = c.in-Some-front.changed.now in
     let to = c.in-Some-front.to.now in
     let split = change_first g.met.K.Ord.total cs ps k to p (head_of cs (k, to) c.in-Some-front.ensures) both (sym c.in-Less.ensures) c.requires.sorted in
-    rising_part g.K.Ord.cmp (given_pairs (g.O.BaseVersion.named c.args.old.now) c.args.out.now) (pair_left k to) (apply_delta g.K.Ord.cmp (drop 1 cs) ps) (apply_delta g.K.Ord.cmp cs ps) split c.requires.rising
+    rising_part g.K.Ord.cmp (given_pairs c.args.old.now c.args.out.now) (pair_left k to) (apply_delta g.K.Ord.cmp (drop 1 cs) ps) (apply_delta g.K.Ord.cmp cs ps) split c.requires.rising
 
 pub put-requires-in-Equal-clause-rising : goal.put-requires-in-Equal-clause-rising
 put-requires-in-Equal-clause-rising g c =
     let p : g.row.K.Denot × g.row.V.Denot = (c.in-Some.key.now, c.in-Some.value.now) in
-    let rest = without_gone g.K.Ord.cmp c.args.gone.now (pairs_in (drop (c.args.place + 1) (g.O.BaseVersion.blocks c.args.old.now))) in
+    let rest = without_gone g.K.Ord.cmp c.args.gone.now (pairs_in (drop (c.args.place + 1) c.args.old.now)) in
     let cs = c.args.changes.now in
     let ps = c.args.pairs.now ++ rest in
     let both = first_both c.args.pairs.now rest p (head_of c.args.pairs.now p c.in-Some.ensures) in
     let k = c.in-Some-front.changed.now in
     let to = c.in-Some-front.to.now in
     let split = both_first g.met.K.Ord.total cs ps k to p (head_of cs (k, to) c.in-Some-front.ensures) both (sym c.in-Equal.ensures) c.requires.sorted in
-    rising_part g.K.Ord.cmp (given_pairs (g.O.BaseVersion.named c.args.old.now) c.args.out.now) (pair_left k to) (apply_delta g.K.Ord.cmp (drop 1 cs) (drop 1 ps)) (apply_delta g.K.Ord.cmp cs ps) split c.requires.rising
+    rising_part g.K.Ord.cmp (given_pairs c.args.old.now c.args.out.now) (pair_left k to) (apply_delta g.K.Ord.cmp (drop 1 cs) (drop 1 ps)) (apply_delta g.K.Ord.cmp cs ps) split c.requires.rising
 
 pub copy-requires-in-Greater-clause-rising : goal.copy-requires-in-Greater-clause-rising
 copy-requires-in-Greater-clause-rising g c =
     let p : g.row.K.Denot × g.row.V.Denot = (c.in-Some.key.now, c.in-Some.value.now) in
-    let rest = without_gone g.K.Ord.cmp c.args.gone.now (pairs_in (drop (c.args.place + 1) (g.O.BaseVersion.blocks c.args.old.now))) in
+    let rest = without_gone g.K.Ord.cmp c.args.gone.now (pairs_in (drop (c.args.place + 1) c.args.old.now)) in
     let cs = c.args.changes.now in
     let ps = c.args.pairs.now ++ rest in
     let both = first_both c.args.pairs.now rest p (head_of c.args.pairs.now p c.in-Some.ensures) in
     let k = c.in-Some-front.changed.now in
     let to = c.in-Some-front.to.now in
     let split = pair_first g.met.K.Ord.total cs ps k to p (head_of cs (k, to) c.in-Some-front.ensures) both (sym c.in-Greater.ensures) in
-    rising_part g.K.Ord.cmp (given_pairs (g.O.BaseVersion.named c.args.old.now) c.args.out.now) (p ∷ []) (apply_delta g.K.Ord.cmp cs (drop 1 ps)) (apply_delta g.K.Ord.cmp cs ps) split c.requires.rising
+    rising_part g.K.Ord.cmp (given_pairs c.args.old.now c.args.out.now) (p ∷ []) (apply_delta g.K.Ord.cmp cs (drop 1 ps)) (apply_delta g.K.Ord.cmp cs ps) split c.requires.rising
 
 pub returns-in_ok-put-in-Less-clause-list : goal.returns-in_ok-put-in-Less-clause-list
 returns-in_ok-put-in-Less-clause-list g c =
     let p : g.row.K.Denot × g.row.V.Denot = (c.in-Some.key.now, c.in-Some.value.now) in
-    let rest = without_gone g.K.Ord.cmp c.args.gone.now (pairs_in (drop (c.args.place + 1) (g.O.BaseVersion.blocks c.args.old.now))) in
-    let named = g.O.BaseVersion.named c.args.old.now in
+    let rest = without_gone g.K.Ord.cmp c.args.gone.now (pairs_in (drop (c.args.place + 1) c.args.old.now)) in
+    let blocks = c.args.old.now in
     let cs = c.args.changes.now in
     let ps = c.args.pairs.now ++ rest in
     let both = first_both c.args.pairs.now rest p (head_of c.args.pairs.now p c.in-Some.ensures) in
     let k = c.in-Some-front.changed.now in
     let to = c.in-Some-front.to.now in
     let split = change_first g.met.K.Ord.total cs ps k to p (head_of cs (k, to) c.in-Some-front.ensures) both (sym c.in-Less.ensures) c.requires.sorted ∙ ap (λ xs. pair_left k to ++ apply_delta g.K.Ord.cmp xs ps) (sym c.step-in-Less.ensures) in
-    taken (given_pairs named c.args.out.now) (given_pairs named c.put.new.out) (pair_left k to) (apply_delta g.K.Ord.cmp c.step-in-Less.new.self ps) (apply_delta g.K.Ord.cmp cs ps) c.in_ok-put-in-Less.ensures.pairs split
+    taken (given_pairs blocks c.args.out.now) (given_pairs blocks c.put.new.out) (pair_left k to) (apply_delta g.K.Ord.cmp c.step-in-Less.new.self ps) (apply_delta g.K.Ord.cmp cs ps) c.in_ok-put-in-Less.ensures.pairs split
 
 pub returns-in_ok-put-in-Equal-clause-list : goal.returns-in_ok-put-in-Equal-clause-list
 returns-in_ok-put-in-Equal-clause-list g c =
     let p : g.row.K.Denot × g.row.V.Denot = (c.in-Some.key.now, c.in-Some.value.now) in
-    let rest = without_gone g.K.Ord.cmp c.args.gone.now (pairs_in (drop (c.args.place + 1) (g.O.BaseVersion.blocks c.args.old.now))) in
-    let named = g.O.BaseVersion.named c.args.old.now in
+    let rest = without_gone g.K.Ord.cmp c.args.gone.now (pairs_in (drop (c.args.place + 1) c.args.old.now)) in
+    let blocks = c.args.old.now in
     let cs = c.args.changes.now in
     let ps = c.args.pairs.now ++ rest in
     let first = head_of c.args.pairs.now p c.in-Some.ensures in
@@ -102,12 +102,12 @@ returns-in_ok-put-in-Equal-clause-list g c =
     let k = c.in-Some-front.changed.now in
     let to = c.in-Some-front.to.now in
     let split = both_first g.met.K.Ord.total cs ps k to p (head_of cs (k, to) c.in-Some-front.ensures) (first_both c.args.pairs.now rest p first) (sym c.in-Equal.ensures) c.requires.sorted ∙ (ap (λ xs. pair_left k to ++ apply_delta g.K.Ord.cmp xs (drop 1 ps)) (sym c.step-in-Equal.ensures) ∙ ap (λ qs. pair_left k to ++ apply_delta g.K.Ord.cmp c.step-in-Equal.new.self qs) next) in
-    taken (given_pairs named c.args.out.now) (given_pairs named c.put-in-Equal.new.out) (pair_left k to) (apply_delta g.K.Ord.cmp c.step-in-Equal.new.self (c.step-in-Equal-2.new.self ++ rest)) (apply_delta g.K.Ord.cmp cs ps) c.in_ok-put-in-Equal.ensures.pairs split
+    taken (given_pairs blocks c.args.out.now) (given_pairs blocks c.put-in-Equal.new.out) (pair_left k to) (apply_delta g.K.Ord.cmp c.step-in-Equal.new.self (c.step-in-Equal-2.new.self ++ rest)) (apply_delta g.K.Ord.cmp cs ps) c.in_ok-put-in-Equal.ensures.pairs split
 
 pub returns-in_ok-put-in-Equal-clause-sorted : goal.returns-in_ok-put-in-Equal-clause-sorted
 returns-in_ok-put-in-Equal-clause-sorted g c =
     let p : g.row.K.Denot × g.row.V.Denot = (c.in-Some.key.now, c.in-Some.value.now) in
-    let rest = without_gone g.K.Ord.cmp c.args.gone.now (pairs_in (drop (c.args.place + 1) (g.O.BaseVersion.blocks c.args.old.now))) in
+    let rest = without_gone g.K.Ord.cmp c.args.gone.now (pairs_in (drop (c.args.place + 1) c.args.old.now)) in
     let first = head_of c.args.pairs.now p c.in-Some.ensures in
     let next = drop_both c.args.pairs.now rest p first ∙ ap (λ qs. qs ++ rest) (sym c.step-in-Equal-2.ensures) in
     subst (IsAscending g.K.Ord.cmp) next (rising_rest g.K.Ord.cmp (c.args.pairs.now ++ rest) p (first_both c.args.pairs.now rest p first) c.requires.sorted)
@@ -115,8 +115,8 @@ returns-in_ok-put-in-Equal-clause-sorted g c =
 pub returns-in_ok-copy-in-Greater-clause-list : goal.returns-in_ok-copy-in-Greater-clause-list
 returns-in_ok-copy-in-Greater-clause-list g c =
     let p : g.row.K.Denot × g.row.V.Denot = (c.in-Some.key.now, c.in-Some.value.now) in
-    let rest = without_gone g.K.Ord.cmp c.args.gone.now (pairs_in (drop (c.args.place + 1) (g.O.BaseVersion.blocks c.args.old.now))) in
-    let named = g.O.BaseVersion.named c.args.old.now in
+    let rest = without_gone g.K.Ord.cmp c.args.gone.now (pairs_in (drop (c.args.place + 1) c.args.old.now)) in
+    let blocks = c.args.old.now in
     let cs = c.args.changes.now in
     let ps = c.args.pairs.now ++ rest in
     let first = head_of c.args.pairs.now p c.in-Some.ensures in
@@ -124,12 +124,12 @@ returns-in_ok-copy-in-Greater-clause-list g c =
     let k = c.in-Some-front.changed.now in
     let to = c.in-Some-front.to.now in
     let split = pair_first g.met.K.Ord.total cs ps k to p (head_of cs (k, to) c.in-Some-front.ensures) (first_both c.args.pairs.now rest p first) (sym c.in-Greater.ensures) ∙ ap (λ qs. p ∷ [] ++ apply_delta g.K.Ord.cmp cs qs) next in
-    taken (given_pairs named c.args.out.now) (given_pairs named c.copy-in-Greater.new.out) (p ∷ []) (apply_delta g.K.Ord.cmp cs (c.step-in-Greater.new.self ++ rest)) (apply_delta g.K.Ord.cmp cs ps) c.in_ok-copy-in-Greater.ensures.pairs split
+    taken (given_pairs blocks c.args.out.now) (given_pairs blocks c.copy-in-Greater.new.out) (p ∷ []) (apply_delta g.K.Ord.cmp cs (c.step-in-Greater.new.self ++ rest)) (apply_delta g.K.Ord.cmp cs ps) c.in_ok-copy-in-Greater.ensures.pairs split
 
 pub returns-in_ok-copy-in-Greater-clause-sorted : goal.returns-in_ok-copy-in-Greater-clause-sorted
 returns-in_ok-copy-in-Greater-clause-sorted g c =
     let p : g.row.K.Denot × g.row.V.Denot = (c.in-Some.key.now, c.in-Some.value.now) in
-    let rest = without_gone g.K.Ord.cmp c.args.gone.now (pairs_in (drop (c.args.place + 1) (g.O.BaseVersion.blocks c.args.old.now))) in
+    let rest = without_gone g.K.Ord.cmp c.args.gone.now (pairs_in (drop (c.args.place + 1) c.args.old.now)) in
     let first = head_of c.args.pairs.now p c.in-Some.ensures in
     let next = drop_both c.args.pairs.now rest p first ∙ ap (λ qs. qs ++ rest) (sym c.step-in-Greater.ensures) in
     subst (IsAscending g.K.Ord.cmp) next (rising_rest g.K.Ord.cmp (c.args.pairs.now ++ rest) p (first_both c.args.pairs.now rest p first) c.requires.sorted)

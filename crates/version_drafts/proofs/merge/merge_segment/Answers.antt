@@ -16,7 +16,7 @@ use Rattle.version_drafts.proofs.merge.merge_segment.Goals as goal
 pub loop-more-init : goal.loop-more-init
 loop-more-init g c =
     let cmp = g.K.Ord.cmp in
-    let blocks = g.O.BaseVersion.blocks c.args.old.now in
+    let blocks = c.args.old.now in
     let gone = c.args.gone.now in
     let test = λ (k : g.row.K.Denot). not (is_gone cmp gone k) in
     let rest = without_gone cmp gone (pairs_in (drop (c.args.place + 1) blocks)) in
@@ -27,17 +27,16 @@ loop-more-init g c =
     let e' = c.count_out.ensures in
     let row = e.row ∙ e'.row in
     let tail = e.tail ∙ e'.tail in
-    let named = g.O.BaseVersion.named c.args.old.now in
     let out = c.make_ready.new.out in
     record {
-      whole = cutting_same named g.row.S c.args.out.now out row tail cmp blocks c.requires.whole (e.held ∙ e'.held);
-      list = ap (λ ps. given_pairs named out ++ apply_delta cmp c.args.changes.now ps) whole ∙ ap (λ ps. ps ++ apply_delta cmp c.args.changes.now (without_gone cmp gone (pairs_in (drop c.args.place blocks)))) (given_same named g.row.S c.args.out.now out row tail);
+      whole = cutting_same blocks g.row.S c.args.out.now out row tail cmp c.requires.whole (e.held ∙ e'.held);
+      list = ap (λ ps. given_pairs blocks out ++ apply_delta cmp c.args.changes.now ps) whole ∙ ap (λ ps. ps ++ apply_delta cmp c.args.changes.now (without_gone cmp gone (pairs_in (drop c.args.place blocks)))) (given_same blocks g.row.S c.args.out.now out row tail);
       sorted = subst (IsAscending cmp) (sym whole) (rising_kept cmp test (pairs_in (drop c.args.place blocks)) c.requires.sorted);
-      filled = λ b here. filled_then g.row.S _ _ _ c.args.out.now out out (filled_same named g.row.S c.args.out.now out row tail _) (filled_none g.row.S _ _ out (let same = ap length (block b here) in omega (arith, same)));
+      filled = λ b here. filled_then g.row.S _ _ _ c.args.out.now out out (filled_same blocks g.row.S c.args.out.now out row tail _) (filled_none g.row.S _ _ out (let same = ap length (block b here) in omega (arith, same)));
       fewer = omega arith;
       reached = λ b e h. inl (subst (IsReachedBy cmp c.args.changes.now) (block b e) h);
       done = λ e. absurd (false≢true (sym e));
-      counted = counts_on named blocks (c.args.place + 1) c.count_out.new.out out e'.counted (counts_same named g.row.S c.count_out.new.out out e.row e.tail e.length);
+      counted = counts_on blocks (c.args.place + 1) c.count_out.new.out out e'.counted (counts_same blocks g.row.S c.count_out.new.out out e.row e.tail e.length);
     }
 
 pub loop-more-preserved : goal.loop-more-preserved
@@ -58,7 +57,7 @@ loop-more-preserved g c =
         | inr less ↦ let y = e.less in inr (omega (arith, less, y))
       ];
       done = e.done;
-      counted = counts_on (g.O.BaseVersion.named c.args.old.now) (g.O.BaseVersion.blocks c.args.old.now) (c.args.place + 1) c.loop-more.out c.merge_more.new.out i.counted e.counted;
+      counted = counts_on c.args.old.now (c.args.place + 1) c.loop-more.out c.merge_more.new.out i.counted e.counted;
     }
 
 pub loop-more-smaller : goal.loop-more-smaller

@@ -5,7 +5,8 @@ use Rattle.leaf_array.specs.Pairs.{IsAscending}
 use Rattle.tree_index.specs.Shape.{AllKeys}
 use Rattle.version_drafts.specs.Changes.{ahead, apply_delta}
 use Rattle.version_views.specs.Cuts.{pairs_in}
-use Rattle.version_drafts.specs.Cutting.{IsPassedBy, IsReachedBy, IsSegmentSized, Joins, between, given_pairs, turn_count}
+use Rattle.version_drafts.specs.Cutting.{IsPassedBy, IsReachedBy, IsSegmentSized, Joins, given_pairs, turn_count}
+use Rattle.version_drafts.specs.Parts.{between}
 use Rattle.version_drafts.specs.Gone.{is_gone, without_gone}
 use Rattle.version_views.proofs.FilterLemmas.{kept_upto, on_test}
 use Rattle.version_drafts.proofs.CuttingLemmas.{cutting_same, given_same}
@@ -22,24 +23,23 @@ use Rattle.version_drafts.proofs.merge.pass.Goals as goal
 pub returns-then-covers-clause-list : goal.returns-then-covers-clause-list
 returns-then-covers-clause-list g c =
     let cmp = g.K.Ord.cmp in
-    let blocks = g.O.BaseVersion.blocks c.args.old.now in
+    let blocks = c.args.old.now in
     let gone = c.args.gone.now in
     let b = get_some blocks c.args.place c.requires.within in
     let none : without_gone cmp gone (pairs_in (drop c.args.place blocks)) ≡ without_gone cmp gone (pairs_in (drop (c.args.place + 1) blocks)) = ap (without_gone cmp gone) (block_at c.args.place blocks b.0 (sym b.1)) ∙ without_covered cmp gone b.0 (pairs_in (drop (c.args.place + 1) blocks)) (c.if-covers.ensures refl b.0 b.1) in
-    let named = g.O.BaseVersion.named c.args.old.now in
     let e = c.count_out.ensures in
     let rest = apply_delta cmp c.args.changes.now (without_gone cmp gone (pairs_in (drop (c.args.place + 1) blocks))) in
-    ap (λ ps. ps ++ rest) (given_same named g.row.S c.args.out.now c.count_out.new.out e.row e.tail) ∙ ap (λ ps. given_pairs named c.args.out.now ++ apply_delta cmp c.args.changes.now ps) (sym none)
+    ap (λ ps. ps ++ rest) (given_same blocks g.row.S c.args.out.now c.count_out.new.out e.row e.tail) ∙ ap (λ ps. given_pairs blocks c.args.out.now ++ apply_delta cmp c.args.changes.now ps) (sym none)
 
 pub returns-then-covers-clause-whole : goal.returns-then-covers-clause-whole
 returns-then-covers-clause-whole g c =
     let e = c.count_out.ensures in
-    cutting_same (g.O.BaseVersion.named c.args.old.now) g.row.S c.args.out.now c.count_out.new.out e.row e.tail g.K.Ord.cmp (g.O.BaseVersion.blocks c.args.old.now) c.requires.whole e.held
+    cutting_same c.args.old.now g.row.S c.args.out.now c.count_out.new.out e.row e.tail g.K.Ord.cmp c.requires.whole e.held
 
 pub returns-then-covers-clause-thrifty : goal.returns-then-covers-clause-thrifty
 returns-then-covers-clause-thrifty g c = λ budget last t.
     let cmp = g.K.Ord.cmp in
-    let blocks = g.O.BaseVersion.blocks c.args.old.now in
+    let blocks = c.args.old.now in
     let gone = c.args.gone.now in
     let b = get_some blocks c.args.place c.requires.within in
     let sized = all_slice (IsSegmentSized g.row.S) blocks c.args.place b.0 c.requires.old.sizes b.1 in
@@ -50,15 +50,15 @@ returns-then-covers-clause-thrifty g c = λ budget last t.
 -- ---- one that is merged
 
 pub merge_segment-requires-clause-sorted : goal.merge_segment-requires-clause-sorted
-merge_segment-requires-clause-sorted g c = pairs_behind_rise g.K.Ord.cmp c.args.place (g.O.BaseVersion.blocks c.args.old.now) c.requires.old.rising
+merge_segment-requires-clause-sorted g c = pairs_behind_rise g.K.Ord.cmp c.args.place c.args.old.now c.requires.old.rising
 
 pub merge_segment-requires-then-joins-clause-sorted : goal.merge_segment-requires-then-joins-clause-sorted
-merge_segment-requires-then-joins-clause-sorted g c = pairs_behind_rise g.K.Ord.cmp c.args.place (g.O.BaseVersion.blocks c.args.old.now) c.requires.old.rising
+merge_segment-requires-then-joins-clause-sorted g c = pairs_behind_rise g.K.Ord.cmp c.args.place c.args.old.now c.requires.old.rising
 
 pub returns-then-touches-clause-thrifty : goal.returns-then-touches-clause-thrifty
 returns-then-touches-clause-thrifty g c = λ budget last t.
     let cmp = g.K.Ord.cmp in
-    let blocks = g.O.BaseVersion.blocks c.args.old.now in
+    let blocks = c.args.old.now in
     let gone = c.args.gone.now in
     let test = is_gone cmp gone in
     let found = get_some blocks c.args.place c.requires.within in
@@ -102,7 +102,7 @@ returns-then-touches-clause-thrifty g c = λ budget last t.
 pub returns-then-joins-clause-thrifty : goal.returns-then-joins-clause-thrifty
 returns-then-joins-clause-thrifty g c = λ budget last t.
     let cmp = g.K.Ord.cmp in
-    let blocks = g.O.BaseVersion.blocks c.args.old.now in
+    let blocks = c.args.old.now in
     let gone = c.args.gone.now in
     let test = is_gone cmp gone in
     let b = c.segment.result.now.pairs in
@@ -127,7 +127,7 @@ stretch_end-end-requires-clause-ordered g c = let cut = c.requires.old in record
 pub take_stretch-requires-clause-apart : goal.take_stretch-requires-clause-apart
 take_stretch-requires-clause-apart g c =
     let cmp = g.K.Ord.cmp in
-    let blocks = g.O.BaseVersion.blocks c.args.old.now in
+    let blocks = c.args.old.now in
     let gone = c.args.gone.now in
     let place = c.args.place in
     let end = c.stretch_end-end.result in
@@ -138,7 +138,7 @@ take_stretch-requires-clause-apart g c =
     let less = c.stretch_end-end.ensures.from in
     let each = each_from (λ d. IsPassedBy cmp cs d × AllKeys (λ k. is_gone cmp gone k ≡ false) d) blocks place end (c.if-touches.ensures.passed refl) c.stretch_end-end.ensures.passed in
     let le : place ≤ end = omega (arith, less) in
-    let given' = given_pairs (g.O.BaseVersion.named c.args.old.now) out in
+    let given' = given_pairs c.args.old.now out in
     let up : IsAscending cmp (given' ++ pairs_in (between place end blocks)) = rising_part cmp given' (pairs_in (between place end blocks)) (apply_delta cmp cs (without_gone cmp gone (pairs_in (drop end blocks)))) (ahead cmp cs gone place blocks) (stretch_ahead g.met.K.Ord.total blocks cs gone place end le each) c.requires.rising in
     let size = c.len.ensures.count in
     let not_joined : Joins g.row.S (length b) out → ⊥ = λ j. false≢true (c.if-joins.ensures.1 (subst (λ n. Joins g.row.S n out) (sym size) j)) in
@@ -160,7 +160,7 @@ take_stretch-requires-clause-apart g c =
 pub take_stretch-requires-clause-rising : goal.take_stretch-requires-clause-rising
 take_stretch-requires-clause-rising g c =
     let cmp = g.K.Ord.cmp in
-    let blocks = g.O.BaseVersion.blocks c.args.old.now in
+    let blocks = c.args.old.now in
     let gone = c.args.gone.now in
     let place = c.args.place in
     let end = c.stretch_end-end.result in
@@ -168,13 +168,12 @@ take_stretch-requires-clause-rising g c =
     let less = c.stretch_end-end.ensures.from in
     let each = each_from (λ d. IsPassedBy cmp cs d × AllKeys (λ k. is_gone cmp gone k ≡ false) d) blocks place end (c.if-touches.ensures.passed refl) c.stretch_end-end.ensures.passed in
     let le : place ≤ end = omega (arith, less) in
-    rising_part cmp (given_pairs (g.O.BaseVersion.named c.args.old.now) c.args.out.now) (pairs_in (between place end blocks)) (apply_delta cmp cs (without_gone cmp gone (pairs_in (drop end blocks)))) (ahead cmp cs gone place blocks) (stretch_ahead g.met.K.Ord.total blocks cs gone place end le each) c.requires.rising
+    rising_part cmp (given_pairs c.args.old.now c.args.out.now) (pairs_in (between place end blocks)) (apply_delta cmp cs (without_gone cmp gone (pairs_in (drop end blocks)))) (ahead cmp cs gone place blocks) (stretch_ahead g.met.K.Ord.total blocks cs gone place end le each) c.requires.rising
 
 pub returns-clause-list : goal.returns-clause-list
 returns-clause-list g c =
     let cmp = g.K.Ord.cmp in
-    let blocks = g.O.BaseVersion.blocks c.args.old.now in
-    let named = g.O.BaseVersion.named c.args.old.now in
+    let blocks = c.args.old.now in
     let gone = c.args.gone.now in
     let place = c.args.place in
     let end = c.stretch_end-end.result in
@@ -182,12 +181,12 @@ returns-clause-list g c =
     let less = c.stretch_end-end.ensures.from in
     let each = each_from (λ d. IsPassedBy cmp cs d × AllKeys (λ k. is_gone cmp gone k ≡ false) d) blocks place end (c.if-touches.ensures.passed refl) c.stretch_end-end.ensures.passed in
     let le : place ≤ end = omega (arith, less) in
-    taken (given_pairs named c.args.out.now) (given_pairs named c.take_stretch.new.out) (pairs_in (between place end blocks)) (apply_delta cmp cs (without_gone cmp gone (pairs_in (drop end blocks)))) (ahead cmp cs gone place blocks) c.in_ok-take_stretch.ensures.pairs (stretch_ahead g.met.K.Ord.total blocks cs gone place end le each)
+    taken (given_pairs blocks c.args.out.now) (given_pairs blocks c.take_stretch.new.out) (pairs_in (between place end blocks)) (apply_delta cmp cs (without_gone cmp gone (pairs_in (drop end blocks)))) (ahead cmp cs gone place blocks) c.in_ok-take_stretch.ensures.pairs (stretch_ahead g.met.K.Ord.total blocks cs gone place end le each)
 
 pub returns-clause-thrifty : goal.returns-clause-thrifty
 returns-clause-thrifty g c = λ budget last t.
     let cmp = g.K.Ord.cmp in
-    let blocks = g.O.BaseVersion.blocks c.args.old.now in
+    let blocks = c.args.old.now in
     let gone = c.args.gone.now in
     let place = c.args.place in
     let end = c.stretch_end-end.result in
@@ -330,12 +329,12 @@ returns-then-joins-clause-counted g c = c.in_ok-merge_segment-2.ensures.counted
 -- the pairs of a stretch were yet to come, and are given
 pub returns-clause-counted : goal.returns-clause-counted
 returns-clause-counted g c =
-    let blocks = g.O.BaseVersion.blocks c.args.old.now in
+    let blocks = c.args.old.now in
     let place = c.args.place in
     let end = c.stretch_end-end.result in
     let less = c.stretch_end-end.ensures.from in
     let stretch = pairs_in (between place end blocks) in
     let split = ap length (pairs_behind_stretch blocks place end (omega (arith, less))) ∙ length-append stretch (pairs_in (drop end blocks)) in
     let e = c.in_ok-take_stretch.ensures in
-    let given' = ap length e.pairs ∙ length-append (given_pairs (g.O.BaseVersion.named c.args.old.now) c.args.out.now) stretch in
+    let given' = ap length e.pairs ∙ length-append (given_pairs c.args.old.now c.args.out.now) stretch in
     omega (arith, c.requires.counted, e.length, split, given')

@@ -7,12 +7,12 @@ use Rattle.version_drafts.proofs.merge.put_all.Given as goal
 abbrev pub invariant-loop-changed : goal.invariant-loop-changed
 invariant-loop-changed g l =
     let cmp = g.K.Ord.cmp in
-    let named = g.O.BaseVersion.named l.old in
+    let blocks = l.old in
     record {
-      whole : IsCutting named cmp g.row.S (g.O.BaseVersion.blocks l.old) l.out;
-      list : given_pairs named l.out ++ apply_delta cmp l.changes [] ≡ given_pairs named l.fn.out ++ apply_delta cmp l.fn.changes [];
+      whole : IsCutting cmp g.row.S l.old l.out;
+      list : given_pairs blocks l.out ++ apply_delta cmp l.changes [] ≡ given_pairs blocks l.fn.out ++ apply_delta cmp l.fn.changes [];
       filled : GivesNoMoreThanRead g.row.S (length l.fn.changes) (length l.changes) l.fn.out l.out;
-      counted : CountsGiven named l.fn.out l.out;
+      counted : CountsGiven blocks l.fn.out l.out;
     }
 
 abbrev pub decreases-loop-changed : goal.decreases-loop-changed

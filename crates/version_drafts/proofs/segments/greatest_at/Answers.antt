@@ -1,7 +1,7 @@
 use Rattle.std.proofs.Common.{◌≡◌, ◌+◌, ◌<◌, Some, length, slice_get, sym, ap, ◌∙◌, arith}
 use Rattle.std.specs.Option.{option_map}
 use Rattle.tree_index.proofs.WayLemmas.{some_same}
-use Rattle.version_views.specs.Cuts.{greatest_key}
+use Rattle.version_views.specs.Cuts.{greatest_key, separators_of}
 use Rattle.version_views.proofs.BlockLemmas.{place_inside}
 use Rattle.version_views.proofs.SeparatorSearchLemmas.{inside_of, separator_at}
 use Rattle.version_views.proofs.SlotLemmas.{slice_of}
@@ -9,8 +9,8 @@ use Rattle.version_drafts.proofs.segments.greatest_at.Goals as goal
 
 pub returns-in-Some : goal.returns-in-Some
 returns-in-Some g c = λ b here.
-    let blocks = g.O.BaseVersion.blocks c.args.old.now in
-    let keys = g.O.BaseVersion.separators c.args.old.now in
+    let blocks = c.args.old.now in
+    let keys = separators_of c.args.old.now in
     let place = c.args.place in
     let found = c.in-Some.ensures.lookup in
     let here' : slice_get c.separators.result.now place ≡ Some c.in-Some.key.now = slice_of c.separators.result.now place c.in-Some.key.now found.3.0 ∙ sym (ap (λ k. Some k) found.1) in

@@ -2,7 +2,7 @@ use Rattle.std.proofs.Common.{◌++◌, inr, length, sym, ap, ◌∙◌, subst, 
 use Rattle.std.proofs.lemmas.List.{length-append}
 use Rattle.leaf_array.specs.Pairs.{IsAscending}
 use Rattle.tree_index.proofs.WayLemmas.{some_same}
-use Rattle.version_drafts.proofs.CuttingLemmas.{closing_apart, closing_fresh, closing_joined, given_joined, held_at, held_rising, held_size, made_joined, popped}
+use Rattle.version_drafts.proofs.CuttingLemmas.{closing_apart, closing_fresh, closing_joined, given_joined, held_at, held_rising, held_size, made_joined}
 use Rattle.version_views.proofs.SeparatorSearchLemmas.{inside_of}
 use Rattle.version_drafts.proofs.segments.join.Goals as goal
 
@@ -17,7 +17,7 @@ returns-then-len-out-clause-closing g c =
     closing_apart c.requires.whole c.requires.some (inr (omega (arith, more, size, room)))
 
 pub segment-requires : goal.segment-requires
-segment-requires g c = inside_of (g.O.BaseVersion.blocks c.args.old.now) c.in-Some.place _ (held_at c.requires.whole c.in-Some.place c.in-Some.is).there
+segment-requires g c = inside_of c.args.old.now c.in-Some.place _ (held_at c.requires.whole c.in-Some.place c.in-Some.is).there
 
 pub absorb-requires-clause-rising : goal.absorb-requires-clause-rising
 absorb-requires-clause-rising g c =
@@ -43,20 +43,20 @@ returns-clause-closing g c =
     let room = c.requires.whole.room in
     let less = c.if-len-out.false in
     let size = c.len.ensures in
-    let parts = popped h.front _ _ _ _ h.is c.args.out.now.row.parts.ok.0 c.pop-part.ensures.rest in
+    let parts = c.in_ok-shorten.ensures h.front h.from h.is in
     closing_joined c.requires.whole c.in-Some.place c.in-Some.is _ (omega (arith, less, size, room)) c.requires.some parts _ c.args.out.now.row.separators.ok.0 c.pop-greatest.ensures.rest (c.in_ok-absorb.ensures ∙ ap (λ ps. ps ++ c.args.out.now.tail.pairs) same)
 
 pub returns-clause-pairs : goal.returns-clause-pairs
 returns-clause-pairs g c =
     let h = held_at c.requires.whole c.in-Some.place c.in-Some.is in
     let same = some_same (c.segment.ensures ∙ h.there) in
-    let parts = popped h.front _ _ _ _ h.is c.args.out.now.row.parts.ok.0 c.pop-part.ensures.rest in
-    given_joined c.requires.whole c.in-Some.place c.in-Some.is _ _ parts (c.in_ok-absorb.ensures ∙ ap (λ ps. ps ++ c.args.out.now.tail.pairs) same)
+    let parts = c.in_ok-shorten.ensures h.front h.from h.is in
+    given_joined c.requires.whole c.in-Some.place c.in-Some.is _ parts _ (c.in_ok-absorb.ensures ∙ ap (λ ps. ps ++ c.args.out.now.tail.pairs) same)
 
 pub returns-clause-made : goal.returns-clause-made
 returns-clause-made g c =
     let h = held_at c.requires.whole c.in-Some.place c.in-Some.is in
-    let parts = popped h.front _ _ _ _ h.is c.args.out.now.row.parts.ok.0 c.pop-part.ensures.rest in
+    let parts = c.in_ok-shorten.ensures h.front h.from h.is in
     made_joined c.requires.whole c.in-Some.place c.in-Some.is _ parts
 
 pub returns-clause-tail : goal.returns-clause-tail
@@ -64,3 +64,6 @@ returns-clause-tail g c =
     let size = length-append c.segment.result.now.pairs c.args.out.now.tail.pairs in
     let both = ap length c.in_ok-absorb.ensures in
     omega (arith, size, both)
+
+pub shorten-requires : goal.shorten-requires
+shorten-requires g c = let h = held_at c.requires.whole c.in-Some.place c.in-Some.is in (h.front, h.from, h.is)
