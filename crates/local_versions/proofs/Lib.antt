@@ -1,4 +1,4 @@
-pub mod BaseVersionLemmas
+pub mod BuildingLemmas
 pub mod FreePlaceLemmas
 pub mod NoGarbageLemmas
 pub mod OnceLemmas
@@ -10,5 +10,6 @@ pub mod ReclaimLemmas
 pub mod SharingLemmas
 pub mod StayingLemmas
 pub mod StoreLemmas
+pub mod StretchPlacingLemmas
 pub mod SweepLemmas
 pub mod TakingLemmas

@@ -22,8 +22,8 @@ use Rattle.version_views.specs.Cuts.{IsCut, pairs_in}
 use Rattle.version_views.specs.Items.{held_by, slots_of}
 use Rattle.std.specs.Cmp.{IsTotalOrder}
 use Rattle.sdd_world.specs.Steps.{times}
-use Rattle.version_drafts.specs.Parts.{blocks_of_parts, made_in}
-use Rattle.local_versions.specs.Placing.{IsNoDirectory, IsLevelled, AddsItems, StandsIn, Places, Plan, list_planned, named_at}
+use Rattle.version_drafts.specs.Parts.{made_in}
+use Rattle.local_versions.specs.Placing.{IsNoDirectory, IsLevelled, AddsItems, StandsIn, Places, Plan, blocks_at, blocks_planned, list_planned}
 use Rattle.local_versions.proofs.OnceLemmas.{slots_once}
 use Rattle.version_views.specs.Versions.{IsSegment, segment_pairs, blocks_of}
 use Rattle.sdd_world.specs.declared.owner.Kept.{Kept}
@@ -330,9 +330,9 @@ module _ {K V : Type 0} {s : ℕ} where
       subst (λ (y : State (Item K V s)). StandsIn n (xs ++ i ∷ []) (bs ++ segment_pairs (value_at v i) ∷ []) u y) (sym is) whole
 
   -- the directory of segments that stand is placed
-  pub places_directory : (cmp : K → K → Ordering) → IsTotalOrder cmp → (u v w : State (Item K V s)) (plan : Plan K V s) (i : ℕ) (d : Directory K Kept) → plan.number ≡ d.number → StandsIn (made_in plan.parts) (slots_of d) (blocks_of_parts (named_at (value_at u)) plan.parts) u v → IsCut cmp s (blocks_of_parts (named_at (value_at u)) plan.parts) d.separators.items → d.length ≡ length (list_planned (value_at u) plan) → IsPlace v → IsFree v i → w ≡ placed i (items.Directory d) (status.Shared 1) v → Frame v w → Places cmp plan i u w
-  places_directory cmp o u v w plan i d numbers st cut counts place free is keeps' =
-      let bs : List (List (K × V)) = blocks_of_parts (named_at (value_at u)) plan.parts in
+  pub places_directory : (cmp : K → K → Ordering) → IsTotalOrder cmp → (u v w : State (Item K V s)) (older : Option ℕ) (plan : Plan K V s) (i : ℕ) (d : Directory K Kept) → plan.number ≡ d.number → StandsIn (made_in plan.parts) (slots_of d) (blocks_planned (blocks_at u older) plan) u v → IsCut cmp s (blocks_planned (blocks_at u older) plan) d.separators.items → d.length ≡ length (list_planned (blocks_at u older) plan) → IsPlace v → IsFree v i → w ≡ placed i (items.Directory d) (status.Shared 1) v → Frame v w → Places cmp older plan i u w
+  places_directory cmp o u v w older plan i d numbers st cut counts place free is keeps' =
+      let bs : List (List (K × V)) = blocks_planned (blocks_at u older) plan in
       let names = slots_once cmp o (λ k. segment_pairs (value_at v k)) (slots_of d) (subst (λ (ys : List (List (K × V))). IsCut cmp s ys d.separators.items) (sym st.hold) cut) in
       let x : Item K V s = items.Directory d in
       let v' : State (Item K V s) = placed i x (status.Shared 1) v in
@@ -341,7 +341,7 @@ module _ {K V : Type 0} {s : ℕ} where
       let one : AddsItems 1 v v' = adds_one v i x place free keeps level in
       let old : (k : ℕ) → IsLive v k → value_at v' k ≡ value_at v k = λ k l. value_there v i x place free k (live_apart v i x place free k l) in
       let same : blocks_of (value_at v') d ≡ bs = map_same (λ k. segment_pairs (value_at v' k)) (λ k. segment_pairs (value_at v k)) (slots_of d) (λ k e h. ap (λ (o : Option (Item K V s)). segment_pairs o) (old (get_or (slots_of d) k e) (st.lives k e h))) ∙ st.hold in
-      let whole : Places cmp plan i u v' = record {
+      let whole : Places cmp older plan i u v' = record {
         adds = adds_then (made_in plan.parts) 1 u v v' st.adds one (λ hand c l. level (reverse (map SharedItem (slots_of d)) ++ hand) (st.counted hand c) (st.adds.levelled hand c l));
         version = record {
           directory = d;
@@ -357,4 +357,4 @@ module _ {K V : Type 0} {s : ℕ} where
         shared = shared_here v i x place free;
         counted = λ hand c. counted_placed_shared held_by i x hand v place free (st.counted hand c);
       } in
-      subst (λ (y : State (Item K V s)). Places cmp plan i u y) (sym is) whole
+      subst (λ (y : State (Item K V s)). Places cmp older plan i u y) (sym is) whole

@@ -27,7 +27,7 @@ use Rattle.sdd_world.proofs.IdleParticipantLemmas.{gives_only}
 use Rattle.sdd_world.proofs.BagInvariantLemmas.{Gives, gives_released_as}
 use Rattle.version_views.specs.Items.{held_by}
 use Rattle.local_versions.specs.Reclaiming.{IsRootless}
-use Rattle.local_versions.specs.Placing.{HasVersion, IsFlat, IsLevelled, IsPlaceable, Places, Plan, StandsAlone, list_planned, slots_for}
+use Rattle.local_versions.specs.Placing.{HasVersion, IsFlat, IsLevelled, IsPlaceable, Places, Plan, StandsAlone, blocks_at, list_planned, slots_for}
 use Rattle.version_views.specs.declared.item.Item.{Item}
 use Rattle.version_views.proofs.FilterLemmas.{rising_none}
 use Rattle.local_versions.proofs.PlacingLemmas.{keeps_then}
@@ -94,7 +94,7 @@ module _ {K V : Type 0} {s : ℕ} (cmp : K → K → Ordering) where
       ]
 
   -- beside a version that is placed, the root and what it names are there
-  module _ (w w1 : State (Item K V s)) (root new : ℕ) (plan : Plan K V s) (places : List (Option (Opened K V s))) (store : IsStore cmp w root places) (made : Places cmp plan new w w1) where
+  module _ (w w1 : State (Item K V s)) (root new : ℕ) (older : Option ℕ) (plan : Plan K V s) (places : List (Option (Opened K V s))) (store : IsStore cmp w root places) (made : Places cmp older plan new w w1) where
     pub still_named : cell_at w1 root ≡ cell.OfShared (Some store.slot) tag.None
     still_named = ap (λ (cs : List Cell). get_or cs root cell.Free) made.adds.cells ∙ store.named
 
@@ -112,7 +112,7 @@ module _ {K V : Type 0} {s : ℕ} (cmp : K → K → Ordering) where
     still_known = let known = writer_known cmp w root places store in let same = ap length made.adds.participants in omega (arith, known, same)
 
   -- a version is placed, the root comes to name it, and the owner of the older one is given back
-  module _ (w w1 w2 : State (Item K V s)) (root new : ℕ) (plan : Plan K V s) (places : List (Option (Opened K V s))) (store : IsStore cmp w root places) (made : Places cmp plan new w w1) (place1 : IsPlace w1) (now : w2 ≡ released (length places) store.slot (with_cell root (cell.OfShared (Some new) tag.None) w1)) (keeps : Frame w1 w2) (only : OnlyParticipant (length places) w1 w2) where
+  module _ (w w1 w2 : State (Item K V s)) (root new : ℕ) (older : Option ℕ) (plan : Plan K V s) (places : List (Option (Opened K V s))) (store : IsStore cmp w root places) (made : Places cmp older plan new w w1) (place1 : IsPlace w1) (now : w2 ≡ released (length places) store.slot (with_cell root (cell.OfShared (Some new) tag.None) w1)) (keeps : Frame w1 w2) (only : OnlyParticipant (length places) w1 w2) where
     abbrev p : ℕ
     p = length places
 
@@ -179,8 +179,8 @@ module _ {K V : Type 0} {s : ℕ} (cmp : K → K → Ordering) where
         ∙ ap (λ (cs : List Cell). get_or cs root cell.Free) (cells_released_as (status_at v store.slot) p store.slot v)
         ∙ get_or-set_same w1.cells root (cell.OfShared (Some new) tag.None) cell.Free inside
 
-    version2 : HasVersion cmp w2 new plan.number (list_planned (value_at w) plan)
-    version2 = (versions_stay cmp).owned (SharedItem new ∷ SharedIn root ∷ []) w1 w2 new plan.number (list_planned (value_at w) plan) counted1 (ap has_owner made.shared.is) made.version keeps
+    version2 : HasVersion cmp w2 new plan.number (list_planned (blocks_at w older) plan)
+    version2 = (versions_stay cmp).owned (SharedItem new ∷ SharedIn root ∷ []) w1 w2 new plan.number (list_planned (blocks_at w older) plan) counted1 (ap has_owner made.shared.is) made.version keeps
 
     closed2 : (local_at w2 p).nesting ≡ 0
     closed2 =
@@ -190,19 +190,19 @@ module _ {K V : Type 0} {s : ℕ} (cmp : K → K → Ordering) where
         ∙ writer_closed cmp w root places store
 
     pub store_published : IsStore cmp w2 root places
-    store_published = store_moved cmp w w2 root places store p places new plan.number (list_planned (value_at w) plan) moves named2 version2 refl (λ q ne. refl) (writer_reads cmp w w2 root places store moves closed2) (λ ne. absurd (ne refl))
+    store_published = store_moved cmp w w2 root places store p places new plan.number (list_planned (blocks_at w older) plan) moves named2 version2 refl (λ q ne. refl) (writer_reads cmp w w2 root places store moves closed2) (λ ne. absurd (ne refl))
 
     pub published_uses : in_use w2 ≡ in_use w + slots_for plan
     published_uses = ap in_use now ∙ gives.1 ∙ made.adds.uses
 
-    pub published_shows : store_of w2 root places ≡ record (store_of w root places) { present = record { number = plan.number; pairs = list_planned (value_at w) plan }; used = in_use w + slots_for plan }
+    pub published_shows : store_of w2 root places ≡ record (store_of w root places) { present = record { number = plan.number; pairs = list_planned (blocks_at w older) plan }; used = in_use w + slots_for plan }
     published_shows =
-        let present : version_in w2 (slot_kept (cell_at w2 root)) ≡ record { number = plan.number; pairs = list_planned (value_at w) plan } = ap (λ (k : Cell). version_in w2 (slot_kept k)) named2 ∙ version_is cmp w2 new plan.number (list_planned (value_at w) plan) version2 in
+        let present : version_in w2 (slot_kept (cell_at w2 root)) ≡ record { number = plan.number; pairs = list_planned (blocks_at w older) plan } = ap (λ (k : Cell). version_in w2 (slot_kept k)) named2 ∙ version_is cmp w2 new plan.number (list_planned (blocks_at w older) plan) version2 in
         let raises : w2.count ≡ w.count = ap (λ (y : State (Item K V s)). y.count) now ∙ gives.2 ∙ made.adds.count in
         writer_shows cmp w w2 root places store moves
         ∙ ap (λ (ver : Version K V). record (store_of w root places) { present = ver; used = in_use w2; raises = w2.count }) present
-        ∙ ap (λ (n : ℕ). record (store_of w root places) { present = record { number = plan.number; pairs = list_planned (value_at w) plan }; used = n; raises = w2.count }) published_uses
-        ∙ ap (λ (n : ℕ). record (store_of w root places) { present = record { number = plan.number; pairs = list_planned (value_at w) plan }; used = in_use w + slots_for plan; raises = n }) raises
+        ∙ ap (λ (n : ℕ). record (store_of w root places) { present = record { number = plan.number; pairs = list_planned (blocks_at w older) plan }; used = n; raises = w2.count }) published_uses
+        ∙ ap (λ (n : ℕ). record (store_of w root places) { present = record { number = plan.number; pairs = list_planned (blocks_at w older) plan }; used = in_use w + slots_for plan; raises = n }) raises
 
   -- the empty version takes nothing over
   pub empty_alone : StandsAlone {K = K} {V = V} {s = s} cmp (record { number = 0; parts = []; separators = []; length = 0 })
@@ -210,13 +210,17 @@ module _ {K V : Type 0} {s : ℕ} (cmp : K → K → Ordering) where
     placeable = λ w. record {
       cut = record { sizes = λ k d h. absurd (omega (arith, h)); tight = tt; rising = rising_none V cmp; separated = refl };
       counted = refl;
-      there = λ k d h. absurd (omega (arith, h));
+      there = record {
+        live = tt;
+        within = λ k d h. absurd (omega (arith, h));
+        segments = λ k d h. absurd (omega (arith, h));
+      };
     };
-    list = λ at. refl;
+    list = λ blocks. refl;
   }
 
   -- so it can be placed anywhere
-  pub empty_placeable : (w : State (Item K V s)) → IsPlaceable cmp w (record { number = 0; parts = []; separators = []; length = 0 })
+  pub empty_placeable : (w : State (Item K V s)) → IsPlaceable cmp w None (record { number = 0; parts = []; separators = []; length = 0 })
   empty_placeable w = empty_alone.placeable w
 
   -- a version is placed in a new place, and a root names it
@@ -239,7 +243,7 @@ module _ {K V : Type 0} {s : ℕ} (cmp : K → K → Ordering) where
         none_some : {y : Item K V s} → None ≡ Some y → ⊥
         none_some e = cc
 
-    module _ (w1 w2 : State (Item K V s)) (root new : ℕ) (plan : Plan K V s) (made : Places cmp plan new w w1) (free : IsFreeCell w1 root) (now : w2 ≡ with_cell root (cell.OfShared (Some new) tag.None) w1) (place2 : IsPlace w2) where
+    module _ (w1 w2 : State (Item K V s)) (root new : ℕ) (older : Option ℕ) (plan : Plan K V s) (made : Places cmp older plan new w w1) (free : IsFreeCell w1 root) (now : w2 ≡ with_cell root (cell.OfShared (Some new) tag.None) w1) (place2 : IsPlace w2) where
       abbrev y : State (Item K V s)
       y = with_cell root (cell.OfShared (Some new) tag.None) w1
 
@@ -258,20 +262,20 @@ module _ {K V : Type 0} {s : ℕ} (cmp : K → K → Ordering) where
         slot = new;
         named = get_or-set_same w1.cells root (cell.OfShared (Some new) tag.None) cell.Free free.0;
         number = plan.number;
-        pairs = list_planned (value_at w) plan;
+        pairs = list_planned (blocks_at w older) plan;
         version = record { directory = made.version.directory; is = made.version.is; whole = made.version.whole; numbered = made.version.numbered; list = made.version.list };
         readers = λ q. subst (λ (o : Option (Opened K V s)). IsReader cmp y q o) (sym (get_or-replicate_default n q None)) (ap (λ (m : ParticipantState). m.local.nesting) (participant_is q));
         quiet = λ q ne. record { empty = ap bags_empty (participant_is q); clean = ap (λ (m : ParticipantState). m.local.garbage) (participant_is q); slow = ap (λ (m : ParticipantState). m.local.accelerated) (participant_is q) };
       })
 
       abbrev first : Version K V
-      first = record { number = plan.number; pairs = list_planned (value_at w) plan }
+      first = record { number = plan.number; pairs = list_planned (blocks_at w older) plan }
 
-      pub first_shows : store_of w2 root places ≡ record { present = record { number = plan.number; pairs = list_planned (value_at w) plan }; readers = replicate n None; slots = slots; used = slots_for plan; raises = 0 }
+      pub first_shows : store_of w2 root places ≡ record { present = record { number = plan.number; pairs = list_planned (blocks_at w older) plan }; readers = replicate n None; slots = slots; used = slots_for plan; raises = 0 }
       first_shows =
           let named : cell_at y root ≡ cell.OfShared (Some new) tag.None = get_or-set_same w1.cells root (cell.OfShared (Some new) tag.None) cell.Free free.0 in
-          let version : HasVersion cmp y new plan.number (list_planned (value_at w) plan) = record { directory = made.version.directory; is = made.version.is; whole = made.version.whole; numbered = made.version.numbered; list = made.version.list } in
-          let present : version_in y (slot_kept (cell_at y root)) ≡ first = ap (λ (k : Cell). version_in y (slot_kept k)) named ∙ version_is cmp y new plan.number (list_planned (value_at w) plan) version in
+          let version : HasVersion cmp y new plan.number (list_planned (blocks_at w older) plan) = record { directory = made.version.directory; is = made.version.is; whole = made.version.whole; numbered = made.version.numbered; list = made.version.list } in
+          let present : version_in y (slot_kept (cell_at y root)) ≡ first = ap (λ (k : Cell). version_in y (slot_kept k)) named ∙ version_is cmp y new plan.number (list_planned (blocks_at w older) plan) version in
           let used : in_use y ≡ slots_for plan = (let more = made.adds.uses in let none = fresh_use slots in omega (arith, more, none)) in
           ap (λ (z : State (Item K V s)). store_of z root places) now
           ∙ ap (λ (ver : Version K V). record (store_of y root places) { present = ver }) present

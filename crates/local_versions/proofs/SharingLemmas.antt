@@ -4,13 +4,16 @@ use Rattle.std.proofs.lemmas.List.Sums.{sum_by-cons}
 use Rattle.std.specs.List.{All, sum_by}
 use Rattle.std.specs.declared.cmp.Ordering.{Ordering}
 use Rattle.sdd_world.specs.Counting.{Counted, kept_by, same_hold, shared_owners, tally}
+use Rattle.sdd_world.specs.Frame.{IsLive, has_owner}
 use Rattle.sdd_world.specs.Holding.{Hold, OwnedIn, OwnedItem, SharedIn, SharedItem}
 use Rattle.sdd_world.specs.Place.{IsPlace, IsShared}
-use Rattle.sdd_world.specs.State.{State, value_at}
+use Rattle.sdd_world.specs.State.{State, cell_at, value_at}
 use Rattle.sdd_world.specs.Steps.{held_in, hit, times}
 use Rattle.sdd_world.specs.declared.owner.Kept.{Kept}
 use Rattle.sdd_world.specs.declared.status.Cell.{Cell}
 use Rattle.sdd_world.specs.declared.status.Cell.TheVariants as cell
+use Rattle.sdd_world.specs.declared.tag.Tag.{Tag}
+use Rattle.sdd_world.proofs.CountLemmas.{owners_are_counted}
 use Rattle.version_views.specs.Items.{held_by, slots_of}
 use Rattle.local_versions.specs.Placing.{CanBeShared, IsLevelled}
 use Rattle.local_versions.specs.Store.{IsStore}
@@ -108,3 +111,11 @@ module _ {K V : Type 0} {s : ℕ} where
       let fit : length w.states ≤ 1073741824 = store.slots in
       let one = store.cells in
       segments_can_be_shared cmp (SharedIn root ∷ []) w store.counted store.place store.levelled (omega (arith, fit, one)) store.slot d is
+
+  -- the item that the root of a store names has an owner
+  pub present_lives : (cmp : K → K → Ordering) (w : State (Item K V s)) (root : ℕ) (places : List (Option (Opened K V s))) (store : IsStore cmp w root places) (i : ℕ) (t : Tag) → cell_at w root ≡ cell.OfShared (Some i) t → IsLive w i
+  present_lives cmp w root places store i t named = ap has_owner ((owners_are_counted held_by).kept root i t (SharedIn root ∷ []) w named store.counted).is
+
+-- a cell names one item
+pub same_named : (o o' : Option ℕ) (t t' : Tag) → cell.OfShared o t ≡ cell.OfShared o' t' → o ≡ o'
+same_named o o' t t' = λ e. cc

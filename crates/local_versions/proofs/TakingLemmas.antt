@@ -1,118 +1,158 @@
 -- Parts of a version are placed, one after the other.
-use Rattle.std.proofs.Common.{◌≡◌, ◌≢◌, ℕ, ◌+◌, ◌≤◌, Option, None, Some, List, [], ◌∷◌, ◌++◌, refl, sym, ap, ◌∙◌, arith, subst, inl, inr, get_or-set_other}
+use Rattle.std.proofs.Common.{◌≡◌, ◌≢◌, ◌⊎◌, inl, inr, ℕ, zero, suc, ◌+◌, ◌<◌, ◌≤◌, Option, None, Some, List, [], ◌∷◌, ◌++◌, length, get_or, map, append_assoc, append-nil, refl, sym, ap, ◌∙◌, arith, subst, get_or-set_other}
 use Rattle.std.proofs.lemmas.Bool.Decides.{eqb_tells}
+use Rattle.std.proofs.lemmas.List.{map-append}
 use Rattle.std.proofs.lemmas.List.Elements.{All-head, All-tail}
-use Rattle.std.proofs.lemmas.List.Sums.{sum_by-cons}
+use Rattle.std.proofs.lemmas.List.Sums.{sum_by-append, sum_by-cons}
 use Rattle.std.specs.Cmp.{IsTotalOrder}
 use Rattle.std.specs.declared.cmp.Ordering.{Ordering}
 use Rattle.std.specs.List.{All}
 use Rattle.sdd_world.specs.Frame.{has_owner}
+use Rattle.sdd_world.specs.Place.{AddsOwners}
 use Rattle.sdd_world.specs.State.{IsFree, State, status_at, value_at}
 use Rattle.sdd_world.specs.Steps.{hit, times}
-use Rattle.sdd_world.specs.Tokens.{loaded_slot}
-use Rattle.sdd_world.specs.declared.pointer.Loaded.{Loaded}
 use Rattle.sdd_world.specs.declared.status.Status.TheVariants as status
+use Rattle.sdd_world.proofs.FrameLemmas.{keeps_added}
+use Rattle.sdd_world.proofs.KeepingLemmas.{adds_others}
 use Rattle.sdd_world.proofs.ListLemmas.{hit-same, hit-other}
-use Rattle.tree_index.proofs.WayLemmas.{some_same}
 use Rattle.version_views.specs.Cuts.{IsCut}
-use Rattle.version_drafts.specs.Parts.{blocks_of_parts, makes, part_pairs}
-use Rattle.local_versions.specs.Placing.{CanBeShared, HasPlaced, IsTakeable, StandsIn, pairs_in_slot, named_at, slots_in, taken_slots}
 use Rattle.version_views.specs.Versions.{IsSegment, segment_pairs}
+use Rattle.version_views.specs.declared.item.Item.{Item}
+use Rattle.version_drafts.specs.Parts.{between, blocks_of_parts, makes, part_blocks}
 use Rattle.version_drafts.specs.declared.segments.Part.{Part}
 use Rattle.version_drafts.specs.declared.segments.Part.TheVariants as parts
-use Rattle.version_views.specs.declared.item.Item.{Item}
+use Rattle.version_drafts.proofs.StretchLemmas.{between_map}
+use Rattle.local_versions.specs.Placing.{HasPlaced, IsTakeable, StandsIn, part_slots, taken_slots}
 use Rattle.local_versions.proofs.OnceLemmas.{once_by, slots_by}
 use Rattle.local_versions.proofs.PlacingLemmas.{stands_more, stands_taken}
 
--- a slot more
-slot_among : (i j : ℕ) (q : Option ℕ) (is : List ℕ) → q ≡ Some j → times i (slots_in q is) ≡ hit j i + times i is
-slot_among i j q is e = ap (λ (r : Option ℕ). times i (slots_in r is)) e ∙ sum_by-cons (λ k. hit k i) j is
+-- ---- slots that are named
+
+named_times : (xs : List ℕ) (x d : ℕ) → x < length xs → 1 ≤ times (get_or xs x d) xs
+named_times [] x d h = absurd (omega (arith, h))
+named_times (y ∷ xs) zero d h = let sum = sum_by-cons (λ k. hit k y) y xs in let one = hit-same y in omega (arith, sum, one)
+named_times (y ∷ xs) (suc x) d h = let sum = sum_by-cons (λ k. hit k (get_or xs x d)) y xs in let rest = named_times xs x d (omega (arith, h)) in omega (arith, sum, rest)
+
+all_named : (P : ℕ → Type 0) (xs : List ℕ) (i : ℕ) → All P xs → 1 ≤ times i xs → P i
+all_named P [] i all h = absurd (omega (arith, h))
+all_named P (x ∷ xs) i all h = elim (eqb_tells x i) [
+  | inl e ↦ subst P e.1 (All-head P x xs all)
+  | inr e ↦ let sum = sum_by-cons (λ k. hit k i) x xs in let other = hit-other x i (λ g. e.1 (sym g)) in all_named P xs i (All-tail P x xs all) (omega (arith, h, sum, other))
+]
+
+pub times_both : (i : ℕ) (xs ys : List ℕ) → times i (xs ++ ys) ≡ times i xs + times i ys
+times_both i xs ys = sum_by-append (λ k. hit k i) xs ys
 
 module _ {K V : Type 0} {s : ℕ} where
   module _ (u : State (Item K V s)) where
-    shared_of : (i : ℕ) (ps : List (Part K V (Loaded (Item K V s)))) → All (IsTakeable u) ps → 1 ≤ times i (taken_slots ps) → CanBeShared u i
-    shared_of i [] all h = absurd (omega (arith, h))
-    shared_of i (parts.Made t ∷ ps) all h = shared_of i ps (All-tail (IsTakeable u) (parts.Made t) ps all) h
-    shared_of i (parts.Taken p ∷ ps) all h =
-        let here = All-head (IsTakeable u) (parts.Taken p) ps all in
-        let sum = slot_among i here.0 (loaded_slot p) (taken_slots ps) here.1 in
-        elim (eqb_tells here.0 i) [
-          | inl e ↦ subst (CanBeShared u) e.1 here.2
-          | inr e ↦ let other = hit-other here.0 i (λ g. e.1 (sym g)) in shared_of i ps (All-tail (IsTakeable u) (parts.Taken p) ps all) (omega (arith, h, sum, other))
-        ]
+    abbrev pairs_there : ℕ → List (K × V)
+    pairs_there i = segment_pairs (value_at u i)
 
-    module _ (n : ℕ) (v : State (Item K V s)) (xs : List ℕ) (bs : List (List (K × V))) (st : StandsIn n xs bs u v) (ps : List (Part K V (Loaded (Item K V s)))) where
-      -- what was there is there
-      pub takeable_still : (p : Part K V (Loaded (Item K V s))) → ((i : ℕ) → 1 ≤ times i (taken_slots (p ∷ ps)) → status_at v i ≡ status_at u i) → IsTakeable u p → IsTakeable v p
-      takeable_still (parts.Made t) still there = tt
-      takeable_still (parts.Taken p) still there =
-          let i = there.0 in
-          let can = there.2 in
-          let sum = slot_among i i (loaded_slot p) (taken_slots ps) there.1 in
-          let one = hit-same i in
-          let was = still i (omega (arith, sum, one)) in
-          let long = st.adds.keeps.states in
-          let inside = can.inside in (
-            i,
-            there.1,
-            record { inside = omega (arith, long, inside); owners = can.owners; is = was ∙ can.is; room = can.room },
-            subst (λ (o : Option (Item K V s)). IsSegment o) (sym (st.adds.keeps.lives i (ap has_owner can.is))) there.3,
-          )
+    -- segments that were there stand with those before them
+    stands_row : (n : ℕ) (ys xs : List ℕ) (bs : List (List (K × V))) (v w : State (Item K V s)) → All (IsTakeable u) ys → StandsIn n xs bs u v → AddsOwners ys v w → StandsIn n (xs ++ ys) (bs ++ map pairs_there ys) u w
+    stands_row n [] xs bs v w all st h = subst (λ zs. StandsIn n zs (bs ++ []) u w) (sym (append-nil xs)) (subst (λ cs. StandsIn n xs cs u w) (sym (append-nil bs)) (subst (λ (y : State (Item K V s)). StandsIn n xs bs u y) (sym h) st))
+    stands_row n (y ∷ ys) xs bs v w all st h =
+        let here = All-head (IsTakeable u) y ys all in
+        let value = st.adds.keeps.lives y (ap has_owner here.shared.is) in
+        let long = st.adds.keeps.states in
+        let inside = here.shared.inside in
+        let one = stands_taken n u v h.0 xs bs y h.1.0 st (omega (arith, long, inside)) h.1.1 (subst (λ (o : Option (Item K V s)). IsSegment o) (sym value) here.segment) h.1.2 (keeps_added (y ∷ []) v h.0 (h.0, h.1, refl)) in
+        let same = ap (λ (o : Option (Item K V s)). segment_pairs o) value in
+        let one' = subst (λ (b : List (K × V)). StandsIn n (xs ++ y ∷ []) (bs ++ b ∷ []) u h.0) same one in
+        let rest = stands_row n ys (xs ++ y ∷ []) (bs ++ pairs_there y ∷ []) h.0 w (All-tail (IsTakeable u) y ys all) one' h.2 in
+        subst (λ zs. StandsIn n zs (bs ++ pairs_there y ∷ map pairs_there ys) u w) (append_assoc xs (y ∷ []) ys) (subst (λ cs. StandsIn n ((xs ++ y ∷ []) ++ ys) cs u w) (append_assoc bs (pairs_there y ∷ []) (map pairs_there ys)) rest)
 
-      module _ (w : State (Item K V s)) (i : ℕ) where
-        -- one part more is placed
-        pub stands_part : (p : Part K V (Loaded (Item K V s))) → IsTakeable u p → HasPlaced p i v w → StandsIn (n + makes p) (xs ++ i ∷ []) (bs ++ part_pairs (named_at (value_at u)) p ∷ []) u w
-        stands_part (parts.Made t) there h = stands_more n u v w xs bs i t.value st h.0 h.1 h.2 h.3
-        stands_part (parts.Taken p) there h =
-            let same : there.0 ≡ i = some_same (sym there.1 ∙ h.0) in
-            let can : CanBeShared u i = subst (CanBeShared u) same there.2 in
-            let segment : IsSegment (value_at u i) = subst (λ (k : ℕ). IsSegment (value_at u k)) same there.3 in
-            let value = st.adds.keeps.lives i (ap has_owner can.is) in
+    module _ (slots : List ℕ) where
+      abbrev blocks : List (List (K × V))
+      blocks = map pairs_there slots
+
+      -- one part more is placed
+      pub stands_part : (n : ℕ) (v w : State (Item K V s)) (xs ys : List ℕ) (bs : List (List (K × V))) → StandsIn n xs bs u v → (p : Part K V) → All (IsTakeable u) (part_slots slots p) → HasPlaced slots p ys v w → StandsIn (n + makes p) (xs ++ ys) (bs ++ part_blocks blocks p) u w
+      stands_part n v w xs ys bs st (parts.Made t) there h = subst (λ zs. StandsIn (n + 1) (xs ++ zs) (bs ++ t.value.pairs ∷ []) u w) (sym h.1) (stands_more n u v w xs bs h.0 t.value st h.2 h.3 h.4 h.5)
+      stands_part n v w xs ys bs st (parts.Taken from upto) there h =
+          let none : n + 0 ≡ n = omega arith in
+          let whole = stands_row n ys xs bs v w (subst (All (IsTakeable u)) (sym h.0) there) st h.1 in
+          let same : map pairs_there ys ≡ between from upto blocks = ap (map pairs_there) h.0 ∙ between_map pairs_there from upto slots in
+          subst (λ (m : ℕ). StandsIn m (xs ++ ys) (bs ++ between from upto blocks) u w) (sym none) (subst (λ cs. StandsIn n (xs ++ ys) (bs ++ cs) u w) same whole)
+
+      module _ (n : ℕ) (v : State (Item K V s)) (xs : List ℕ) (bs : List (List (K × V))) (st : StandsIn n xs bs u v) (p : Part K V) (ps : List (Part K V)) (still : (i : ℕ) → 1 ≤ times i (taken_slots slots (p ∷ ps)) → status_at v i ≡ status_at u i) where
+        taken_still : (i : ℕ) → status_at v i ≡ status_at u i → IsTakeable u i → IsTakeable v i
+        taken_still i was there =
+            let can = there.shared in
             let long = st.adds.keeps.states in
             let inside = can.inside in
-            let pairs : segment_pairs (value_at v i) ≡ named_at (value_at u) p = ap (λ (o : Option (Item K V s)). segment_pairs o) value ∙ sym (ap (λ (q : Option ℕ). pairs_in_slot (value_at u) q) h.0) in
-            let none : n + 0 ≡ n = omega arith in
-            let whole = stands_taken n u v w xs bs i h.1 st (omega (arith, long, inside)) h.2 (subst (λ (o : Option (Item K V s)). IsSegment o) (sym value) segment) h.3 h.4 in
-            subst (λ (m : ℕ). StandsIn m (xs ++ i ∷ []) (bs ++ named_at (value_at u) p ∷ []) u w) (sym none) (subst (λ (b : List (K × V)). StandsIn n (xs ++ i ∷ []) (bs ++ b ∷ []) u w) pairs whole)
+            record {
+              shared = record { inside = omega (arith, long, inside); owners = can.owners; is = was ∙ can.is; room = can.room };
+              segment = subst (λ (o : Option (Item K V s)). IsSegment o) (sym (st.adds.keeps.lives i (ap has_owner can.is))) there.segment;
+            }
 
-        free_apart : (j : ℕ) → IsFree v i → CanBeShared u j → status_at v j ≡ status_at u j → j ≢ i
-        free_apart j free can was e = no_free can.owners (sym free.1 ∙ (ap (λ (k : ℕ). status_at v k) (sym e) ∙ (was ∙ can.is)))
+        -- what can be taken over still can
+        pub takeable_still : All (IsTakeable u) (part_slots slots p) → All (IsTakeable v) (part_slots slots p)
+        takeable_still all k d h =
+            let i = get_or (part_slots slots p) k d in
+            let here = named_times (part_slots slots p) k d h in
+            let both = times_both i (part_slots slots p) (taken_slots slots ps) in
+            taken_still i (still i (omega (arith, here, both))) (all k d h)
+
+        free_apart : (i j : ℕ) → IsFree v i → IsTakeable u j → status_at v j ≡ status_at u j → j ≢ i
+        free_apart i j free there was e = no_free there.shared.owners (sym free.1 ∙ (ap (λ (k : ℕ). status_at v k) (sym e) ∙ (was ∙ there.shared.is)))
           where
             no_free : (m : ℕ) → status.Free ≡ status.Shared m → ⊥
             no_free m e = cc
 
         -- those that are yet to be taken over have their owners
-        pub owners_still : (p : Part K V (Loaded (Item K V s))) → All (IsTakeable u) ps → ((j : ℕ) → times j (taken_slots (p ∷ ps)) ≤ 1) → ((j : ℕ) → 1 ≤ times j (taken_slots (p ∷ ps)) → status_at v j ≡ status_at u j) → HasPlaced p i v w → (j : ℕ) → 1 ≤ times j (taken_slots ps) → status_at w j ≡ status_at u j
-        owners_still (parts.Made t) all once still h j some =
-            let was = still j some in
-            let apart = free_apart j h.1 (shared_of j ps all some) was in
-            ap (λ (x : State (Item K V s)). status_at x j) h.2 ∙ (get_or-set_other v.states i j (status.Shared 1) status.Free apart ∙ was)
-        owners_still (parts.Taken p) all once still h j some =
-            let sum = slot_among j i (loaded_slot p) (taken_slots ps) h.0 in
-            let one = once j in
-            let apart : j ≢ i = λ e. let same = ap (λ k. hit k j) (sym e) in let hits = hit-same j in omega (arith, sum, one, some, same, hits) in
-            let was = still j (omega (arith, sum, some)) in
-            ap (λ (x : State (Item K V s)). status_at x j) h.3 ∙ (get_or-set_other v.states i j (status.Shared (h.1 + 1)) status.Free apart ∙ was)
+        pub owners_still : (w : State (Item K V s)) (ys : List ℕ) → All (IsTakeable u) (taken_slots slots ps) → ((j : ℕ) → times j (taken_slots slots (p ∷ ps)) ≤ 1) → HasPlaced slots p ys v w → (j : ℕ) → 1 ≤ times j (taken_slots slots ps) → status_at w j ≡ status_at u j
+        owners_still w ys all once h j some =
+            let both = times_both j (part_slots slots p) (taken_slots slots ps) in
+            let was = still j (omega (arith, both, some)) in
+            placed_still p h (let one = once j in omega (arith, one, both, some)) was
+          where
+            placed_still : (q : Part K V) → HasPlaced slots q ys v w → times j (part_slots slots q) ≡ 0 → status_at v j ≡ status_at u j → status_at w j ≡ status_at u j
+            placed_still (parts.Made t) h none was = ap (λ (x : State (Item K V s)). status_at x j) h.4 ∙ (get_or-set_other v.states h.0 j (status.Shared 1) status.Free (free_apart h.0 j h.3 (all_named (IsTakeable u) (taken_slots slots ps) j all some) was) ∙ was)
+            placed_still (parts.Taken from upto) h none was = adds_others ys v w j h.1 (ap (times j) h.0 ∙ none) ∙ was
 
-      pub once_rest : (p : Part K V (Loaded (Item K V s))) → ((j : ℕ) → times j (taken_slots (p ∷ ps)) ≤ 1) → IsTakeable u p → (j : ℕ) → times j (taken_slots ps) ≤ 1
-      once_rest (parts.Made t) once there j = once j
-      once_rest (parts.Taken p) once there j = let sum = slot_among j there.0 (loaded_slot p) (taken_slots ps) there.1 in let one = once j in omega (arith, sum, one)
+-- ---- no segment is taken over twice
 
-  -- no segment is taken over twice
-  part_slot : Part K V (Loaded (Item K V s)) → Option ℕ
-  part_slot (parts.Taken p) = loaded_slot p
-  part_slot (parts.Made t) = None
+module _ {K V : Type 0} where
+  abbrev unit_slot : ℕ ⊎ List (K × V) → Option ℕ
+  unit_slot (inl i) = Some i
+  unit_slot (inr b) = None
 
-  slots_taken : (ps : List (Part K V (Loaded (Item K V s)))) → slots_by part_slot ps ≡ taken_slots ps
-  unfolding part_slot
-  slots_taken [] = refl
-  slots_taken (parts.Taken p ∷ ps) = ap (λ is. slots_in (loaded_slot p) is) (slots_taken ps)
-  slots_taken (parts.Made t ∷ ps) = slots_taken ps
+  abbrev unit_pairs : (ℕ → List (K × V)) → ℕ ⊎ List (K × V) → List (K × V)
+  unit_pairs at (inl i) = at i
+  unit_pairs at (inr b) = b
 
-  named_slot : (at : ℕ → Option (Item K V s)) (p : Part K V (Loaded (Item K V s))) (i : ℕ) → part_slot p ≡ Some i → part_pairs (named_at at) p ≡ segment_pairs (at i)
-  unfolding part_slot
-  named_slot at (parts.Taken p) i e = ap (λ (q : Option ℕ). pairs_in_slot at q) e
-  named_slot at (parts.Made t) i e = cc
+  abbrev units : List ℕ → List (Part K V) → List (ℕ ⊎ List (K × V))
+  units slots [] = []
+  units slots (parts.Taken from upto ∷ ps) = map inl (between from upto slots) ++ units slots ps
+  units slots (parts.Made t ∷ ps) = inr t.value.pairs ∷ units slots ps
 
-  pub taken_once : (cmp : K → K → Ordering) (o : IsTotalOrder cmp) (at : ℕ → Option (Item K V s)) (ps : List (Part K V (Loaded (Item K V s)))) (keys : List K) → IsCut cmp s (blocks_of_parts (named_at at) ps) keys → (j : ℕ) → times j (taken_slots ps) ≤ 1
-  taken_once cmp o at ps keys cut j = subst (λ ys. times j ys ≤ 1) (slots_taken ps) (once_by cmp o s part_slot (part_pairs (named_at at)) (λ i. segment_pairs (at i)) (named_slot at) ps cut.sizes cut.rising j)
+  slots_taken : (slots : List ℕ) (ps : List (Part K V)) → slots_by unit_slot (units slots ps) ≡ taken_slots slots ps
+  slots_taken slots [] = refl
+  slots_taken slots (parts.Taken from upto ∷ ps) = row (between from upto slots) ∙ ap (λ is. between from upto slots ++ is) (slots_taken slots ps)
+    where
+      row : (xs : List ℕ) → slots_by unit_slot (map inl xs ++ units slots ps) ≡ xs ++ slots_by unit_slot (units slots ps)
+      row [] = refl
+      row (x ∷ xs) = ap (λ is. x ∷ is) (row xs)
+  slots_taken slots (parts.Made t ∷ ps) = slots_taken slots ps
+
+  blocks_taken : (at : ℕ → List (K × V)) (slots : List ℕ) (ps : List (Part K V)) → map (unit_pairs at) (units slots ps) ≡ blocks_of_parts (map at slots) ps
+  blocks_taken at slots [] = refl
+  blocks_taken at slots (parts.Taken from upto ∷ ps) =
+      map-append (unit_pairs at) (map inl (between from upto slots)) (units slots ps)
+      ∙ (ap (λ bs. bs ++ map (unit_pairs at) (units slots ps)) (row (between from upto slots) ∙ between_map at from upto slots)
+      ∙ ap (λ bs. between from upto (map at slots) ++ bs) (blocks_taken at slots ps))
+    where
+      row : (xs : List ℕ) → map (unit_pairs at) (map inl xs) ≡ map at xs
+      row [] = refl
+      row (x ∷ xs) = ap (λ bs. at x ∷ bs) (row xs)
+  blocks_taken at slots (parts.Made t ∷ ps) = ap (λ bs. t.value.pairs ∷ bs) (blocks_taken at slots ps)
+
+  named_unit : (at : ℕ → List (K × V)) (x : ℕ ⊎ List (K × V)) (i : ℕ) → unit_slot x ≡ Some i → unit_pairs at x ≡ at i
+  named_unit at (inl j) i e = let same : j ≡ i = cc in ap at same
+  named_unit at (inr b) i e = absurd (cc)
+
+  pub taken_once : {s : ℕ} (cmp : K → K → Ordering) (o : IsTotalOrder cmp) (at : ℕ → List (K × V)) (slots : List ℕ) (ps : List (Part K V)) {keys : List K} → IsCut cmp s (blocks_of_parts (map at slots) ps) keys → (j : ℕ) → times j (taken_slots slots ps) ≤ 1
+  taken_once {s} cmp o at slots ps {keys} cut j =
+      let cut' = subst (λ bs. IsCut cmp s bs keys) (sym (blocks_taken at slots ps)) cut in
+      subst (λ ys. times j ys ≤ 1) (slots_taken slots ps) (once_by cmp o s unit_slot (unit_pairs at) at (named_unit at) (units slots ps) cut'.sizes cut'.rising j)

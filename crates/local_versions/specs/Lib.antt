@@ -1,4 +1,3 @@
-pub mod Built
 pub mod Placing
 pub mod Reclaiming
 pub mod Staying

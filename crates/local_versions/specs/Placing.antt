@@ -1,25 +1,26 @@
 -- what placing a version makes of a place
-use Rattle.std.specs.Prelude.{◌≡◌, ℕ, ◌+◌, ◌<◌, ◌≤◌, ◌∷◌, ◌++◌, List, [], map, length, reverse, sum_by, Option, None, Some, cond, nat_lt}
+use Rattle.std.specs.Prelude.{◌≡◌, ℕ, ◌+◌, ◌<◌, ◌≤◌, ◌∷◌, ◌++◌, List, [], map, length, reverse, sum_by, IfSome, Option, None, Some}
 use Rattle.std.specs.declared.cmp.Ordering.{Ordering}
 use Rattle.std.specs.List.{All}
 use Rattle.sdd_world.specs.Counting.{Counted}
 use Rattle.sdd_world.specs.Frame.{Frame, IsLive}
 use Rattle.sdd_world.specs.Holding.{Hold, SharedItem}
 use Rattle.sdd_world.specs.Passing.{IsPlain}
-use Rattle.sdd_world.specs.Place.{IsPlace, IsShared}
-use Rattle.sdd_world.specs.State.{IsFree, State, in_use, placed, status_at, vacancy, value_at, with_cell, with_status}
+use Rattle.sdd_world.specs.Place.{AddsOwners, IsPlace, IsShared, kept_at}
+use Rattle.sdd_world.specs.State.{IsFree, State, in_use, placed, status_at, vacancy, value_at, with_cell}
 use Rattle.sdd_world.specs.Steps.{released, times}
 use Rattle.sdd_world.specs.Tokens.{loaded_slot}
 use Rattle.sdd_world.specs.declared.pointer.Loaded.{Loaded}
 use Rattle.sdd_world.specs.declared.status.Cell.TheVariants as cell
 use Rattle.sdd_world.specs.declared.status.Status.TheVariants as status
 use Rattle.sdd_world.specs.declared.tag.Tag.TheVariants as tag
-use Rattle.version_views.specs.Cuts.{IsCut, pairs_in}
-use Rattle.version_views.specs.Items.{held_by, slots_of}
+use Rattle.version_views.specs.Cuts.{IsCut}
+use Rattle.version_views.specs.Items.{held_by, slots_kept, slots_of}
 use Rattle.version_views.specs.Versions.{IsSegment, IsVersion, segment_pairs, list_of}
 use Rattle.sdd_world.specs.declared.owner.Kept.{Kept}
 use Rattle.version_views.specs.declared.directory.Directory.{Directory}
-use Rattle.version_drafts.specs.Parts.{blocks_of_parts, made_in}
+pub use Rattle.version_drafts.specs.Drafts.{Plan, blocks_planned, list_planned, slots_for}
+use Rattle.version_drafts.specs.Parts.{LiesWithin, between}
 use Rattle.version_drafts.specs.declared.segments.Part.{Part}
 use Rattle.version_drafts.specs.declared.segments.Part.TheVariants as parts
 use Rattle.version_views.specs.declared.item.Item.{Item}
@@ -30,40 +31,28 @@ abbrev pub slots_in : Option ℕ → List ℕ → List ℕ
 slots_in None is = is
 slots_in (Some i) is = i ∷ is
 
+-- the slot that a pointer names, where there is one
+abbrev pub older_slot : {T : Type 0} → Option (Loaded T) → Option ℕ
+older_slot None = None
+older_slot (Some at) = loaded_slot at
+
 module _ {K V : Type 0} {s : ℕ} where
-  -- the pairs of the segment in a slot, where these items are in the slots
-  abbrev pub pairs_in_slot : (ℕ → Option (Item K V s)) → Option ℕ → List (K × V)
-  pairs_in_slot at None = []
-  pairs_in_slot at (Some i) = segment_pairs (at i)
+  -- the slots of the segments of a version, where this is its slot, or there is none, and the pairs of the segments
+  abbrev pub slots_at : State (Item K V s) → Option ℕ → List ℕ
+  slots_at w older = kept_at slots_kept w older
 
-  -- those of the segment that a pointer names
-  abbrev pub named_at : (ℕ → Option (Item K V s)) → Loaded (Item K V s) → List (K × V)
-  named_at at p = pairs_in_slot at (loaded_slot p)
+  abbrev pub blocks_at : State (Item K V s) → Option ℕ → List (List (K × V))
+  blocks_at w older = map (λ i. segment_pairs (value_at w i)) (slots_at w older)
 
-  -- where the slot is one of these
-  abbrev pub in_one_of : List ℕ → (ℕ → Option (Item K V s)) → Option ℕ → List (K × V)
-  in_one_of slots at None = []
-  in_one_of slots at (Some i) = cond (nat_lt 0 (times i slots)) (segment_pairs (at i)) []
+module _ {K V : Type 0} where
+  -- the slots of the segments that a part takes over, where the older version has these, and that parts do
+  abbrev pub part_slots : List ℕ → Part K V → List ℕ
+  part_slots slots (parts.Taken from upto) = between from upto slots
+  part_slots slots (parts.Made t) = []
 
-  abbrev pub named_among : List ℕ → (ℕ → Option (Item K V s)) → Loaded (Item K V s) → List (K × V)
-  named_among slots at p = in_one_of slots at (loaded_slot p)
-
--- the version that another one is built of, and its place
-pub record Base (K V : Type 0) (s : ℕ) : Type 0 where
-  pub state : State (Item K V s)
-  pub directory : Directory K Kept
-
--- a version to be placed: the number of its list, and its segments, of which some are taken over from an older one; the
--- greatest key of each but the last; how many pairs there are
-pub record Plan (K V : Type 0) (s : ℕ) : Type 0 where
-  pub number : ℕ
-  pub parts : List (Part K V (Loaded (Item K V s)))
-  pub separators : List K
-  pub length : ℕ
-
--- how many slots it takes: one for each new segment, and one for the directory
-abbrev pub slots_for : {K V : Type 0} {s : ℕ} → Plan K V s → ℕ
-slots_for p = made_in p.parts + 1
+  abbrev pub taken_slots : List ℕ → List (Part K V) → List ℕ
+  taken_slots slots [] = []
+  taken_slots slots (p ∷ ps) = part_slots slots p ++ taken_slots slots ps
 
 module _ {K V : Type 0} {s : ℕ} where
   abbrev pub IsNoDirectory : Option (Item K V s) → Type 0
@@ -93,10 +82,6 @@ module _ {K V : Type 0} {s : ℕ} where
     pub plain : IsPlain w → IsPlain w'
     pub levelled : (hand : List Hold) → Counted held_by hand w → IsLevelled w → IsLevelled w'
 
-  -- the list of a version to be placed
-  abbrev pub list_planned : (ℕ → Option (Item K V s)) → Plan K V s → List (K × V)
-  list_planned at p = pairs_in (blocks_of_parts (named_at at) p.parts)
-
   -- an item with owners, of which there may be one more
   pub record CanBeShared (w : State (Item K V s)) (i : ℕ) : Type 0 where
     pub inside : i < length w.states
@@ -104,36 +89,37 @@ module _ {K V : Type 0} {s : ℕ} where
     pub is : status_at w i ≡ status.Shared owners
     pub room : owners < 4294967295
 
-  -- a new segment, or one that is there
-  abbrev pub IsTakeable : State (Item K V s) → Part K V (Loaded (Item K V s)) → Type 0
-  IsTakeable w (parts.Taken p) = (i : ℕ) × (loaded_slot p ≡ Some i) × CanBeShared w i × IsSegment (value_at w i)
-  IsTakeable w (parts.Made t) = Unit {0}
+  -- a segment with owners, of which there may be one more
+  pub record IsTakeable (w : State (Item K V s)) (i : ℕ) : Type 0 where
+    pub shared : CanBeShared w i
+    pub segment : IsSegment (value_at w i)
 
-  -- the slots of the segments that are taken over
-  abbrev pub taken_slots : List (Part K V (Loaded (Item K V s))) → List ℕ
-  taken_slots [] = []
-  taken_slots (parts.Taken p ∷ ps) = slots_in (loaded_slot p) (taken_slots ps)
-  taken_slots (parts.Made t ∷ ps) = taken_slots ps
+  -- the older version in a slot has an owner, and has the stretches; their segments can be taken over
+  pub record CanTakeOver (w : State (Item K V s)) (older : Option ℕ) (ps : List (Part K V)) : Type 0 where
+    pub live : IfSome older (IsLive w)
+    pub within : All (LiesWithin (length (slots_at w older))) ps
+    pub segments : All (IsTakeable w) (taken_slots (slots_at w older) ps)
 
-  -- a version that can be placed: its segments are cut as they should be, and those that it takes over are there
-  pub record IsPlaceable (cmp : K → K → Ordering) (w : State (Item K V s)) (p : Plan K V s) : Type 0 where
-    pub cut : IsCut cmp s (blocks_of_parts (named_at (value_at w)) p.parts) p.separators
-    pub counted : p.length ≡ length (list_planned (value_at w) p)
-    pub there : All (IsTakeable w) p.parts
+  -- a version that can be placed beside the older one in this slot: its segments are cut as they should be, and those that it
+  -- takes over are there
+  pub record IsPlaceable (cmp : K → K → Ordering) (w : State (Item K V s)) (older : Option ℕ) (p : Plan K V s) : Type 0 where
+    pub cut : IsCut cmp s (blocks_planned (blocks_at w older) p) p.separators
+    pub counted : p.length ≡ length (list_planned (blocks_at w older) p)
+    pub there : CanTakeOver w older p.parts
 
   -- the list of a version that takes nothing over
   abbrev pub list_alone : Plan K V s → List (K × V)
-  list_alone p = list_planned (λ i. None) p
+  list_alone p = list_planned [] p
 
   -- a version that takes nothing over: it can be placed anywhere, and its list doesn't depend on what is there
   pub record StandsAlone (cmp : K → K → Ordering) (p : Plan K V s) : Type 0 where
-    pub placeable : (w : State (Item K V s)) → IsPlaceable cmp w p
-    pub list : (at : ℕ → Option (Item K V s)) → list_planned at p ≡ list_alone p
+    pub placeable : (w : State (Item K V s)) → IsPlaceable cmp w None p
+    pub list : (blocks : List (List (K × V))) → list_planned blocks p ≡ list_alone p
 
-  -- a part of a version is placed in a slot: a new segment, or one that was there and has one more owner
-  abbrev pub HasPlaced : Part K V (Loaded (Item K V s)) → ℕ → State (Item K V s) → State (Item K V s) → Type 0
-  HasPlaced (parts.Taken p) i w w' = (loaded_slot p ≡ Some i) × (n : ℕ) × (status_at w i ≡ status.Shared n) × (w' ≡ with_status i (status.Shared (n + 1)) w) × Frame w w'
-  HasPlaced (parts.Made t) i w w' = IsPlace w × IsFree w i × (w' ≡ placed i (items.Segment t.value) (status.Shared 1) w) × Frame w w'
+  -- a part of a version is placed in slots: a new segment, or segments that were there and have one more owner each
+  abbrev pub HasPlaced : List ℕ → Part K V → List ℕ → State (Item K V s) → State (Item K V s) → Type 0
+  HasPlaced slots (parts.Taken from upto) xs w w' = (xs ≡ between from upto slots) × AddsOwners xs w w'
+  HasPlaced slots (parts.Made t) xs w w' = (i : ℕ) × (xs ≡ i ∷ []) × IsPlace w × IsFree w i × (w' ≡ placed i (items.Segment t.value) (status.Shared 1) w) × Frame w w'
 
   -- segments with these pairs are in these slots, n of which are new, and their owners are in hand
   pub record StandsIn (n : ℕ) (slots : List ℕ) (blocks : List (List (K × V))) (w w' : State (Item K V s)) : Type 0 where
@@ -151,10 +137,10 @@ module _ {K V : Type 0} {s : ℕ} where
     pub numbered : directory.number ≡ number
     pub list : list_of (value_at w) directory ≡ pairs
 
-  -- the version is placed, and its one owner is in hand
-  pub record Places (cmp : K → K → Ordering) (plan : Plan K V s) (slot : ℕ) (w w' : State (Item K V s)) : Type 0 where
+  -- the version is placed beside the older one in a slot, and its one owner is in hand
+  pub record Places (cmp : K → K → Ordering) (older : Option ℕ) (plan : Plan K V s) (slot : ℕ) (w w' : State (Item K V s)) : Type 0 where
     pub adds : AddsItems (slots_for plan) w w'
-    pub version : HasVersion cmp w' slot plan.number (list_planned (value_at w) plan)
+    pub version : HasVersion cmp w' slot plan.number (list_planned (blocks_at w older) plan)
     pub shared : IsShared w' slot
     pub counted : (hand : List Hold) → Counted held_by hand w → Counted held_by (SharedItem slot ∷ hand) w'
 

@@ -1,14 +1,13 @@
 //! Placing versions, and publishing them.
 
-ghost use Rattle.std.specs.Prelude.{◌≡◌, ◌<◌, ◌≤◌, ◌+◌, [], ℕ, Option, None, Some, IfOk, IfErr, IsOk, OnErr, length, sum_by, vec_capacity, map};
+ghost use Rattle.std.specs.Prelude.{◌≡◌, ◌<◌, ◌≤◌, ◌+◌, ◌++◌, ◌∷◌, [], ℕ, List, Option, None, Some, IfOk, IfErr, IsOk, OnErr, length, sum_by, vec_capacity, map};
 ghost use Rattle.sdd_world.specs.Frame.{Frame, OnlyParticipant};
 ghost use Rattle.sdd_world.specs.Place.{IsShared, IsSharedCell};
-ghost use Rattle.sdd_world.specs.State.{IsFree, cell_at, placed, status_at, vacancy, value_at, with_status};
-ghost use Rattle.sdd_world.specs.Tokens.{kept_slot, loaded_slot, shared_cell, shared_slot};
-ghost use Rattle.std.specs.List.{All};
+ghost use Rattle.sdd_world.specs.State.{IsFree, cell_at, placed, vacancy};
+ghost use Rattle.sdd_world.specs.Tokens.{kept_slot, shared_cell, shared_slot};
 ghost use Rattle.sdd_world.specs.Steps.{times};
-ghost use Rattle.version_drafts.specs.Parts.{blocks_of_parts, made_in, makes};
-ghost use Rattle.local_versions.specs.Placing.{CanBeShared, HasPlaced, IsPlaceable, IsTakeable, Places, StandsIn, named_at, root_set, slots_for, taken_slots};
+ghost use Rattle.version_drafts.specs.Parts.{blocks_of_parts, made_in, makes, segments_in, segments_of};
+ghost use Rattle.local_versions.specs.Placing.{CanTakeOver, HasPlaced, IsPlaceable, Places, StandsIn, blocks_at, older_slot, part_slots, root_set, slots_at, slots_for, taken_slots};
 
 use crate::built::Built;
 use sdd_world::cell::AtomicShared;
@@ -21,15 +20,16 @@ use sdd_world::world::{World, atomic_shared, shared};
 use version_drafts::draft::{Part, Segments};
 use version_views::{Directory, Item, Segment};
 
-/// Places a version: its new segments, and then its directory, which owns them and those that it takes over. It takes no
-/// memory, and succeeds if as many slots are free as it takes; else nothing has changed, and the version is returned.
-/// Condition: the segments that it takes over are there.
+/// Places a version: its new segments, and then its directory, which owns them and those that it takes over of the older
+/// version that `older` names. It takes no memory, and succeeds if as many slots are free as it takes; else nothing has
+/// changed, and the version is returned. Condition: the segments that it takes over are there.
 pub fn place<K: Ord + Drop, V: Drop, const S: usize>(
     w: &mut World<Item<K, V, S>, NoJob>,
     built: Built<K, V, S>,
+    older: Option<Loaded<Item<K, V, S>>>,
 ) -> Result<Shared<Item<K, V, S>>, Built<K, V, S>>
-    requires { IsPlaceable K.cmp w.old built }
-    ensures placed { IfOk result (λ root. Places K.cmp built (shared_slot root) w.old w.new) }
+    requires { IsPlaceable K.cmp w.old (older_slot older) built }
+    ensures placed { IfOk result (λ root. Places K.cmp (older_slot older) built (shared_slot root) w.old w.new) }
     ensures room { slots_for built ≤ sum_by vacancy w.old.states → IsOk result }
     ensures back { IfErr result (λ b. b ≡ built) }
     ensures refused { OnErr result (w.new ≡ w.old) }
@@ -44,7 +44,7 @@ pub fn place<K: Ord + Drop, V: Drop, const S: usize>(
         separators,
         length,
     } = segments;
-    let segments = place_parts(w, parts, owners);
+    let segments = place_parts(w, parts, older, owners);
     w.laws();
     let directory = Directory::new(number, length, segments, separators);
     match shared::new(w, Item::Directory(directory)) {
@@ -56,52 +56,46 @@ pub fn place<K: Ord + Drop, V: Drop, const S: usize>(
 /// Places new segments and takes the others over, and keeps the owners of all.
 fn place_parts<K: Ord + Drop, V: Drop, const S: usize>(
     w: &mut World<Item<K, V, S>, NoJob>,
-    parts: Vec<Part<K, V, Loaded<Item<K, V, S>>>>,
+    parts: Vec<Part<K, V>>,
+    older: Option<Loaded<Item<K, V, S>>>,
     mut owners: Vec<Kept>,
 ) -> Vec<Kept>
     requires empty { owners.items ≡ [] }
-    requires room { length parts.items ≤ vec_capacity owners }
+    requires room { segments_in parts.items ≤ vec_capacity owners }
     requires free { made_in parts.items ≤ sum_by vacancy w.old.states }
-    requires once { (i : ℕ) → times i (taken_slots parts.items) ≤ 1 }
-    requires there { All (IsTakeable w.old) parts.items }
-    ensures { StandsIn (made_in parts.items) (map kept_slot result.items) (blocks_of_parts (named_at (value_at w.old)) parts.items) w.old w.new }
+    requires once { (i : ℕ) → times i (taken_slots (slots_at w.old (older_slot older)) parts.items) ≤ 1 }
+    requires there { CanTakeOver w.old (older_slot older) parts.items }
+    ensures { StandsIn (made_in parts.items) (map kept_slot result.items) (blocks_of_parts (blocks_at w.old (older_slot older)) parts.items) w.old w.new }
 {
     for part in parts {
-        let owner = place_part(w, part);
-        owners.push_reserved(owner);
+        place_part(w, part, older, &mut owners);
     }
     owners
 }
 
-/// Places a new segment, or takes one over.
-#[inline(always)]
+/// Places a new segment, or takes a stretch over, and keeps the owners.
 fn place_part<K: Ord + Drop, V: Drop, const S: usize>(
     w: &mut World<Item<K, V, S>, NoJob>,
-    part: Part<K, V, Loaded<Item<K, V, S>>>,
-) -> Kept
+    part: Part<K, V>,
+    older: Option<Loaded<Item<K, V, S>>>,
+    owners: &mut Vec<Kept>,
+)
+    requires room { length owners.old.items + segments_of part ≤ vec_capacity owners.old }
     requires free { makes part ≤ sum_by vacancy w.old.states }
-    requires there { IsTakeable w.old part }
-    ensures { HasPlaced part (kept_slot result) w.old w.new }
+    requires once { (i : ℕ) → times i (part_slots (slots_at w.old (older_slot older)) part) ≤ 1 }
+    requires there { CanTakeOver w.old (older_slot older) (part ∷ []) }
+    ensures placed { (xs : List ℕ) × (map kept_slot owners.new.items ≡ map kept_slot owners.old.items ++ xs) × HasPlaced (slots_at w.old (older_slot older)) part xs w.old w.new }
+    ensures long { length owners.new.items ≡ length owners.old.items + segments_of part }
+    ensures room { vec_capacity owners.old ≤ vec_capacity owners.new }
 {
     w.laws();
     match part {
-        Part::Made(tree) => place_segment(w, Box::into_inner(tree)),
-        Part::Taken(at) => take_over(w, at),
+        Part::Made(tree) => owners.push_reserved(place_segment(w, Box::into_inner(tree))),
+        Part::Taken { from, upto } => match older {
+            Some(at) => shared::keep_row(w, &at, from, upto, owners),
+            None => unreachable!(),
+        },
     }
-}
-
-/// One more owner of a segment that is there.
-#[inline(always)]
-fn take_over<K: Ord + Drop, V: Drop, const S: usize>(
-    w: &mut World<Item<K, V, S>, NoJob>,
-    at: Loaded<Item<K, V, S>>,
-) -> Kept
-    requires { (i : ℕ) × (loaded_slot at ≡ Some i) × CanBeShared w.old i }
-    ensures slot { loaded_slot at ≡ Some (kept_slot result) }
-    ensures more { (n : ℕ) × (status_at w.old (kept_slot result) ≡ Status.Shared n) × (w.new ≡ with_status (kept_slot result) (Status.Shared (n + 1)) w.old) }
-    ensures keeps { Frame w.old w.new }
-{
-    shared::keep_loaded(w, &at)
 }
 
 /// Places a segment where a slot is free. There are few of them, and the others are many: so it is a function of its own, and the loop

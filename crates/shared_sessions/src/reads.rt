@@ -17,7 +17,7 @@ use crate::session::SharedSession;
 use serial_history::ordered_view::answer;
 use serial_history::version_view::value_in_counted;
 use serial_history::{Answer, Query};
-use shared_versions::Version;
+use shared_versions::{Version, view_of};
 use std::alloc::AllocError;
 use std::ops::Bound;
 use tree_index::Steps;
@@ -118,6 +118,6 @@ impl<K: Clone + Ord, V: Clone + Eq, const S: usize> SharedSession<K, V, S> {
     {
         let version = self.session.version();
         version.laws();
-        self.session.view()
+        view_of(version)
     }
 }

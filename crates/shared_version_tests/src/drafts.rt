@@ -1,18 +1,25 @@
 //! Drafts by example.
 
 use sdd_domain::holds::Holds;
-use shared_versions::{Draft, Node, Version, build};
+use shared_versions::{Draft, Node, Version, build, view_of};
 use std::alloc::{AllocError, Global};
 use std::ops::Bound;
 use std::process::Abort;
 use std::test::Fail;
-use version_drafts::draft::BaseVersion;
+use version_drafts::plans::OwnersRoom;
 use version_views::{Reply, Write};
+
+/// How many slots a draft takes, which isn't placed and is ended.
+fn slots_of(draft: Draft<u64, u64, 4>) -> usize {
+    let slots = draft.slots();
+    let (_, _, room) = draft.into_parts();
+    room.end();
+    slots
+}
 
 #[test]
 fn the_empty_draft_takes_one_slot(rt: HostRuntime) -> Result<(), Fail> {
-    let draft = Draft::<u64, u64, 4>::empty(rt.alloc());
-    assert_eq!(rt; draft.slots(), 1);
+    assert_eq!(rt; slots_of(Draft::empty(rt.alloc())), 1);
     Ok(())
 }
 
@@ -48,11 +55,11 @@ fn drafted(alloc: Global) -> Result<(bool, usize, bool), AllocError> {
         wanted.push(reply)?;
     }
     let old = Version::<u64, u64>::empty(alloc, 4);
-    let there = old.contains(&3);
+    let there = view_of(&old).contains(&3);
     let built = build::<u64, u64, 4>(alloc, &old, &writes);
     Node::Version(old).end();
     let (draft, replies) = built?;
-    Ok((there, draft.slots(), replies == wanted))
+    Ok((there, slots_of(draft), replies == wanted))
 }
 
 // nine pairs in three segments, and the version

@@ -1,7 +1,5 @@
 pub mod ApartLemmas
-pub mod DraftLemmas
 pub mod EmptyLemmas
-pub mod FoundLemmas
 pub mod LoadedLemmas
 pub mod MovingLemmas
 pub mod OwnedLemmas
@@ -9,3 +7,4 @@ pub mod PresentLemmas
 pub mod SeamLemmas
 pub mod SendLemmas
 pub mod StillLemmas
+pub mod UnitLemmas

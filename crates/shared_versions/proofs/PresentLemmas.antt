@@ -1,5 +1,5 @@
 -- a draft that is placed upon the present version
-use Rattle.std.proofs.Common.{◌≡◌, ℕ, List, [], Some, get_or, length, map, sym, ap, ◌∙◌, subst}
+use Rattle.std.proofs.Common.{◌≡◌, ℕ, List, Some, length, map, sym, ap, ◌∙◌, subst}
 use Rattle.std.specs.declared.cmp.Ordering.{Ordering}
 use Rattle.std.specs.List.{All}
 use Rattle.std.proofs.lemmas.List.{length-map}
@@ -9,11 +9,12 @@ use Rattle.sdd_domain.specs.declared.held.Held.{Held}
 use Rattle.sdd_domain.specs.declared.shared.Shared.{Shared}
 use Rattle.version_views.specs.Cuts.{IsCut, pairs_in}
 use Rattle.version_views.specs.Items.{segment_owners}
-use Rattle.version_drafts.specs.Parts.{blocks_of_parts}
+use Rattle.version_drafts.specs.Parts.{LiesWithin, blocks_of_parts}
 use Rattle.version_views.specs.Views.{blocks_at}
 use Rattle.version_drafts.specs.declared.segments.Part.{Part}
 use Rattle.version_views.specs.declared.directory.Directory.{Directory}
-use Rattle.shared_versions.specs.Drafts.{IsPlaceable, IsWithinVersion, SharedPlan, blocks_planned}
+use Rattle.shared_versions.specs.Drafts.{IsPlaceable, Plan, blocks_planned}
+use Rattle.shared_versions.specs.Units.{blocks_of_units, units_of}
 use Rattle.shared_versions.specs.Nodes.{IsWhole, OwnsSegment, owned_pairs}
 use Rattle.shared_versions.specs.Placing.{IsKeptSegment, IsOwnedIn, IsPlanned, IsPresent, pairs_kept, pairs_kept_at, sight_in, sight_kept, version_owned}
 use Rattle.shared_versions.specs.Readers.{HasWidth, version_in}
@@ -21,6 +22,7 @@ use Rattle.shared_versions.specs.Sight.{Sight}
 use Rattle.shared_versions.specs.declared.node.Node.{Node}
 use Rattle.shared_versions.specs.declared.node.Node.TheVariants as nodes
 use Rattle.shared_versions.proofs.OwnedLemmas.{owned_is}
+use Rattle.shared_versions.proofs.UnitLemmas.{units_blocks}
 
 module _ {K V : Type 0} where
   -- the version that an owner owns
@@ -45,31 +47,31 @@ module _ {K V : Type 0} where
       }
 
   -- as many owners are kept as there are segments, so what a draft takes over is there
-  pub taken_there : (kept : List _) (old : Sight K V) (parts : List (Part K V ℕ)) → map pairs_kept kept ≡ old.blocks → All (IsWithinVersion (length old.blocks)) parts → All (IsWithinVersion (length kept)) parts
-  taken_there kept old parts blocks there = subst (λ n. All (IsWithinVersion n) parts) (sym (sym (length-map kept pairs_kept) ∙ ap length blocks)) there
+  pub taken_there : (kept : List _) (old : Sight K V) (parts : List (Part K V)) → map pairs_kept kept ≡ old.blocks → All (LiesWithin (length old.blocks)) parts → All (LiesWithin (length kept)) parts
+  taken_there kept old parts blocks there = subst (λ n. All (LiesWithin n) parts) (sym (sym (length-map kept pairs_kept) ∙ ap length blocks)) there
 
   -- what the kept owners are taken for is what was planned
-  pub planned_blocks : (kept : List _) (old : Sight K V) (plan : SharedPlan K V) (parts : List (Part K V ℕ)) → map pairs_kept kept ≡ old.blocks → parts ≡ plan.parts → blocks_of_parts (pairs_kept_at kept) parts ≡ blocks_planned old plan
-  planned_blocks kept old plan parts blocks same = ap (λ bs. blocks_of_parts (λ n. get_or bs n []) parts) blocks ∙ ap (blocks_of_parts (λ n. get_or old.blocks n [])) same
+  pub planned_blocks : {s : ℕ} (kept : List _) (plan : Plan K V s) (parts : List (Part K V)) → parts ≡ plan.parts → All (LiesWithin (length (map pairs_kept kept))) plan.parts → blocks_of_units (pairs_kept_at kept) (units_of parts) ≡ blocks_planned (sight_kept kept) plan
+  planned_blocks kept plan parts same there = ap (λ ps. blocks_of_units (pairs_kept_at kept) (units_of ps)) same ∙ units_blocks (map pairs_kept kept) plan.parts there
 
   -- of an older version, what is planned upon it speaks of its segments alone
-  pub placeable_kept : (cmp : K → K → Ordering) (s : ℕ) (kept : List _) (old : Sight K V) (plan : SharedPlan K V) → map pairs_kept kept ≡ old.blocks → IsPlaceable cmp s old plan → IsPlaceable cmp s (sight_kept kept) plan
+  pub placeable_kept : (cmp : K → K → Ordering) (s : ℕ) (kept : List _) (old : Sight K V) (plan : Plan K V s) → map pairs_kept kept ≡ old.blocks → IsPlaceable cmp s old plan → IsPlaceable cmp s (sight_kept kept) plan
   placeable_kept cmp s kept old plan blocks is = record {
-    cut = subst (λ bs. IsCut cmp s (blocks_of_parts (λ n. get_or bs n []) plan.parts) plan.separators) (sym blocks) is.cut;
-    counted = subst (λ bs. plan.length ≡ length (pairs_in (blocks_of_parts (λ n. get_or bs n []) plan.parts))) (sym blocks) is.counted;
-    there = subst (λ bs. All (IsWithinVersion (length bs)) plan.parts) (sym blocks) is.there;
+    cut = subst (λ bs. IsCut cmp s (blocks_of_parts bs plan.parts) plan.separators) (sym blocks) is.cut;
+    counted = subst (λ bs. plan.length ≡ length (pairs_in (blocks_of_parts bs plan.parts))) (sym blocks) is.counted;
+    there = subst (λ bs. All (LiesWithin (length bs)) plan.parts) (sym blocks) is.there;
   }
 
-  pub planned_kept : (s : ℕ) (kept : List _) (old : Sight K V) (plan : SharedPlan K V) (new : Sight K V) → map pairs_kept kept ≡ old.blocks → IsPlanned s (sight_kept kept) plan new → IsPlanned s old plan new
+  pub planned_kept : (s : ℕ) (kept : List _) (old : Sight K V) (plan : Plan K V s) (new : Sight K V) → map pairs_kept kept ≡ old.blocks → IsPlanned s (sight_kept kept) plan new → IsPlanned s old plan new
   planned_kept s kept old plan new blocks is = record {
     number = is.number;
     width = is.width;
-    blocks = is.blocks ∙ ap (λ bs. blocks_of_parts (λ n. get_or bs n []) plan.parts) blocks;
+    blocks = is.blocks ∙ ap (λ bs. blocks_of_parts bs plan.parts) blocks;
     separators = is.separators;
   }
 
   -- a directory of the planned segments is whole
-  pub planned_whole : (cmp : K → K → Ordering) (s : ℕ) (old : Sight K V) (plan : SharedPlan K V) (d : Directory K (Held (Node K V))) → IsPlaceable cmp s old plan → All OwnsSegment (segment_owners d) → blocks_at owned_pairs d ≡ blocks_planned old plan → d.separators.items ≡ plan.separators → d.length ≡ plan.length → IsWhole cmp s d
+  pub planned_whole : (cmp : K → K → Ordering) (s : ℕ) (old : Sight K V) (plan : Plan K V s) (d : Directory K (Held (Node K V))) → IsPlaceable cmp s old plan → All OwnsSegment (segment_owners d) → blocks_at owned_pairs d ≡ blocks_planned old plan → d.separators.items ≡ plan.separators → d.length ≡ plan.length → IsWhole cmp s d
   planned_whole cmp s old plan d placeable all blocks separators count = record {
     segments = all;
     cut = subst (λ ks. IsCut cmp s (blocks_at owned_pairs d) ks) (sym separators) (subst (λ bs. IsCut cmp s bs plan.separators) (sym blocks) placeable.cut);

@@ -2,7 +2,7 @@
 use Rattle.std.specs.List.{All}
 use Rattle.std.specs.Mem.{manually_drop_value}
 use Rattle.std.specs.Option.{option_map}
-use Rattle.std.specs.Prelude.{◌≡◌, ◌≢◌, ℕ, ◌<◌, List, [], ◌∷◌, ◌++◌, map, set, get_or, Option, None, Some}
+use Rattle.std.specs.Prelude.{◌≡◌, ◌≢◌, ℕ, ◌<◌, List, [], map, set, get_or, Option, None, Some}
 use Rattle.atomic_table.specs.Seated.{TableId}
 use Rattle.sdd_domain.specs.CellSteps.{HasStored}
 use Rattle.sdd_domain.specs.Comparing.{owner_code}
@@ -10,7 +10,7 @@ use Rattle.sdd_domain.specs.Sharing.{kept_in}
 use Rattle.sdd_domain.specs.Tokens.{home_of, misses_of, nest_in, number_of, own_of}
 use Rattle.sdd_domain.specs.declared.local.Local.{Local}
 use Rattle.sdd_domain.specs.declared.shared.Shared.{Shared}
-use Rattle.shared_versions.specs.Drafts.{SharedPlan, blocks_planned, nothing}
+use Rattle.shared_versions.specs.Drafts.{Plan, blocks_planned, nothing}
 use Rattle.shared_versions.specs.Nodes.{IsSegment, segment_pairs}
 use Rattle.shared_versions.specs.Readers.{HasWidth, version_in}
 use Rattle.shared_versions.specs.Sight.{Sight}
@@ -137,7 +137,7 @@ pub record IsPresent {K V : Type 0} (s : ℕ) (owner : Shared (Node K V)) (kept 
   pub segments : All (IsKeptSegment (kept_in owner)) kept
 
 -- the version is the planned one, of segments of at most s pairs
-pub record IsPlanned {K V : Type 0} (s : ℕ) (old : Sight K V) (plan : SharedPlan K V) (new : Sight K V) : Type 0 where
+pub record IsPlanned {K V : Type 0} (s : ℕ) (old : Sight K V) (plan : Plan K V s) (new : Sight K V) : Type 0 where
   pub number : new.number ≡ plan.number
   pub width : new.width ≡ s
   pub blocks : new.blocks ≡ blocks_planned old plan

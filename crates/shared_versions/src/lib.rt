@@ -41,6 +41,7 @@ mod reader;
 mod reclaiming;
 mod room;
 mod session;
+mod units;
 
 pub use building::{Draft, build, build_list};
 pub use lending::view_of;

@@ -5,8 +5,8 @@ ghost use Rattle.std.specs.List.{All};
 ghost use Rattle.sdd_domain.specs.CellSteps.{StepsOnNoCell};
 ghost use Rattle.sdd_domain.specs.Holding.{all_told};
 ghost use Rattle.sdd_domain.specs.Tokens.{place_of, home_of, hand_of, misses_of};
-ghost use Rattle.version_drafts.specs.Parts.{blocks_of_parts, part_pairs};
-ghost use Rattle.shared_versions.specs.Drafts.{IsWithinVersion, taken_from};
+ghost use Rattle.version_drafts.specs.Parts.{LiesWithin};
+ghost use Rattle.shared_versions.specs.Units.{IsWithinVersion, blocks_of_units, taken_from, unit_pairs, units_of};
 ghost use Rattle.shared_versions.specs.Nodes.{OwnsSegment, owned_pairs};
 ghost use Rattle.shared_versions.specs.Placing.{IsKeptSegment, IsSegmentOf, IsStill, IsStillButMisses, IsToKeep, moved_from, pairs_kept, pairs_kept_at, pairs_owned, pairs_to_keep};
 
@@ -14,6 +14,7 @@ use crate::keeping::{ToKeep, release_new};
 use crate::kept::{WriterOwner, clone_at};
 use crate::node::Node;
 use crate::owners::{let_go, place_two};
+use crate::units::{One, Units};
 use sdd_domain::domain::Domain;
 use sdd_domain::held::Held;
 use sdd_domain::holding::hold_last;
@@ -53,19 +54,19 @@ fn place_segment<K: Ord + Drop, V: Drop>(
 /// None where it is refused, which is a miss.
 fn owner_for<K: Ord + Drop, V: Drop>(
     domain: &Domain<Node<K, V>>,
-    part: Part<K, V, usize>,
+    one: One<K, V>,
     kept: &mut Vec<WriterOwner<K, V>>,
     local: &mut Local<Node<K, V>>,
 ) -> Option<(Shared<Node<K, V>>, ToKeep<K, V>)>
     requires home { home_of local.old ≡ place_of domain.now }
     requires hand { hand_of local.old ≡ [] }
-    requires there { IsWithinVersion (length kept.old.items) part }
+    requires there { IsWithinVersion (length kept.old.items) one }
     requires kept { All (IsKeptSegment (place_of domain.now).0) kept.old.items }
     ensures owner { IfSome result (λ both. IsSegmentOf (place_of domain.now).0 both.0) }
     ensures to_keep { IfSome result (λ both. IsToKeep (place_of domain.now).0 (length kept.old.items) both.1) }
-    ensures pairs { IfSome result (λ both. pairs_owned both.0 ≡ part_pairs (pairs_kept_at kept.old.items) part) }
-    ensures same_pairs { IfSome result (λ both. pairs_to_keep (pairs_kept_at kept.old.items) both.1 ≡ part_pairs (pairs_kept_at kept.old.items) part) }
-    ensures from { IfSome result (λ both. moved_from both.1 ≡ taken_from part) }
+    ensures pairs { IfSome result (λ both. pairs_owned both.0 ≡ unit_pairs (pairs_kept_at kept.old.items) one) }
+    ensures same_pairs { IfSome result (λ both. pairs_to_keep (pairs_kept_at kept.old.items) both.1 ≡ unit_pairs (pairs_kept_at kept.old.items) one) }
+    ensures from { IfSome result (λ both. moved_from both.1 ≡ taken_from one) }
     ensures kept { All (IsKeptSegment (place_of domain.now).0) kept.new.items }
     ensures still { map pairs_kept kept.new.items ≡ map pairs_kept kept.old.items }
     ensures hand { hand_of local.new ≡ [] }
@@ -74,12 +75,12 @@ fn owner_for<K: Ord + Drop, V: Drop>(
     ensures same { IsStillButMisses local.old local.new }
     ensures cells { StepsOnNoCell local.old local.new }
 {
-    match part {
-        Part::Taken(place) => match clone_at(domain, kept, place, local) {
+    match one {
+        One::Taken(place) => match clone_at(domain, kept, place, local) {
             Some(owner) => Some((owner, ToKeep::Old(place))),
             None => None,
         },
-        Part::Made(segment) => match place_segment(domain, Box::into_inner(segment), local) {
+        One::Made(segment) => match place_segment(domain, Box::into_inner(segment), local) {
             Some((owner, other)) => Some((owner, ToKeep::New(other))),
             None => None,
         },
@@ -90,7 +91,7 @@ fn owner_for<K: Ord + Drop, V: Drop>(
 /// which is a miss and the end of the call, nothing is in use that wasn't before, but what waits to be reclaimed.
 pub(crate) fn all_owners<K: Ord + Drop, V: Drop>(
     domain: &Domain<Node<K, V>>,
-    mut parts: Vec<Part<K, V, usize>>,
+    parts: Vec<Part<K, V>>,
     mut owners: Vec<Shared<Node<K, V>>>,
     mut to_keep: Vec<ToKeep<K, V>>,
     kept: &mut Vec<WriterOwner<K, V>>,
@@ -98,15 +99,15 @@ pub(crate) fn all_owners<K: Ord + Drop, V: Drop>(
 ) -> Option<(Vec<Shared<Node<K, V>>>, Vec<ToKeep<K, V>>)>
     requires home { home_of local.old ≡ place_of domain.now }
     requires hand { hand_of local.old ≡ [] }
-    requires there { All (IsWithinVersion (length kept.old.items)) parts.items }
+    requires there { All (LiesWithin (length kept.old.items)) parts.items }
     requires kept { All (IsKeptSegment (place_of domain.now).0) kept.old.items }
     requires none { (owners.items ≡ []) × (to_keep.items ≡ []) }
-    requires room { (length parts.items ≤ vec_capacity owners) × (length parts.items ≤ vec_capacity to_keep) }
+    requires room { (length (units_of parts.items) ≤ vec_capacity owners) × (length (units_of parts.items) ≤ vec_capacity to_keep) }
     ensures owners { IfSome result (λ all. All (IsSegmentOf (place_of domain.now).0) all.0.items) }
     ensures to_keep { IfSome result (λ all. All (IsToKeep (place_of domain.now).0 (length kept.old.items)) all.1.items) }
-    ensures pairs { IfSome result (λ all. reverse (map pairs_owned all.0.items) ≡ blocks_of_parts (pairs_kept_at kept.old.items) parts.items) }
-    ensures same_pairs { IfSome result (λ all. reverse (map (pairs_to_keep (pairs_kept_at kept.old.items)) all.1.items) ≡ blocks_of_parts (pairs_kept_at kept.old.items) parts.items) }
-    ensures from { IfSome result (λ all. reverse (map moved_from all.1.items) ≡ map taken_from parts.items) }
+    ensures pairs { IfSome result (λ all. reverse (map pairs_owned all.0.items) ≡ blocks_of_units (pairs_kept_at kept.old.items) (units_of parts.items)) }
+    ensures same_pairs { IfSome result (λ all. reverse (map (pairs_to_keep (pairs_kept_at kept.old.items)) all.1.items) ≡ blocks_of_units (pairs_kept_at kept.old.items) (units_of parts.items)) }
+    ensures from { IfSome result (λ all. reverse (map moved_from all.1.items) ≡ map taken_from (units_of parts.items)) }
     ensures kept { All (IsKeptSegment (place_of domain.now).0) kept.new.items }
     ensures still { map pairs_kept kept.new.items ≡ map pairs_kept kept.old.items }
     ensures hand { hand_of local.new ≡ [] }
@@ -115,11 +116,12 @@ pub(crate) fn all_owners<K: Ord + Drop, V: Drop>(
     ensures same { IsStillButMisses local.old local.new }
     ensures cells { StepsOnNoCell local.old local.new }
 {
-    'placing: while let Some(part) = parts.pop() {
-        match owner_for(domain, part, kept, local) {
-            Some((owner, one)) => {
+    let mut units = Units::of(parts);
+    'placing: while let Some(one) = units.pop() {
+        match owner_for(domain, one, kept, local) {
+            Some((owner, kept_so)) => {
                 owners.push_reserved(owner);
-                to_keep.push_reserved(one);
+                to_keep.push_reserved(kept_so);
             }
             None => {
                 release_all(domain, owners, local);

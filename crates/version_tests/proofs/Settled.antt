@@ -1,5 +1,5 @@
 -- Places in which versions are placed one by one, where owners can't run out.
-use Rattle.std.proofs.Common.{◌≡◌, ℕ, ◌+◌, ◌<◌, ◌≤◌, Some, None, List, [], ◌∷◌, ◌++◌, length, replicate, sym, ap, ◌∙◌, arith, subst}
+use Rattle.std.proofs.Common.{◌≡◌, ℕ, ◌+◌, ◌<◌, ◌≤◌, Some, None, List, [], ◌∷◌, ◌++◌, length, replicate, sym, ap, ◌∙◌, arith, subst, Option}
 use Rattle.std.proofs.lemmas.List.{length-append, length-replicate}
 use Rattle.std.proofs.lemmas.List.Sums.{sum_by-append, sum_by-cons}
 use Rattle.std.specs.declared.cmp.Ordering.{Ordering}
@@ -48,7 +48,7 @@ module _ {K V : Type 0} {s : ℕ} where
       none_some e = cc
 
   -- a version is placed
-  pub settled_placed : (cmp : K → K → Ordering) (hand : List Hold) (n : ℕ) (plan : Plan K V s) (slot : ℕ) (w w' : State (Item K V s)) → Settled hand n w → Places cmp plan slot w w' → Settled (SharedItem slot ∷ hand) n w'
+  pub settled_placed : (cmp : K → K → Ordering) (hand : List Hold) (n : ℕ) {older : Option ℕ} (plan : Plan K V s) (slot : ℕ) (w w' : State (Item K V s)) → Settled hand n w → Places cmp older plan slot w w' → Settled (SharedItem slot ∷ hand) n w'
   settled_placed cmp hand n plan slot w w' settled made = record {
     counted = made.counted hand settled.counted;
     levelled = made.adds.levelled hand settled.counted settled.levelled;

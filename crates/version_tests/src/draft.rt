@@ -1,124 +1,121 @@
 //! Drafts by example, and against plain lists.
 
-ghost use Rattle.std.specs.Prelude.{◌≡◌, ◌≤◌, [], IfOk, length, map, slice_get};
-ghost use Rattle.std.specs.Option.{option_map_or};
+ghost use Rattle.std.specs.Prelude.{◌≡◌, ◌≤◌, ◌++◌, IfOk, OnOk, length, map};
 ghost use Rattle.std.specs.Ordering.{nat_cmp};
 ghost use Rattle.version_views.specs.Cuts.{IsCut, pairs_in};
-ghost use Rattle.version_drafts.specs.Parts.{blocks_of_parts, part_pairs};
+ghost use Rattle.version_drafts.specs.Parts.{blocks_of_parts, part_blocks};
+ghost use Rattle.version_tests.specs.Alone.{IsAlone, blocks_alone, pairs_alone};
 
-use local_versions::draft::{BaseVersion, Part, Segments, drafted};
-use local_versions::{Reply, Write, plain};
+use local_versions::draft::{Part, Segments, drafted};
+use local_versions::{Directory, Reply, Segment, Trees, VersionView, Write, plain};
 use std::alloc::{AllocError, Global};
 use std::ops::Bound;
 use std::process::Abort;
 use std::test::Fail;
 use tree_index::TreeIndex;
 
-// A version that is kept as a list of trees, whose names are their places.
+// Lends the segments that a directory owns itself.
 #[derive(Drop)]
-struct TreeList {
-    trees: Vec<TreeIndex<u64, u64>>,
-    separators: Vec<u64>,
-    pairs: usize,
-    ghost counted: { pairs ≡ length (pairs_in (map (λ t. t.pairs) trees.items)) },
-}
+struct Own {}
 
-impl BaseVersion<u64, u64, usize> for TreeList {
-    ghost blocks = { λ k. map (λ t. t.pairs) k.trees.items };
+impl Trees<u64, u64> for Own {
+    type Owner = Segment<u64, u64>;
 
-    ghost separators = { λ k. k.separators.items };
+    ghost has = { λ _ _. Unit {0} };
 
-    ghost named = { λ k n. option_map_or (λ t. t.pairs) (slice_get k.trees.items n) [] };
+    ghost pairs = { λ _ s. s.pairs };
 
-    fn count(&self) -> usize {
-        self.trees.len()
-    }
-
-    fn pairs(&self) -> usize {
-        self.pairs
-    }
-
-    fn segment(&self, place: usize) -> &TreeIndex<u64, u64> {
-        &self.trees[place]
-    }
-
-    fn separators(&self) -> &[u64] {
-        &self.separators
-    }
-
-    fn name(&self, place: usize) -> usize {
-        place
-    }
-
-    fn contains(&self, key: &u64) -> bool {
-        for tree in &self.trees {
-            if tree.contains(key) {
-                return true;
-            }
-        }
-        false
+    fn tree<'a>(&'a self, at: &'a Segment<u64, u64>) -> &'a TreeIndex<u64, u64> {
+        at.tree()
     }
 }
+
+// A version that owns its segments.
+type Alone = Directory<u64, Segment<u64, u64>>;
 
 // No segment.
-fn none<const S: usize>(alloc: Global) -> TreeList
-    ensures { IsCut nat_cmp S (map (λ t. t.pairs) result.trees.items) result.separators.items }
+fn none<const S: usize>(alloc: Global) -> Alone
+    ensures { IsAlone S result }
 {
-    TreeList {
-        trees: Vec::new(alloc),
-        separators: Vec::new(alloc),
-        pairs: 0,
-    }
+    Directory::new(0, 0, Vec::new(alloc), Vec::new(alloc))
 }
 
 // The segments that a draft made of a version, with clones of those that it takes over.
 fn settled<const S: usize>(
     alloc: Global,
-    old: &TreeList,
-    made: Segments<u64, u64, usize>,
-) -> Result<TreeList, AllocError>
-    requires cut { IsCut nat_cmp S (blocks_of_parts (λ n. option_map_or (λ t. t.pairs) (slice_get old.now.trees.items n) []) made.parts.items) made.separators.items }
-    requires counted { made.length ≡ length (pairs_in (blocks_of_parts (λ n. option_map_or (λ t. t.pairs) (slice_get old.now.trees.items n) []) made.parts.items)) }
-    ensures { IfOk result (λ k. IsCut nat_cmp S (map (λ t. t.pairs) k.trees.items) k.separators.items) }
+    old: &Alone,
+    made: Segments<u64, u64>,
+) -> Result<Alone, AllocError>
+    requires cut { IsCut nat_cmp S (blocks_of_parts (blocks_alone old.now) made.parts.items) made.separators.items }
+    requires counted { made.length ≡ length (pairs_in (blocks_of_parts (blocks_alone old.now) made.parts.items)) }
+    ensures { IfOk result (IsAlone S) }
 {
     let Segments {
         parts,
         separators,
         length,
     } = made;
-    let mut trees = Vec::new(alloc);
+    let mut segments = Vec::new(alloc);
     for part in parts {
-        trees.push(tree_of(alloc, old, part)?)?;
+        put(alloc, old, part, &mut segments)?;
     }
-    Ok(TreeList {
-        trees,
-        separators,
-        pairs: length,
-    })
+    Ok(Directory::new(0, length, segments, separators))
 }
 
-// The tree of a part.
-fn tree_of(
+// Puts the segments of a part behind others.
+fn put(
     alloc: Global,
-    old: &TreeList,
-    part: Part<u64, u64, usize>,
-) -> Result<TreeIndex<u64, u64>, AllocError>
-    ensures { IfOk result (λ t. t.pairs ≡ part_pairs (λ n. option_map_or (λ t. t.pairs) (slice_get old.now.trees.items n) []) part) }
+    old: &Alone,
+    part: Part<u64, u64>,
+    into: &mut Vec<Segment<u64, u64>>,
+) -> Result<(), AllocError>
+    ensures { OnOk result (map pairs_alone into.new.items ≡ map pairs_alone into.old.items ++ part_blocks (blocks_alone old.now) part) }
 {
     match part {
-        Part::Taken(place) => match old.trees.get(place) {
-            Some(tree) => tree.clone(alloc),
-            None => Err(AllocError),
+        Part::Taken { from, upto } => {
+            for place in from..upto {
+                match old.owners().get(place) {
+                    Some(segment) => into.push(copied(alloc, segment)?)?,
+                    None => return Err(AllocError),
+                }
+            }
         },
-        Part::Made(segment) => segment.tree().clone(alloc),
+        Part::Made(segment) => into.push(Box::into_inner(segment))?,
     }
+    Ok(())
 }
 
-// The pairs of a row of trees.
-fn pairs_of(alloc: Global, trees: &[TreeIndex<u64, u64>]) -> Result<Vec<(u64, u64)>, AllocError> {
+// A clone of a segment.
+fn copied(alloc: Global, segment: &Segment<u64, u64>) -> Result<Segment<u64, u64>, AllocError>
+    ensures { IfOk result (λ copy. copy.pairs ≡ segment.now.pairs) }
+{
+    let tree = segment.tree();
+    if tree.len() > 225 {
+        return Err(AllocError);
+    }
+    Segment::copied(alloc, tree)
+}
+
+// What writes make of a version.
+fn written<const S: usize>(
+    alloc: Global,
+    old: &Alone,
+    writes: &[Write<u64, u64>],
+) -> Result<(Segments<u64, u64>, Vec<Reply>), AllocError>
+    requires size { (1 ≤ S) × (S ≤ 225) }
+    requires whole { IsAlone S old.now }
+    ensures cut { IfOk result (λ made. IsCut nat_cmp S (blocks_of_parts (blocks_alone old.now) made.0.parts.items) made.0.separators.items) }
+    ensures counted { IfOk result (λ made. made.0.length ≡ length (pairs_in (blocks_of_parts (blocks_alone old.now) made.0.parts.items))) }
+{
+    let own = Own {};
+    drafted::<u64, u64, Own, S>(alloc, &VersionView::new(&own, old), writes)
+}
+
+// The pairs of a row of segments.
+fn pairs_of(alloc: Global, segments: &[Segment<u64, u64>]) -> Result<Vec<(u64, u64)>, AllocError> {
     let mut pairs = Vec::new(alloc);
-    for tree in trees {
-        for (key, value) in tree.iter() {
+    for segment in segments {
+        for (key, value) in segment.tree().iter() {
             pairs.push((*key, *value))?;
         }
     }
@@ -126,7 +123,7 @@ fn pairs_of(alloc: Global, trees: &[TreeIndex<u64, u64>]) -> Result<Vec<(u64, u6
 }
 
 // How many segments a draft made.
-fn fresh_in(made: &Segments<u64, u64, usize>) -> usize {
+fn fresh_in(made: &Segments<u64, u64>) -> usize {
     let mut fresh = 0usize;
     for part in &made.parts {
         if let Part::Made(_) = part {
@@ -137,21 +134,21 @@ fn fresh_in(made: &Segments<u64, u64, usize>) -> usize {
 }
 
 // Whether segments are cut as they should be: by their sizes and by what separates them.
-fn is_cut(kept: &TreeList, size: usize) -> bool {
+fn is_cut(kept: &Alone, size: usize) -> bool {
     let mut before = size;
-    for (i, tree) in kept.trees.iter().enumerate() {
-        let last = i.saturating_add(1) == kept.trees.len();
-        let wanted = match tree.iter().next_back() {
+    for (i, segment) in kept.owners().iter().enumerate() {
+        let last = i.saturating_add(1) == kept.segments();
+        let wanted = match segment.tree().iter().next_back() {
             Some((key, _)) => { if last { None } else { Some(*key) } },
             None => return false,
         };
-        if kept.separators.get(i).copied() != wanted {
+        if kept.separators().get(i).copied() != wanted {
             return false;
         }
-        if tree.len() > size || before.saturating_add(tree.len()) <= size {
+        if segment.len() > size || before.saturating_add(segment.len()) <= size {
             return false;
         }
-        before = tree.len();
+        before = segment.len();
     }
     true
 }
@@ -223,11 +220,7 @@ fn agrees<const S: usize>(
     for _ in 0..60u32 {
         seed = following(seed);
         let writes = writes_by(alloc, seed, mask, most)?;
-        let (made, replies) = drafted::<u64, u64, usize, TreeList, S>(
-            alloc,
-            &old,
-            writes.as_slice(),
-        )?;
+        let (made, replies) = written::<S>(alloc, &old, writes.as_slice())?;
         let (list, told) = plain::applied(alloc, pairs.as_slice(), writes.as_slice())?;
         if made.length != list.len() || replies.as_slice() != told.as_slice() {
             return Ok(false);
@@ -236,7 +229,7 @@ fn agrees<const S: usize>(
             return Ok(false);
         }
         let next = settled::<S>(alloc, &old, made)?;
-        let found = pairs_of(alloc, next.trees.as_slice())?;
+        let found = pairs_of(alloc, next.owners())?;
         if found.as_slice() != list.as_slice() || !is_cut(&next, S) {
             return Ok(false);
         }
@@ -281,12 +274,12 @@ type Row = (
 fn does(alloc: Global, before: &[Write<u64, u64>], row: Row) -> Result<bool, AllocError> {
     let (writes, told, pairs, count) = row;
     let empty = none::<1>(alloc);
-    let (made, _) = drafted::<u64, u64, usize, TreeList, 1>(alloc, &empty, before)?;
+    let (made, _) = written::<1>(alloc, &empty, before)?;
     let old = settled::<1>(alloc, &empty, made)?;
-    let (made, replies) = drafted::<u64, u64, usize, TreeList, 1>(alloc, &old, writes)?;
+    let (made, replies) = written::<1>(alloc, &old, writes)?;
     let fresh = fresh_in(&made);
     let next = settled::<1>(alloc, &old, made)?;
-    let left = pairs_of(alloc, next.trees.as_slice())?;
+    let left = pairs_of(alloc, next.owners())?;
     Ok(left.as_slice() == pairs && replies.as_slice() == told && fresh == count)
 }
 

@@ -4,6 +4,8 @@
 #[cfg(test)]
 mod draft;
 #[cfg(test)]
+mod forms;
+#[cfg(test)]
 mod listed;
 #[cfg(test)]
 mod look_up;

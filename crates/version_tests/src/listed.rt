@@ -55,7 +55,7 @@ fn cut<const S: usize>(
     if !rise(pairs) {
         return Ok(None);
     }
-    let made = listed::<u64, u64, usize, S>(alloc, pairs)?;
+    let made = listed::<u64, u64, S>(alloc, pairs)?;
     let mut sizes = Vec::new(alloc);
     let mut at = 0usize;
     for part in made.parts {

@@ -143,7 +143,7 @@ fn prepared<R: Abort, const S: usize>(rt: &R, alloc: Global, last: u64) -> Held<
         Ok(w) => w,
         Err(_) => panic!(rt; "no room for a place"),
     };
-    let none = match place(&mut w, Built::empty(alloc)) {
+    let none = match place(&mut w, Built::empty(alloc), None) {
         Ok(none) => none,
         Err(_) => panic!(rt; "no slot for the empty version"),
     };
@@ -154,7 +154,7 @@ fn prepared<R: Abort, const S: usize>(rt: &R, alloc: Global, last: u64) -> Held<
         Ok(made) => made,
         Err(_) => panic!(rt; "no room for a version"),
     };
-    let root = match place(&mut w, built) {
+    let root = match place(&mut w, built, Some(shared::owned_at(&none))) {
         Ok(root) => root,
         Err(_) => panic!(rt; "no slots for a version"),
     };

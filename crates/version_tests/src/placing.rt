@@ -1,6 +1,6 @@
 //! Placing versions, publishing them, and the slots that they take.
 
-ghost use Rattle.std.specs.Prelude.{◌≡◌, ◌<◌, ◌≤◌, ◌∷◌, [], List, length, Ok};
+ghost use Rattle.std.specs.Prelude.{◌≡◌, ◌<◌, ◌≤◌, ◌∷◌, [], List, length, Ok, Some};
 ghost use Rattle.sdd_world.specs.Counting.{Counted};
 ghost use Rattle.sdd_world.specs.Holding.{Hold, SharedItem};
 ghost use Rattle.sdd_world.specs.Place.{IsShared};
@@ -103,14 +103,14 @@ fn begin<R: Abort>(rt: &R, alloc: Global, slots: usize) -> Begun
     requires { slots ≤ 1000 }
     ensures participants { length result.w.participants ≡ 1 }
     ensures shared { IsShared result.w (shared_slot result.first) }
-    ensures placeable { IsPlaceable nat_cmp result.w result.built }
+    ensures placeable { IsPlaceable nat_cmp result.w (Some (shared_slot result.first)) result.built }
     ensures counted { Counted held_by (SharedItem (shared_slot result.first) ∷ []) result.w }
 {
     let mut w: World<Two, NoJob> = match World::new(alloc, sizes(slots)) {
         Ok(w) => w,
         Err(_) => panic!(rt; "no room for a place"),
     };
-    let first = placed(rt, place(&mut w, Built::empty(alloc)));
+    let first = placed(rt, place(&mut w, Built::empty(alloc), None));
     let empty = (w.slots_in_use(), len(&w, version(&w, &first)));
     let writes = upserts(alloc, &[1, 2, 3, 4, 5]).expect(rt, "no memory for writes");
     w.laws();
@@ -137,7 +137,8 @@ fn a_version_takes_a_slot_for_each_segment_and_one(rt: HostRuntime) {
         empty,
     } = begin(&rt, rt.alloc(), 16);
     let takes = built.slots();
-    let second = placed(&rt, place(&mut w, built));
+    let older = shared::owned_at(&first);
+    let second = placed(&rt, place(&mut w, built, Some(older)));
     let root = match atomic_shared::from(&mut w, first) {
         Ok(root) => root,
         Err(_) => panic!(rt; "no cell for the root"),
@@ -169,7 +170,7 @@ fn a_version_that_finds_no_room_comes_back(rt: HostRuntime) {
         replies: _,
         empty: _,
     } = begin(&rt, rt.alloc(), 4);
-    let back = match place(&mut w, built) {
+    let back = match place(&mut w, built, Some(shared::owned_at(&first))) {
         Ok(_) => panic!(rt; "there is room for it"),
         Err(back) => back.slots(),
     };

@@ -1,8 +1,9 @@
 //! A place, and the single steps beside it, through a schedule of a reader and a writer.
 
-ghost use Rattle.std.specs.Prelude.{◌≡◌, ◌<◌, ◌+◌, ◌-◌, ◌^◌, ◌∷◌, [], List, length, Ok};
+ghost use Rattle.std.specs.Prelude.{◌≡◌, ◌<◌, ◌+◌, ◌-◌, ◌^◌, ◌∷◌, [], ℕ, List, length, Ok, Some};
 ghost use Rattle.std.specs.Ordering.{nat_cmp};
 ghost use Rattle.sdd_world.specs.Counting.{Counted};
+ghost use Rattle.sdd_world.specs.Frame.{IsLive};
 ghost use Rattle.sdd_world.specs.Holding.{Hold, SharedIn, SharedItem};
 ghost use Rattle.sdd_world.specs.Place.{IsOpen};
 ghost use Rattle.sdd_world.specs.State.{value_at};
@@ -316,7 +317,7 @@ fn built<R: Abort>(
     requires version { IsVersion nat_cmp (value_at w.now) dir.now }
     requires last { dir.now.number < 2 ^ 64 - 1 }
     ensures number { result.number ≡ dir.now.number + 1 }
-    ensures placeable { All (CanBeShared w.now) (slots_of dir.now) → IsPlaceable nat_cmp w.now result }
+    ensures placeable { All (CanBeShared w.now) (slots_of dir.now) → (i : ℕ) → IsLive w.now i → value_at w.now i ≡ Some (Item.Directory dir.now) → IsPlaceable nat_cmp w.now (Some i) result }
 {
     match build(alloc, w, dir, writes) {
         Ok((built, _)) => built,
@@ -347,7 +348,7 @@ fn begin<R: Abort>(rt: &R, alloc: Global) -> Begun
         Ok(w) => w,
         Err(_) => panic!(rt; "no room for a place"),
     };
-    let empty = placed(rt, place(&mut w, Built::empty(alloc)));
+    let empty = placed(rt, place(&mut w, Built::empty(alloc), None));
     let writes = [
         Write::Upsert(1, 10),
         Write::Upsert(2, 20),
@@ -355,10 +356,10 @@ fn begin<R: Abort>(rt: &R, alloc: Global) -> Begun
     ];
     w.laws();
     let one = built(rt, alloc, &w, version(&w, &empty), &writes);
-    let first = placed(rt, place(&mut w, one));
+    let first = placed(rt, place(&mut w, one, Some(shared::owned_at(&empty))));
     w.laws();
     let two = built(rt, alloc, &w, version(&w, &first), &[Write::Upsert(4, 40)]);
-    let second = placed(rt, place(&mut w, two));
+    let second = placed(rt, place(&mut w, two, Some(shared::owned_at(&first))));
     let _ = shared::release(&mut w, empty, WRITER);
     let root = match atomic_shared::from(&mut w, first) {
         Ok(root) => root,

@@ -44,7 +44,7 @@ fn prepared<R: Abort, const S: usize>(rt: &R, alloc: Global, pairs: &[(u64, u64)
         Ok(w) => w,
         Err(_) => panic!(rt; "no room for a place"),
     };
-    let none = match place(&mut w, Built::empty(alloc)) {
+    let none = match place(&mut w, Built::empty(alloc), None) {
         Ok(none) => none,
         Err(_) => panic!(rt; "no slot for the empty version"),
     };
@@ -54,7 +54,7 @@ fn prepared<R: Abort, const S: usize>(rt: &R, alloc: Global, pairs: &[(u64, u64)
         Ok(made) => made,
         Err(_) => panic!(rt; "no room for a version"),
     };
-    let root = match place(&mut w, built) {
+    let root = match place(&mut w, built, Some(shared::owned_at(&none))) {
         Ok(root) => root,
         Err(_) => panic!(rt; "no slots for a version"),
     };

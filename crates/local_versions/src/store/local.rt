@@ -1,9 +1,10 @@
 //! The store of one thread.
 
-ghost use Rattle.std.specs.Prelude.{◌≡◌, ◌≤◌, ◌<◌, ◌+◌, ◌-◌, ◌*◌, ◌^◌, List, Option, None, Some, IfOk, IfSome, IfNone, IsErrOf, IsSome, IsTrue, IsFalse, ◌↔◌, OnOk, OnErr, get_or, length, replicate, slice_get, slice_set};
+ghost use Rattle.std.specs.Prelude.{◌≡◌, ◌≤◌, ◌<◌, ◌+◌, ◌-◌, ◌*◌, ◌^◌, ℕ, List, Option, None, Some, IfOk, IfSome, IfNone, IsErrOf, IsSome, IsTrue, IsFalse, ◌↔◌, OnOk, OnErr, get_or, length, replicate, slice_get, slice_set};
 ghost use Rattle.std.specs.List.{All, sum_by};
 ghost use Rattle.std.specs.Option.{option_map};
 ghost use Rattle.leaf_array.specs.Values.{ClonesAreSame};
+ghost use Rattle.sdd_world.specs.Frame.{IsLive};
 ghost use Rattle.sdd_world.specs.Passing.{slot_kept};
 ghost use Rattle.sdd_world.specs.State.{cell_at, value_at};
 ghost use Rattle.sdd_world.specs.Tokens.{shared_cell};
@@ -25,6 +26,8 @@ use sdd_world::cell::AtomicShared;
 use sdd_world::job::NoJob;
 use sdd_world::owner::Kept;
 use sdd_world::sizes::Sizes;
+use sdd_world::status::Cell;
+use sdd_world::tag::Tag;
 use sdd_world::world::{World, atomic_shared, guard};
 use std::alloc::{AllocError, Global};
 use std::marker::Model;
@@ -131,7 +134,7 @@ impl<K: Clone + Ord, V: Clone, const S: usize> LocalStore<K, V, S> {
             },
         };
         free_all(&mut places, &mut free, readers);
-        let version = match place(&mut world, built) {
+        let version = match place(&mut world, built, None) {
             Ok(version) => version,
             Err(_) => unreachable!(),
         };
@@ -251,7 +254,8 @@ impl<K: Clone + Ord, V: Clone, const S: usize> LocalStore<K, V, S> {
         };
         // what is asked here tells the proof how few slots a version takes
         let _slots = built.slots();
-        let version = match place(&mut self.world, built) {
+        let at = atomic_shared::kept_at(&self.world, &self.root);
+        let version = match place(&mut self.world, built, Some(at)) {
             Ok(version) => version,
             Err(_built) => return Err(WriteRefused::NoSlot),
         };
@@ -379,6 +383,7 @@ fn present<'w, K: Ord, V, const S: usize>(
     ensures version { IsVersion K.cmp (value_at w.now) result.now }
     ensures is { record { number = result.now.number; pairs = list_of (value_at w.now) result.now } ≡ version_in w.now (slot_kept (cell_at w.now (shared_cell root.now))) }
     ensures shared { All (CanBeShared w.now) (slots_of result.now) }
+    ensures there { (i : ℕ) (tag : Tag) → cell_at w.now (shared_cell root.now) ≡ Cell.OfShared (Some i) tag → IsLive w.now i × (value_at w.now i ≡ Some (Item.Directory result.now)) }
 {
     match atomic_shared::as_ref(w, root) {
         Some(item) => match item.directory() {

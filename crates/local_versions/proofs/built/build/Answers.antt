@@ -1,60 +1,32 @@
-use Rattle.std.proofs.Common.{◌≡◌, ◌≤◌, ◌+◌, ◌*◌, ◌/◌, length, sym, ap, ◌∙◌, subst, arith}
-use Rattle.std.proofs.lemmas.List.{length-map}
-use Rattle.sdd_world.specs.State.{value_at}
-use Rattle.version_views.specs.Cuts.{IsCut, pairs_in}
-use Rattle.version_views.specs.Items.{slots_of}
-use Rattle.version_drafts.specs.Parts.{blocks_of_parts, made_in, part_pairs}
+use Rattle.std.proofs.Common.{◌≡◌, ℕ, Some, sym, subst, arith}
+use Rattle.std.proofs.lemmas.Result.{IfOk-weaker}
+use Rattle.version_views.specs.Cuts.{IsCut, separators_of}
 use Rattle.version_views.specs.Versions.{blocks_of}
-use Rattle.version_views.specs.Writes.{after_writes}
-use Rattle.local_versions.specs.Placing.{Base, named_among}
-use Rattle.version_views.proofs.BlockListLemmas.{blocks_fit}
-use Rattle.local_versions.proofs.BaseVersionLemmas.{all_takeable, blocks_plain}
+use Rattle.version_views.proofs.SeparatorSearchLemmas.{separators_are}
+use Rattle.sdd_world.specs.State.{value_at}
+use Rattle.std.specs.List.{All}
+use Rattle.sdd_world.specs.Frame.{IsLive}
+use Rattle.version_views.specs.Items.{slots_of}
+use Rattle.version_views.specs.declared.item.Item.TheVariants as items
+use Rattle.version_drafts.specs.Drafts.{IsPlanned}
+use Rattle.local_versions.specs.Placing.{CanBeShared, IsPlaceable}
+use Rattle.local_versions.proofs.BuildingLemmas.{placeable_beside}
 use Rattle.local_versions.proofs.built.build.Goals as goal
 
-pub invariant_of-result : goal.invariant_of-result
-invariant_of-result g c =
-    let e = c.in_ok-segments.ensures in
-    let segments = c.in_ok-segments.segments in
-    let few = blocks_fit g.row.S _ e.cut.tight in
-    let long = length-map segments.parts.items (part_pairs (named_among (slots_of c.new-old.result.directory) (value_at c.new-old.result.state))) in
-    let all = e.length in
-    let made = c.made_of-made.ensures in
-    let value = c.deref.ensures.value in
-    let size = ap length value in
-    let upto = made.few in
-    let room = c.in_ok-owners.ensures.capacity in
-    let len = c.len.ensures in
-    record {
-      few = subst (λ n. length segments.parts.items ≤ 2 * (n / (g.row.S + 1)) + 1) (sym all) (omega (arith, few, long));
-      counted = made.count ∙ ap made_in value;
-      upto = omega (arith, upto, size);
-      none = c.in_ok-owners.ensures.items;
-      room = omega (arith, room, len, segments.parts.ok.0);
-    }
-
-pub returns-clause-list : goal.returns-clause-list
-returns-clause-list g c =
-    let e = c.in_ok-segments.ensures in
-    let segments = c.in_ok-segments.segments in
-    let ps = segments.parts.items in
-    let at = value_at c.args.w.now in
-    let slots = slots_of c.args.dir.now in
-    let cut = subst (λ (o : Base _ _ _). IsCut g.K.Ord.cmp g.row.S (blocks_of_parts (named_among (slots_of o.directory) (value_at o.state)) ps) segments.separators.items) c.new-old.ensures e.cut in
-    let list = subst (λ (o : Base _ _ _). pairs_in (blocks_of_parts (named_among (slots_of o.directory) (value_at o.state)) ps) ≡ after_writes g.K.Ord.cmp c.args.writes.now (pairs_in (blocks_of (value_at o.state) o.directory))) c.new-old.ensures e.list in
-    sym (ap pairs_in (blocks_plain at slots ps cut.sizes)) ∙ list
+pub build-requires : goal.build-requires
+build-requires g c =
+    let cmp = g.K.Ord.cmp in
+    let blocks = blocks_of (value_at c.args.w.now) c.args.dir.now in
+    let keys = c.args.dir.now.separators.items in
+    let cut = c.requires.version.cut in
+    let whole = subst (λ ks. IsCut cmp g.row.S blocks ks) (separators_are blocks keys cut.separated) cut in
+    (omega arith, (c.requires.size, (c.requires.keys, (c.requires.values, subst (λ bs. IsCut cmp g.row.S bs (separators_of bs)) (sym c.view_of-old.ensures) whole))))
 
 pub returns-clause-placeable : goal.returns-clause-placeable
-returns-clause-placeable g c = λ can.
-    let e = c.in_ok-segments.ensures in
-    let segments = c.in_ok-segments.segments in
-    let ps = segments.parts.items in
-    let at = value_at c.args.w.now in
-    let slots = slots_of c.args.dir.now in
-    let cut = subst (λ (o : Base _ _ _). IsCut g.K.Ord.cmp g.row.S (blocks_of_parts (named_among (slots_of o.directory) (value_at o.state)) ps) segments.separators.items) c.new-old.ensures e.cut in
-    let count = subst (λ (o : Base _ _ _). segments.length ≡ length (pairs_in (blocks_of_parts (named_among (slots_of o.directory) (value_at o.state)) ps))) c.new-old.ensures e.length in
-    let plain = blocks_plain at slots ps cut.sizes in
-    record {
-      cut = subst (λ bs. IsCut g.K.Ord.cmp g.row.S bs segments.separators.items) plain cut;
-      counted = count ∙ ap (λ bs. length (pairs_in bs)) plain;
-      there = all_takeable c.args.w.now slots can ps cut.sizes;
-    }
+returns-clause-placeable g c =
+    let cmp = g.K.Ord.cmp in
+    let w = c.args.w.now in
+    let dir = c.args.dir.now in
+    IfOk-weaker c.build.result _ (λ made. All (CanBeShared w) (slots_of dir) → (i : ℕ) → IsLive w i → value_at w i ≡ Some (items.Directory dir) → IsPlaceable cmp w (Some i) made.0)
+    (λ made planned. placeable_beside cmp w dir c.requires.version made.0 (subst (λ bs. IsPlanned cmp bs made.0) c.view_of-old.ensures planned))
+    c.build.ensures.planned

@@ -4,7 +4,8 @@ use Rattle.sdd_world.specs.State.{placed, value_at}
 use Rattle.sdd_world.specs.declared.status.Status.TheVariants as status
 use Rattle.version_views.specs.declared.item.Item.TheVariants as item
 use Rattle.version_drafts.specs.Parts.{made_in}
-use Rattle.local_versions.specs.Placing.{IsPlaceable, Places, Plan}
+use Rattle.version_views.specs.Versions.{segment_pairs}
+use Rattle.local_versions.specs.Placing.{IsPlaceable, Places, Plan, older_slot, slots_at}
 use Rattle.local_versions.proofs.PlacingLemmas.{no_vacancy, places_directory}
 use Rattle.local_versions.proofs.TakingLemmas.{taken_once}
 use Rattle.local_versions.proofs.placing.place.Goals as goal
@@ -16,9 +17,9 @@ place_parts-segments-requires g c =
     let free = c.free_slots.ensures in
     let slots = c.slots.ensures.count in
     let same = ap (λ (p : Plan _ _ _). made_in p.parts) e.plan in
-    let ready = subst (IsPlaceable g.K.Ord.cmp c.args.w.now) (sym e.plan) c.requires in (
+    let ready = subst (IsPlaceable g.K.Ord.cmp c.args.w.now (older_slot c.args.older)) (sym e.plan) c.requires in (
       omega arith,
-      (e.none, (e.room, (omega (arith, room, free, slots, same), (taken_once g.K.Ord.cmp g.met.K.Ord.total (value_at c.args.w.now) _ _ ready.cut, ready.there)))),
+      (e.room.0, (e.room.1, (omega (arith, room, free, slots, same), (taken_once g.K.Ord.cmp g.met.K.Ord.total (λ i. segment_pairs (value_at c.args.w.now i)) (slots_at c.args.w.now (older_slot c.args.older)) c.into_parts-number.result.1.parts.items ready.cut, ready.there)))),
     )
 
 pub unreachable-requires : goal.unreachable-requires
@@ -34,10 +35,10 @@ unreachable-requires g c =
 pub returns-clause-placed : goal.returns-clause-placed
 returns-clause-placed g c =
     let is = c.into_parts-number.ensures.plan in
-    let ready = subst (IsPlaceable g.K.Ord.cmp c.args.w.now) (sym is) c.requires in
+    let ready = subst (IsPlaceable g.K.Ord.cmp c.args.w.now (older_slot c.args.older)) (sym is) c.requires in
     let put = subst (λ d. c.new.new.w ≡ placed (shared_slot c.in-Ok.root) (item.Directory d) (status.Shared 1) c.place_parts-segments.new.w) c.new-directory.ensures c.in-Ok.ensures.placed.1 in
-    subst (λ (p : Plan _ _ _). Places g.K.Ord.cmp p (shared_slot c.in-Ok.root) c.args.w.now c.new.new.w) is
-    (places_directory g.K.Ord.cmp g.met.K.Ord.total c.args.w.now c.place_parts-segments.new.w c.new.new.w _ (shared_slot c.in-Ok.root) _ refl c.place_parts-segments.ensures ready.cut ready.counted c.laws.ensures c.in-Ok.ensures.placed.0 put c.in-Ok.ensures.keeps)
+    subst (λ (p : Plan _ _ _). Places g.K.Ord.cmp (older_slot c.args.older) p (shared_slot c.in-Ok.root) c.args.w.now c.new.new.w) is
+    (places_directory g.K.Ord.cmp g.met.K.Ord.total c.args.w.now c.place_parts-segments.new.w c.new.new.w (older_slot c.args.older) _ (shared_slot c.in-Ok.root) _ refl c.place_parts-segments.ensures ready.cut ready.counted c.laws.ensures c.in-Ok.ensures.placed.0 put c.in-Ok.ensures.keeps)
 
 pub returns-clause-keeps : goal.returns-clause-keeps
 returns-clause-keeps g c = (returns-clause-placed g c).adds.keeps

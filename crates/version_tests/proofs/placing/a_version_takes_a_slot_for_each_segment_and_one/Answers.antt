@@ -13,12 +13,12 @@ use Rattle.sdd_world.specs.declared.tag.Tag.TheVariants as tag
 use Rattle.sdd_world.proofs.CountLemmas.{owners_are_counted}
 use Rattle.version_views.specs.Items.{held_by}
 use Rattle.version_views.specs.declared.item.Item.{Item}
-use Rattle.local_versions.proofs.PublishLemmas.{empty_placeable}
+use Rattle.local_versions.specs.Placing.{IsPlaceable}
 use Rattle.version_tests.proofs.Settled.{Settled, counted_first, settled_fresh, settled_placed, settled_shared, version_with_cell}
 use Rattle.version_tests.proofs.placing.a_version_takes_a_slot_for_each_segment_and_one.Goals as goal
 
 pub place-requires : goal.place-requires
-place-requires g c = (omega arith, (omega arith, c.begin-w.ensures.placeable))
+place-requires g c = (omega arith, (omega arith, subst (λ at. IsPlaceable nat_cmp c.begin-w.result.w at c.begin-w.result.built) (sym c.owned_at-older.ensures) c.begin-w.ensures.placeable))
 
 -- the cell of the root leaves the version and its owner
 pub version-requires : goal.version-requires

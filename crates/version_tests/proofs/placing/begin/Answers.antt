@@ -2,6 +2,7 @@ use Rattle.std.proofs.Common.{◌≤◌, ◌+◌, ℕ, List, [], ◌∷◌, leng
 use Rattle.std.proofs.lemmas.List.{length-replicate}
 use Rattle.std.specs.Ordering.{nat_cmp}
 use Rattle.sdd_world.specs.Counting.{Counted, OwnersAreCounted}
+use Rattle.sdd_world.specs.Frame.{has_owner}
 use Rattle.sdd_world.specs.Holding.{Hold, SharedItem}
 use Rattle.sdd_world.specs.State.{State, nobody}
 use Rattle.sdd_world.specs.Tokens.{shared_slot}
@@ -45,7 +46,7 @@ returns-clause-placeable g c =
     let made = rw c.placed-first.ensures at c.place.ensures.placed in
     let new : Settled [] n c.in-Ok.w = subst (λ (w : State (Item ℕ ℕ 2)). Settled [] n w) (sym (rw c.in-Ok.is at c.new.ensures)) (settled_fresh sizes) in
     let one = settled_placed nat_cmp [] n _ first c.in-Ok.w c.place.new.w new made in
-    c.in-Ok-build.ensures.placeable (settled_shared nat_cmp (SharedItem first ∷ []) n c.place.new.w one c.laws.ensures (omega (arith, few, c.requires)) first c.version-2.result.now c.version-2.ensures.stands)
+    c.in-Ok-build.ensures.placeable (settled_shared nat_cmp (SharedItem first ∷ []) n c.place.new.w one c.laws.ensures (omega (arith, few, c.requires)) first c.version-2.result.now c.version-2.ensures.stands) first (ap has_owner made.shared.is) c.version-2.ensures.stands
 
 pub returns-clause-counted : goal.returns-clause-counted
 returns-clause-counted g c =

@@ -1,6 +1,7 @@
 use Rattle.std.proofs.Common.{ℕ, List, [], ◌∷◌, Some, sym, ap, arith, subst}
 use Rattle.std.specs.Ordering.{nat_cmp}
 use Rattle.sdd_world.specs.Counting.{Counted, OwnersAreCounted}
+use Rattle.sdd_world.specs.Frame.{has_owner}
 use Rattle.sdd_world.specs.Holding.{Hold, SharedIn, SharedItem}
 use Rattle.sdd_world.specs.State.{State}
 use Rattle.sdd_world.specs.Tokens.{shared_cell, shared_slot}
@@ -8,6 +9,7 @@ use Rattle.sdd_world.specs.declared.tag.Tag.TheVariants as tag
 use Rattle.sdd_world.proofs.CountLemmas.{owners_are_counted}
 use Rattle.version_views.specs.Items.{held_by}
 use Rattle.version_views.specs.declared.item.Item.{Item}
+use Rattle.local_versions.specs.Placing.{IsPlaceable}
 use Rattle.local_versions.proofs.PublishLemmas.{empty_placeable}
 use Rattle.version_tests.proofs.Settled.{Settled, counted_first, settled_fresh, settled_placed, settled_shared}
 use Rattle.version_tests.proofs.single_steps.begin.Goals as goal
@@ -27,7 +29,8 @@ place-requires-2 g c =
     let new : Settled [] 13 c.in-Ok.w = subst (λ (w : State (Item ℕ ℕ 2)). Settled [] 13 w) (sym (rw c.in-Ok.is at c.new.ensures)) (settled_fresh (record { participants = 2; slots = 12; cells = 1; jobs = 0 })) in
     let made = rw c.placed-empty.ensures at c.place.ensures.placed in
     let one = settled_placed nat_cmp [] 13 _ (shared_slot c.placed-empty.result) c.in-Ok.w c.place.new.w new made in
-    (omega arith, (omega arith, c.built-one.ensures.placeable (settled_shared nat_cmp (SharedItem (shared_slot c.placed-empty.result) ∷ []) 13 c.place.new.w one c.laws.ensures (omega arith) (shared_slot c.placed-empty.result) c.version.result.now c.version.ensures.stands)))
+    let beside = c.built-one.ensures.placeable (settled_shared nat_cmp (SharedItem (shared_slot c.placed-empty.result) ∷ []) 13 c.place.new.w one c.laws.ensures (omega arith) (shared_slot c.placed-empty.result) c.version.result.now c.version.ensures.stands) (shared_slot c.placed-empty.result) (ap has_owner made.shared.is) c.version.ensures.stands in
+    (omega arith, (omega arith, subst (λ older. IsPlaceable nat_cmp c.place.new.w older c.built-one.result) (sym c.owned_at.ensures) beside))
 
 pub built-two-requires-clause-last : goal.built-two-requires-clause-last
 built-two-requires-clause-last g c =
@@ -47,7 +50,8 @@ place-requires-3 g c =
     let made2 = rw c.placed-first.ensures at c.place-2.ensures.placed in
     let one = settled_placed nat_cmp [] 13 _ empty c.in-Ok.w c.place.new.w new made in
     let two = settled_placed nat_cmp (SharedItem empty ∷ []) 13 _ first c.place.new.w c.place-2.new.w one made2 in
-    (omega arith, (omega arith, c.built-two.ensures.placeable (settled_shared nat_cmp (SharedItem first ∷ SharedItem empty ∷ []) 13 c.place-2.new.w two c.laws-2.ensures (omega arith) first c.version-2.result.now c.version-2.ensures.stands)))
+    let beside = c.built-two.ensures.placeable (settled_shared nat_cmp (SharedItem first ∷ SharedItem empty ∷ []) 13 c.place-2.new.w two c.laws-2.ensures (omega arith) first c.version-2.result.now c.version-2.ensures.stands) first (ap has_owner made2.shared.is) c.version-2.ensures.stands in
+    (omega arith, (omega arith, subst (λ older. IsPlaceable nat_cmp c.place-2.new.w older c.built-two.result) (sym c.owned_at-2.ensures) beside))
 
 pub release-requires-clause-live : goal.release-requires-clause-live
 release-requires-clause-live g c =

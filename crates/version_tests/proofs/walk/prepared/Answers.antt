@@ -1,12 +1,14 @@
 use Rattle.std.proofs.Common.{ℕ, List, [], ◌∷◌, sym, ap, arith, subst}
 use Rattle.std.specs.Ordering.{nat_cmp}
 use Rattle.sdd_world.specs.Counting.{Counted, OwnersAreCounted}
+use Rattle.sdd_world.specs.Frame.{has_owner}
 use Rattle.sdd_world.specs.Holding.{Hold, SharedItem}
 use Rattle.sdd_world.specs.State.{State}
 use Rattle.sdd_world.specs.Tokens.{shared_slot}
 use Rattle.sdd_world.proofs.CountLemmas.{owners_are_counted}
 use Rattle.version_views.specs.Items.{held_by}
 use Rattle.version_views.specs.declared.item.Item.{Item}
+use Rattle.local_versions.specs.Placing.{IsPlaceable}
 use Rattle.local_versions.proofs.PublishLemmas.{empty_placeable}
 use Rattle.version_tests.proofs.Settled.{Settled, settled_fresh, settled_placed, settled_shared}
 use Rattle.version_tests.proofs.walk.prepared.Goals as goal
@@ -25,7 +27,9 @@ place-requires-2 g c =
     let none = shared_slot c.in-Ok-place.none in
     let new : Settled [] 1000 c.in-Ok.w = subst (λ (w : State (Item ℕ ℕ g.row.S)). Settled [] 1000 w) (sym c.in-Ok.ensures) (settled_fresh (record { participants = 1; slots = 1000; cells = 0; jobs = 0 })) in
     let one = settled_placed nat_cmp [] 1000 _ none c.in-Ok.w c.place.new.w new c.in-Ok-place.ensures.placed in
-    (omega arith, (omega arith, c.in-Ok-build.ensures.placeable (settled_shared nat_cmp (SharedItem none ∷ []) 1000 c.place.new.w one c.laws.ensures (omega arith) none c.version.result.now c.version.ensures.stands)))
+    let live = ap has_owner c.in-Ok-place.ensures.placed.shared.is in
+    let beside = c.in-Ok-build.ensures.placeable (settled_shared nat_cmp (SharedItem none ∷ []) 1000 c.place.new.w one c.laws.ensures (omega arith) none c.version.result.now c.version.ensures.stands) none live c.version.ensures.stands in
+    (omega arith, (omega arith, subst (λ older. IsPlaceable nat_cmp c.place.new.w older c.in-Ok-build.made.0) (sym c.owned_at.ensures) beside))
 
 pub returns-clause-counted : goal.returns-clause-counted
 returns-clause-counted g c =

@@ -1,12 +1,16 @@
-use Rattle.std.proofs.Common.{◌+◌, ℕ, Some, length, sym, ap, ◌∙◌, subst, arith}
+use Rattle.std.proofs.Common.{◌+◌, ℕ, Option, List, [], Some, length, sym, ap, ◌∙◌, subst, arith}
 use Rattle.std.proofs.lemmas.Bool.{false≢true}
 use Rattle.sdd_world.specs.Frame.{OnlyParticipant}
-use Rattle.sdd_world.specs.State.{in_use, value_at, with_cell}
+use Rattle.sdd_world.specs.State.{in_use, with_cell}
 use Rattle.sdd_world.specs.Steps.{released}
-use Rattle.sdd_world.specs.Tokens.{shared_cell, shared_slot}
+use Rattle.sdd_world.specs.Tokens.{loaded_slot, shared_cell, shared_slot}
+use Rattle.sdd_world.proofs.CountLemmas.{owners_are_counted}
+use Rattle.version_views.specs.Items.{held_by}
 use Rattle.sdd_world.specs.declared.status.Cell.TheVariants as cell
 use Rattle.sdd_world.specs.declared.tag.Tag.TheVariants as tag
-use Rattle.local_versions.specs.Placing.{list_planned, slots_for}
+use Rattle.local_versions.specs.Placing.{IsPlaceable, blocks_at, list_planned, slots_for}
+use Rattle.local_versions.proofs.BuildingLemmas.{blocks_beside}
+use Rattle.local_versions.proofs.SharingLemmas.{same_named}
 use Rattle.version_views.specs.Sizes.{room_for}
 use Rattle.local_versions.specs.Store.{Store, Version, store_of}
 use Rattle.version_views.specs.Writes.{after_writes}
@@ -21,7 +25,15 @@ build-requires g c =
     (omega arith, (omega arith, (c.present-older.ensures.version, (c.requires.size, (omega (arith, number, last), (c.requires.keys, c.requires.values))))))
 
 pub place-requires : goal.place-requires
-place-requires g c = (omega arith, (omega arith, c.in-Ok.ensures.placeable c.present-older.ensures.shared))
+place-requires g c =
+    let store = c.self.invariant.0 in
+    let there = c.present-older.ensures.there store.slot tag.None store.named in
+    let planned = c.in-Ok.ensures.placeable c.present-older.ensures.shared store.slot there.0 there.1 in
+    let older = same_named _ _ _ _ (sym c.kept_at-at.ensures.1 ∙ store.named) in
+    (omega arith, (omega arith, subst (λ (o : Option ℕ). IsPlaceable g.K.Ord.cmp c.self.inside.world o c.in-Ok.made.0) (sym older) planned))
+
+pub kept_at-at-requires : goal.kept_at-at-requires
+kept_at-at-requires g c = (owners_are_counted held_by).cell_in_hand (shared_cell c.self.inside.root) [] c.self.inside.world c.self.invariant.0.counted
 
 pub publish-requires : goal.publish-requires
 publish-requires g c =
@@ -32,8 +44,8 @@ publish-requires g c =
     let store = c.self.invariant.0 in
     let plan = c.in-Ok.made.0 in
     let placed = c.in-Ok-place.ensures.placed in
-    let known = still_known g.K.Ord.cmp w c.place.new.w root slot plan places store placed in
-    (omega arith, (omega (arith, known, c.len.ensures, c.self.inside.readers.ok.0), (still_used g.K.Ord.cmp w c.place.new.w root slot plan places store placed, still_owned g.K.Ord.cmp w c.place.new.w root slot plan places store placed)))
+    let known = still_known g.K.Ord.cmp w c.place.new.w root slot _ plan places store placed in
+    (omega arith, (omega (arith, known, c.len.ensures, c.self.inside.readers.ok.0), (still_used g.K.Ord.cmp w c.place.new.w root slot _ plan places store placed, still_owned g.K.Ord.cmp w c.place.new.w root slot _ plan places store placed)))
 
 pub invariant_of-self-2 : goal.invariant_of-self-2
 invariant_of-self-2 g c =
@@ -45,8 +57,8 @@ invariant_of-self-2 g c =
     let plan = c.in-Ok.made.0 in
     let placed = c.in-Ok-place.ensures.placed in
     let long = c.len.ensures ∙ c.self.inside.readers.ok.0 in
-    let now = c.publish.ensures.published (Some store.slot) tag.None (still_named g.K.Ord.cmp w c.place.new.w root slot plan places store placed) ∙ ap (λ (n : ℕ). released n store.slot (with_cell root (cell.OfShared (Some slot) tag.None) c.place.new.w)) long in
-    (store_published g.K.Ord.cmp w c.place.new.w c.publish.new.w root slot plan places store placed c.laws.ensures now c.publish.ensures.keeps (subst (λ (n : ℕ). OnlyParticipant n c.place.new.w c.publish.new.w) long c.publish.ensures.only), c.self.invariant.1)
+    let now = c.publish.ensures.published (Some store.slot) tag.None (still_named g.K.Ord.cmp w c.place.new.w root slot _ plan places store placed) ∙ ap (λ (n : ℕ). released n store.slot (with_cell root (cell.OfShared (Some slot) tag.None) c.place.new.w)) long in
+    (store_published g.K.Ord.cmp w c.place.new.w c.publish.new.w root slot _ plan places store placed c.laws.ensures now c.publish.ensures.keeps (subst (λ (n : ℕ). OnlyParticipant n c.place.new.w c.publish.new.w) long c.publish.ensures.only), c.self.invariant.1)
 
 -- what is shown of the version that is published
 pub returns-clause-written : goal.returns-clause-written
@@ -59,16 +71,19 @@ returns-clause-written g c =
     let plan = c.in-Ok.made.0 in
     let placed = c.in-Ok-place.ensures.placed in
     let long = c.len.ensures ∙ c.self.inside.readers.ok.0 in
-    let now = c.publish.ensures.published (Some store.slot) tag.None (still_named g.K.Ord.cmp w c.place.new.w root slot plan places store placed) ∙ ap (λ (n : ℕ). released n store.slot (with_cell root (cell.OfShared (Some slot) tag.None) c.place.new.w)) long in
-    let shows = published_shows g.K.Ord.cmp w c.place.new.w c.publish.new.w root slot plan places store placed c.laws.ensures now c.publish.ensures.keeps (subst (λ (n : ℕ). OnlyParticipant n c.place.new.w c.publish.new.w) long c.publish.ensures.only) in
+    let now = c.publish.ensures.published (Some store.slot) tag.None (still_named g.K.Ord.cmp w c.place.new.w root slot _ plan places store placed) ∙ ap (λ (n : ℕ). released n store.slot (with_cell root (cell.OfShared (Some slot) tag.None) c.place.new.w)) long in
+    let shows = published_shows g.K.Ord.cmp w c.place.new.w c.publish.new.w root slot _ plan places store placed c.laws.ensures now c.publish.ensures.keeps (subst (λ (n : ℕ). OnlyParticipant n c.place.new.w c.publish.new.w) long c.publish.ensures.only) in
     let is = c.present-older.ensures.is ∙ ap (λ (x : Store _ _). x.present) c.self.view_is in
     let old : Store _ _ = c.args.self.now in
     let number = c.in-Ok.ensures.number ∙ ap (λ (v : Version _ _). v.number + 1) is in
     let pairs = c.in-Ok.ensures.list ∙ ap (λ (v : Version _ _). after_writes g.K.Ord.cmp c.args.writes.now v.pairs) is in
-    let uses = published_uses g.K.Ord.cmp w c.place.new.w c.publish.new.w root slot plan places store placed c.laws.ensures now c.publish.ensures.keeps (subst (λ (n : ℕ). OnlyParticipant n c.place.new.w c.publish.new.w) long c.publish.ensures.only) in
+    let uses = published_uses g.K.Ord.cmp w c.place.new.w c.publish.new.w root slot _ plan places store placed c.laws.ensures now c.publish.ensures.keeps (subst (λ (n : ℕ). OnlyParticipant n c.place.new.w c.publish.new.w) long c.publish.ensures.only) in
     let before : Store _ _ = store_of w root places in
+    let there = c.present-older.ensures.there store.slot tag.None store.named in
+    let blocks = ap (blocks_at w) (same_named _ _ _ _ (sym c.kept_at-at.ensures.1 ∙ store.named)) ∙ blocks_beside g.K.Ord.cmp w c.present-older.result.now c.present-older.ensures.version store.slot there.1 in
     shows
-    ∙ ap (λ (n : ℕ). record before { present = record { number = n; pairs = list_planned (value_at w) plan }; used = in_use w + slots_for plan }) number
+    ∙ ap (λ (n : ℕ). record before { present = record { number = n; pairs = list_planned (blocks_at w (loaded_slot c.kept_at-at.result)) plan }; used = in_use w + slots_for plan }) number
+    ∙ ap (λ (bs : List (List (_ × _))). record before { present = record { number = old.present.number + 1; pairs = list_planned bs plan }; used = in_use w + slots_for plan }) blocks
     ∙ ap (λ ps. record before { present = record { number = old.present.number + 1; pairs = ps }; used = in_use w + slots_for plan }) pairs
     ∙ ap (λ (n : ℕ). record before { present = record { number = old.present.number + 1; pairs = after_writes g.K.Ord.cmp c.args.writes.now old.present.pairs }; used = n }) (sym uses)
     ∙ ap (λ (x : Store _ _). record x { present = record { number = old.present.number + 1; pairs = after_writes g.K.Ord.cmp c.args.writes.now old.present.pairs }; used = in_use c.publish.new.w }) c.self.view_is
@@ -83,12 +98,14 @@ returns-clause-room g c =
     let plan = c.in-Ok.made.0 in
     let placed = c.in-Ok-place.ensures.placed in
     let long = c.len.ensures ∙ c.self.inside.readers.ok.0 in
-    let now = c.publish.ensures.published (Some store.slot) tag.None (still_named g.K.Ord.cmp w c.place.new.w root slot plan places store placed) ∙ ap (λ (n : ℕ). released n store.slot (with_cell root (cell.OfShared (Some slot) tag.None) c.place.new.w)) long in
-    let uses = published_uses g.K.Ord.cmp w c.place.new.w c.publish.new.w root slot plan places store placed c.laws.ensures now c.publish.ensures.keeps (subst (λ (n : ℕ). OnlyParticipant n c.place.new.w c.publish.new.w) long c.publish.ensures.only) in
+    let now = c.publish.ensures.published (Some store.slot) tag.None (still_named g.K.Ord.cmp w c.place.new.w root slot _ plan places store placed) ∙ ap (λ (n : ℕ). released n store.slot (with_cell root (cell.OfShared (Some slot) tag.None) c.place.new.w)) long in
+    let uses = published_uses g.K.Ord.cmp w c.place.new.w c.publish.new.w root slot _ plan places store placed c.laws.ensures now c.publish.ensures.keeps (subst (λ (n : ℕ). OnlyParticipant n c.place.new.w c.publish.new.w) long c.publish.ensures.only) in
     let used = ap (λ (x : Store _ _). x.used) c.self.view_is in
     let is = c.present-older.ensures.is ∙ ap (λ (x : Store _ _). x.present) c.self.view_is in
     let pairs = c.in-Ok.ensures.list ∙ ap (λ (v : Version _ _). after_writes g.K.Ord.cmp c.args.writes.now v.pairs) is in
-    let counted = (c.in-Ok.ensures.placeable c.present-older.ensures.shared).counted ∙ ap length pairs in
+    let there = c.present-older.ensures.there c.self.invariant.0.slot tag.None c.self.invariant.0.named in
+    let blocks = blocks_beside g.K.Ord.cmp c.self.inside.world c.present-older.result.now c.present-older.ensures.version c.self.invariant.0.slot there.1 in
+    let counted = (c.in-Ok.ensures.placeable c.present-older.ensures.shared c.self.invariant.0.slot there.0 there.1).counted ∙ ap (λ (bs : List (List (_ × _))). length (list_planned bs plan)) blocks ∙ ap length pairs in
     let room = ap (room_for g.row.S) counted in
     let few = c.slots-slots.ensures.few in
     let count = c.slots-slots.ensures.count in
@@ -104,8 +121,8 @@ returns-clause-few g c =
     let plan = c.in-Ok.made.0 in
     let placed = c.in-Ok-place.ensures.placed in
     let long = c.len.ensures ∙ c.self.inside.readers.ok.0 in
-    let now = c.publish.ensures.published (Some store.slot) tag.None (still_named g.K.Ord.cmp w c.place.new.w root slot plan places store placed) ∙ ap (λ (n : ℕ). released n store.slot (with_cell root (cell.OfShared (Some slot) tag.None) c.place.new.w)) long in
-    let uses = published_uses g.K.Ord.cmp w c.place.new.w c.publish.new.w root slot plan places store placed c.laws.ensures now c.publish.ensures.keeps (subst (λ (n : ℕ). OnlyParticipant n c.place.new.w c.publish.new.w) long c.publish.ensures.only) in
+    let now = c.publish.ensures.published (Some store.slot) tag.None (still_named g.K.Ord.cmp w c.place.new.w root slot _ plan places store placed) ∙ ap (λ (n : ℕ). released n store.slot (with_cell root (cell.OfShared (Some slot) tag.None) c.place.new.w)) long in
+    let uses = published_uses g.K.Ord.cmp w c.place.new.w c.publish.new.w root slot _ plan places store placed c.laws.ensures now c.publish.ensures.keeps (subst (λ (n : ℕ). OnlyParticipant n c.place.new.w c.publish.new.w) long c.publish.ensures.only) in
     let used = ap (λ (x : Store _ _). x.used) c.self.view_is in
     let few = c.in-Ok.ensures.few in
     omega (arith, uses, used, few)
@@ -121,7 +138,9 @@ returns-in-Err-place-clause-full g c = λ e.
     let used = ap (λ (x : Store _ _). x.used) c.self.view_is in
     let is = c.present-older.ensures.is ∙ ap (λ (x : Store _ _). x.present) c.self.view_is in
     let pairs = c.in-Ok.ensures.list ∙ ap (λ (v : Version _ _). after_writes g.K.Ord.cmp c.args.writes.now v.pairs) is in
-    let counted = (c.in-Ok.ensures.placeable c.present-older.ensures.shared).counted ∙ ap length pairs in
+    let there = c.present-older.ensures.there c.self.invariant.0.slot tag.None c.self.invariant.0.named in
+    let blocks = blocks_beside g.K.Ord.cmp c.self.inside.world c.present-older.result.now c.present-older.ensures.version c.self.invariant.0.slot there.1 in
+    let counted = (c.in-Ok.ensures.placeable c.present-older.ensures.shared c.self.invariant.0.slot there.0 there.1).counted ∙ ap (λ (bs : List (List (_ × _))). length (list_planned bs plan)) blocks ∙ ap length pairs in
     let room = ap (room_for g.row.S) counted in
     let few = c.slots-slots.ensures.few in
     let count = c.slots-slots.ensures.count in
