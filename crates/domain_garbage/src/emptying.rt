@@ -6,15 +6,18 @@ ghost use Rattle.sdd_steps.specs.Steps.{is_ready, is_inside, is_past};
 ghost use Rattle.sdd_homes.specs.declared.Filling.{Filling};
 ghost use Rattle.sdd_homes.specs.declared.Garbage.{Garbage};
 ghost use Rattle.domain_table.specs.Outcomes.{GivesHome, TakesDeed, TakesNext};
-ghost use Rattle.domain_table.specs.Fitting.{FitsSlot};
+ghost use Rattle.domain_table.specs.Fitting.{FitsFree};
 ghost use Rattle.domain_table.specs.Contents.{IsIn};
 ghost use Rattle.domain_table.specs.Plays.{opens_then, opens_noted_then, gathers_then, CanEmpty, empties_then, CanVacate, vacates_then};
 ghost use Rattle.domain_table.specs.declared.board.Home.{Home};
 ghost use Rattle.domain_garbage.specs.Opened.{TakesNoted};
+ghost use Rattle.domain_table.specs.Views.{of_participant};
 
 use atomic_table::Play;
 use domain_table::board::{Acting, Home, Seat, Words};
 use domain_table::holding::Holding;
+use domain_table::layout::{VACANT, owners_word};
+use sdd_plain::sizes::Sizes;
 use std::marker::PhantomData;
 
 struct OnOpen<H>(PhantomData<H>);
@@ -51,7 +54,7 @@ impl<T, H: Holding<T>> Play<Home<T>, Acting> for OnVacate<H> {
 /// its deed is taken out, all its parts are at home, and the owners that it held are in hand.
 pub fn open<T, H: Holding<T>>(words: &Words<T, H>, seat: &mut Seat<T>)
     requires table { (seat.old.table_id ≡ words.now.table_id) × (0 < words.now.table_id.words) }
-    requires ready { (seat.old.me.0.kind ≡ 1) × (is_ready seat.old.me.0.known ≡ true) × (seat.old.me.0.filling ≡ None) }
+    requires ready { (seat.old.me.0.kind ≡ of_participant) × (is_ready seat.old.me.0.known ≡ true) × (seat.old.me.0.filling ≡ None) }
     requires waits { (w : Garbage) × (ws : List Garbage) × (seat.old.me.0.waits ≡ ws ++ w ∷ []) × (w.age ≡ 3) }
     ensures seat { (seat.new.table_id ≡ seat.old.table_id) × (seat.new.id ≡ seat.old.id) }
     ensures inside { (w : Garbage) (ws : List Garbage) → seat.old.me.0.waits ≡ ws ++ w ∷ [] → w.slot < seat.old.me.0.sizes.slots }
@@ -66,7 +69,7 @@ pub fn open<T, H: Holding<T>>(words: &Words<T, H>, seat: &mut Seat<T>)
 /// the count that was read again under the open guard.
 pub fn open_noted<T, H: Holding<T>>(words: &Words<T, H>, seat: &mut Seat<T>)
     requires table { (seat.old.table_id ≡ words.now.table_id) × (0 < words.now.table_id.words) }
-    requires ready { (seat.old.me.0.kind ≡ 1) × (is_ready seat.old.me.0.known ≡ true) × (is_inside seat.old.me.0.known ≡ true) × (seat.old.me.0.filling ≡ None) }
+    requires ready { (seat.old.me.0.kind ≡ of_participant) × (is_ready seat.old.me.0.known ≡ true) × (is_inside seat.old.me.0.known ≡ true) × (seat.old.me.0.filling ≡ None) }
     requires noted { (w : Garbage) × (ws : List Garbage) × (seat.old.me.0.collected ≡ ws ++ w ∷ []) × (is_past w.age seat.old.me.0.known.reread ≡ true) }
     ensures seat { (seat.new.table_id ≡ seat.old.table_id) × (seat.new.id ≡ seat.old.id) }
     ensures inside { (w : Garbage) (ws : List Garbage) → seat.old.me.0.collected ≡ ws ++ w ∷ [] → w.slot < seat.old.me.0.sizes.slots }
@@ -80,7 +83,7 @@ pub fn open_noted<T, H: Holding<T>>(words: &Words<T, H>, seat: &mut Seat<T>)
 /// are in hand.
 pub fn gather<T, H: Holding<T>>(words: &Words<T, H>, seat: &mut Seat<T>)
     requires table { (seat.old.table_id ≡ words.now.table_id) × (0 < words.now.table_id.words) }
-    requires filled { (seat.old.me.0.kind ≡ 1) × ((f : Filling) × (seat.old.me.0.filling ≡ Some f) × (0 < f.filled) × (f.out ≡ seat.old.me.0.sizes.participants)) }
+    requires filled { (seat.old.me.0.kind ≡ of_participant) × ((f : Filling) × (seat.old.me.0.filling ≡ Some f) × (0 < f.filled) × (f.out ≡ seat.old.me.0.sizes.participants)) }
     ensures seat { (seat.new.table_id ≡ seat.old.table_id) × (seat.new.id ≡ seat.old.id) }
     ensures taken { TakesNext (IsIn H.holds) seat.old.me seat.new.me }
 {
@@ -91,7 +94,7 @@ pub fn gather<T, H: Holding<T>>(words: &Words<T, H>, seat: &mut Seat<T>)
 /// Gives the home back that `gather` took. It is empty now.
 pub fn empty<T, H: Holding<T>>(words: &Words<T, H>, seat: &mut Seat<T>)
     requires table { (seat.old.table_id ≡ words.now.table_id) × (0 < words.now.table_id.words) }
-    requires emptied { (seat.old.me.0.kind ≡ 1) × ((f : Filling) × (tail : List (ℕ × Home T)) × CanEmpty (IsIn H.holds) seat.old.me f tail) }
+    requires emptied { (seat.old.me.0.kind ≡ of_participant) × ((f : Filling) × (tail : List (ℕ × Home T)) × CanEmpty (IsIn H.holds) seat.old.me f tail) }
     ensures seat { (seat.new.table_id ≡ seat.old.table_id) × (seat.new.id ≡ seat.old.id) }
     ensures given { GivesHome (IsIn H.holds) seat.old.me seat.new.me }
 {
@@ -99,19 +102,12 @@ pub fn empty<T, H: Holding<T>>(words: &Words<T, H>, seat: &mut Seat<T>)
     let _ = words.load::<OnEmpty<H>>(seat, 0);
 }
 
-/// Gives `slot` back, for `participants` and `cells` of them: all homes are empty, and the room is in the item's own, which is
-/// put back in the same step.
-pub fn vacate<T, H: Holding<T>>(
-    words: &Words<T, H>,
-    seat: &mut Seat<T>,
-    participants: usize,
-    cells: usize,
-    slot: usize,
-)
-    requires table { FitsSlot words.now.table_id words.now.key.sizes seat.old.table_id seat.old.me.0.sizes participants cells slot }
-    requires emptied { (seat.old.me.0.kind ≡ 1) × (seat.old.me.0.slot ≡ slot) × ((f : Filling) × (tail : List (ℕ × Home T)) × CanVacate (IsIn H.holds) seat.old.me f tail) }
+/// Gives `slot` back: all homes are empty, and the room is in the item's own, which is put back in the same step.
+pub fn vacate<T, H: Holding<T>>(words: &Words<T, H>, seat: &mut Seat<T>, sizes: &Sizes, slot: usize)
+    requires table { FitsFree words.now.table_id words.now.key.sizes seat.old.table_id seat.old.me.0.sizes sizes.now slot }
+    requires emptied { (seat.old.me.0.kind ≡ of_participant) × (seat.old.me.0.slot ≡ slot) × ((f : Filling) × (tail : List (ℕ × Home T)) × CanVacate (IsIn H.holds) seat.old.me f tail) }
     ensures seat { (seat.new.table_id ≡ seat.old.table_id) × (seat.new.id ≡ seat.old.id) }
     ensures vacant { (f : Filling) (tail : List (ℕ × Home T)) → CanVacate (IsIn H.holds) seat.old.me f tail → seat.new.me ≡ (record seat.old.me.0 { filling = None }, tail) }
 {
-    words.store::<OnVacate<H>>(seat, 8 * participants + 16 + cells + slot, 0);
+    words.store::<OnVacate<H>>(seat, owners_word(sizes, slot), VACANT);
 }

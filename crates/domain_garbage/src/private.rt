@@ -13,7 +13,7 @@ ghost use Rattle.domain_table.specs.Fitting.{FitsSizes};
 ghost use Rattle.domain_table.specs.Leases.{row_told, lease_told, row_slots, all_below, IsFirst};
 ghost use Rattle.domain_table.specs.Ledgers.{WaitsIn};
 ghost use Rattle.domain_table.specs.Plays.{reread_then, hand_all_then, without_bag, bag_alone, with_bag};
-ghost use Rattle.domain_table.specs.Views.{spent, gathering, rereading};
+ghost use Rattle.domain_table.specs.Views.{of_participant, spent, gathering, rereading};
 ghost use Rattle.domain_garbage.specs.Bag.{IsKept, NoneDue, HandsAll, GivesBack, PutsIn, garbage_told};
 
 use crate::notes::Notes;
@@ -98,7 +98,7 @@ pub fn new_bag<T, H: Holding<T>>(words: &Words<T, H>) -> Calm<Acting>
 /// Brings a private bag to the participant's seat.
 pub fn take_bag<T, H: Holding<T>>(words: &Words<T, H>, seat: &mut Seat<T>, bag: Calm<Acting>)
     requires table { (seat.old.table_id ≡ words.now.table_id) × (bag.badge.table_id ≡ words.now.table_id) × (0 < words.now.table_id.words) }
-    requires ready { seat.old.me.0.kind ≡ 1 }
+    requires ready { seat.old.me.0.kind ≡ of_participant }
     requires bag { (ws : List Garbage) × (bag.badge.views ≡ gathering ws ∷ []) }
     ensures seat { (seat.new.table_id ≡ seat.old.table_id) × (seat.new.id ≡ seat.old.id) }
     ensures taken { (ws : List Garbage) → bag.badge.views ≡ gathering ws ∷ [] → seat.new.me ≡ (record seat.old.me.0 { collected = ws }, seat.old.me.1) }
@@ -109,7 +109,7 @@ pub fn take_bag<T, H: Holding<T>>(words: &Words<T, H>, seat: &mut Seat<T>, bag: 
 /// Gives the private bag that is at the participant's seat one of its own.
 pub fn part_bag<T, H: Holding<T>>(words: &Words<T, H>, seat: &mut Seat<T>) -> Calm<Acting>
     requires table { (seat.old.table_id ≡ words.now.table_id) × (0 < words.now.table_id.words) }
-    requires ready { seat.old.me.0.kind ≡ 1 }
+    requires ready { seat.old.me.0.kind ≡ of_participant }
     ensures seat { (seat.new.table_id ≡ seat.old.table_id) × (seat.new.id ≡ seat.old.id) × (seat.new.me ≡ (without_bag seat.old.me.0, seat.old.me.1)) }
     ensures bag { (result.badge.table_id ≡ seat.old.table_id) × (result.badge.views ≡ bag_alone seat.old.me.0 ∷ []) }
 {
@@ -119,7 +119,7 @@ pub fn part_bag<T, H: Holding<T>>(words: &Words<T, H>, seat: &mut Seat<T>) -> Ca
 /// Reads the count of raises again under the open guard, for a note.
 pub fn reread<T, H: Holding<T>>(words: &Words<T, H>, seat: &mut Seat<T>) -> u64
     requires table { (seat.old.table_id ≡ words.now.table_id) × (0 < words.now.table_id.words) }
-    requires open { (seat.old.me.0.kind ≡ 1) × (is_inside seat.old.me.0.known ≡ true) }
+    requires open { (seat.old.me.0.kind ≡ of_participant) × (is_inside seat.old.me.0.known ≡ true) }
     ensures seat { (seat.new.table_id ≡ seat.old.table_id) × (seat.new.id ≡ seat.old.id) }
     ensures noted { seat.new.me ≡ (record seat.old.me.0 { known = rereading result seat.old.me.0.known }, seat.old.me.1) }
     ensures least { seat.old.me.0.born ≤ result }
@@ -139,7 +139,7 @@ pub fn hand_all<T, H: Holding<T>>(
     bags: &mut Bags,
 )
     requires table { FitsSizes words.now.table_id words.now.key.sizes seat.old.table_id seat.old.me.0.sizes sizes.now }
-    requires ready { (seat.old.me.0.kind ≡ 1) × (is_ready seat.old.me.0.known ≡ true) }
+    requires ready { (seat.old.me.0.kind ≡ of_participant) × (is_ready seat.old.me.0.known ≡ true) }
     requires kept { IsKept sizes.now.slots seat.old.me.0.collected kept }
     requires waits { WaitsIn sizes.now.slots seat.old.me.0.waits bags.old }
     ensures seat { (seat.new.table_id ≡ seat.old.table_id) × (seat.new.id ≡ seat.old.id) }
@@ -162,7 +162,7 @@ pub fn take_due<T, H: Holding<T>>(
     count: u64,
 ) -> Option<usize>
     requires table { FitsSizes words.now.table_id words.now.key.sizes seat.old.table_id seat.old.me.0.sizes sizes.now }
-    requires acts { seat.old.me.0.kind ≡ 1 }
+    requires acts { seat.old.me.0.kind ≡ of_participant }
     requires kept { IsKept sizes.now.slots seat.old.me.0.collected kept.old }
     ensures seat { (seat.new.table_id ≡ seat.old.table_id) × (seat.new.id ≡ seat.old.id) × (seat.new.me ≡ seat.old.me) }
     ensures none { IfNone result (IsKept sizes.now.slots seat.old.me.0.collected kept.new × NoneDue count seat.old.me.0.collected) }
@@ -189,7 +189,7 @@ fn keep<T, H: Holding<T>>(
     noted: Noted,
 )
     requires table { FitsSizes words.now.table_id words.now.key.sizes seat.old.table_id seat.old.me.0.sizes sizes.now × (noted.slot < sizes.now.slots) }
-    requires acts { seat.old.me.0.kind ≡ 1 }
+    requires acts { seat.old.me.0.kind ≡ of_participant }
     requires came { (w : Garbage) × (ws : List Garbage) × (seat.old.me.0.collected ≡ w ∷ ws) × (w.slot ≡ noted.slot) × (w.age ≡ noted.note) × IsKept sizes.now.slots ws kept.old × (length ws < sizes.now.slots) × ((v : Garbage) → Has ws v → v.age ≤ noted.note) × NoneDue noted.note ws }
     ensures seat { (seat.new.table_id ≡ seat.old.table_id) × (seat.new.id ≡ seat.old.id) }
     ensures kept { (cs : List Garbage) × IsKept sizes.now.slots cs kept.new × (map garbage_told cs ≡ map garbage_told seat.old.me.0.collected) × (seat.new.me ≡ (record seat.old.me.0 { collected = cs }, seat.old.me.1)) }
@@ -215,7 +215,7 @@ pub fn give_back<T, H: Holding<T>>(
     owner: One<Stored<T>>,
 )
     requires table { FitsSizes words.now.table_id words.now.key.sizes seat.old.table_id seat.old.me.0.sizes sizes.now × (number < sizes.now.participants) }
-    requires ready { (seat.old.me.0.kind ≡ 1) × (seat.old.me.0.number ≡ number) × (is_ready seat.old.me.0.known ≡ true) × (seat.old.me.0.releasing ≡ 0) }
+    requires ready { (seat.old.me.0.kind ≡ of_participant) × (seat.old.me.0.number ≡ number) × (is_ready seat.old.me.0.known ≡ true) × (seat.old.me.0.releasing ≡ 0) }
     requires owner { IsFirst seat.old.me.0 slot owner.part.life.id × IsSome owner.part.seen.value }
     requires rows { ((life : ℕ) × (map row_told rows.old.items ≡ map (lease_told life) seat.old.me.0.leases)) × (all_below sizes.now.slots (row_slots rows.old.items) ≡ true) }
     requires waits { WaitsIn sizes.now.slots seat.old.me.0.waits bags.old }
@@ -244,7 +244,7 @@ pub fn put_in<T, H: Holding<T>>(
     owner: One<Stored<T>>,
 ) -> bool
     requires table { FitsSizes words.now.table_id words.now.key.sizes seat.old.table_id seat.old.me.0.sizes sizes.now × (number < sizes.now.participants) }
-    requires ready { (seat.old.me.0.kind ≡ 1) × (seat.old.me.0.number ≡ number) × (is_ready seat.old.me.0.known ≡ true) × (seat.old.me.0.releasing ≡ 0) }
+    requires ready { (seat.old.me.0.kind ≡ of_participant) × (seat.old.me.0.number ≡ number) × (is_ready seat.old.me.0.known ≡ true) × (seat.old.me.0.releasing ≡ 0) }
     requires open { (is_inside seat.old.me.0.known ≡ true) × (seat.old.me.0.known.reread ≡ Some noted.note) }
     requires owner { IsFirst seat.old.me.0 noted.slot owner.part.life.id × IsSome owner.part.seen.value }
     requires rows { ((life : ℕ) × (map row_told rows.old.items ≡ map (lease_told life) seat.old.me.0.leases)) × (all_below sizes.now.slots (row_slots rows.old.items) ≡ true) }

@@ -11,11 +11,13 @@ ghost use Rattle.domain_table.specs.Fitting.{FitsSizes, FitsTaken};
 ghost use Rattle.domain_table.specs.Owners.{told};
 ghost use Rattle.domain_table.specs.declared.board.Home.{Home};
 ghost use Rattle.domain_garbage.specs.Opened.{IsOpened, ReclaimsNoted};
+ghost use Rattle.domain_table.specs.Views.{of_participant};
 
 use crate::emptying::{empty, gather, open, open_noted, vacate};
 use domain_table::board::{Home, Seat, Stored, Words};
 use domain_table::holding::Holding;
 use domain_table::homes::{deed_of, let_go, parts_of};
+use domain_table::layout::home_of;
 use domain_table::stored::take_out;
 use parted::Part;
 use sdd_plain::sizes::Sizes;
@@ -36,7 +38,11 @@ fn gather_home<T, H: Holding<T>>(
     ensures some { (0 < result.life.count) × IsSome result.seen.value }
 {
     gather(words, seat);
-    let (part, _) = parts_of::<T, H>(words.exchange(seat, at * sizes.slots + slot, Home::Blank));
+    let (part, _) = parts_of::<T, H>(words.exchange(
+        seat,
+        home_of(at, sizes.slots, slot),
+        Home::Blank,
+    ));
     empty(words, seat);
     part
 }
@@ -69,17 +75,17 @@ fn take_whole<T, H: Holding<T>>(
     slot: usize,
 ) -> T
     requires table { FitsSizes words.now.table_id words.now.key.sizes seat.old.table_id seat.old.me.0.sizes sizes.now × (slot < sizes.now.slots) }
-    requires acts { seat.old.me.0.kind ≡ 1 }
+    requires acts { seat.old.me.0.kind ≡ of_participant }
     requires opened { (hs : List Owner) × (tail : List (ℕ × Home T)) × IsOpened (IsIn H.holds) seat.old.me slot hs tail }
     ensures seat { (seat.new.table_id ≡ seat.old.table_id) × (seat.new.id ≡ seat.old.id) }
     ensures taken { (hs : List Owner) (tail : List (ℕ × Home T)) → IsOpened (IsIn H.holds) seat.old.me slot hs tail → (H.holds result ≡ map told hs) × (seat.new.me ≡ (record seat.old.me.0 { filling = None }, tail)) }
 {
-    let own = sizes.participants * sizes.slots + slot;
+    let own = home_of(sizes.participants, sizes.slots, slot);
     let deed = deed_of::<T, H>(words.exchange(seat, own, Home::Blank));
     let all = gather_all(words, seat, sizes, slot);
     let (item, room) = take_out(deed, all);
     let_go(words.exchange(seat, own, Home::Room(room)));
-    vacate(words, seat, sizes.participants, sizes.cells, slot);
+    vacate(words, seat, sizes, slot);
     item
 }
 
@@ -92,7 +98,7 @@ pub fn reclaim<T, H: Holding<T>>(
     slot: usize,
 ) -> T
     requires table { FitsSizes words.now.table_id words.now.key.sizes seat.old.table_id seat.old.me.0.sizes sizes.now }
-    requires ready { (seat.old.me.0.kind ≡ 1) × (is_ready seat.old.me.0.known ≡ true) × (seat.old.me.0.filling ≡ None) }
+    requires ready { (seat.old.me.0.kind ≡ of_participant) × (is_ready seat.old.me.0.known ≡ true) × (seat.old.me.0.filling ≡ None) }
     requires waits { (w : Garbage) × (ws : List Garbage) × (seat.old.me.0.waits ≡ ws ++ w ∷ []) × (w.age ≡ 3) × (w.slot ≡ slot) }
     ensures seat { (seat.new.table_id ≡ seat.old.table_id) × (seat.new.id ≡ seat.old.id) }
     ensures reclaimed { ReclaimsLast seat.old.me slot (H.holds result) seat.new.me }
@@ -110,7 +116,7 @@ pub fn reclaim_noted<T, H: Holding<T>>(
     slot: usize,
 ) -> T
     requires table { FitsSizes words.now.table_id words.now.key.sizes seat.old.table_id seat.old.me.0.sizes sizes.now }
-    requires ready { (seat.old.me.0.kind ≡ 1) × (is_ready seat.old.me.0.known ≡ true) × (is_inside seat.old.me.0.known ≡ true) × (seat.old.me.0.filling ≡ None) }
+    requires ready { (seat.old.me.0.kind ≡ of_participant) × (is_ready seat.old.me.0.known ≡ true) × (is_inside seat.old.me.0.known ≡ true) × (seat.old.me.0.filling ≡ None) }
     requires noted { (w : Garbage) × (ws : List Garbage) × (seat.old.me.0.collected ≡ ws ++ w ∷ []) × (is_past w.age seat.old.me.0.known.reread ≡ true) × (w.slot ≡ slot) }
     ensures seat { (seat.new.table_id ≡ seat.old.table_id) × (seat.new.id ≡ seat.old.id) }
     ensures reclaimed { ReclaimsNoted seat.old.me slot (H.holds result) seat.new.me }

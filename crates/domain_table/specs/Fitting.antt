@@ -4,15 +4,12 @@ use Rattle.atomic_table.specs.Seated.{TableId}
 use Rattle.sdd_plain.specs.declared.sizes.Sizes.{Sizes}
 use Rattle.domain_table.specs.Layout.{all_words, epoch_words, IsSized}
 use Rattle.domain_table.specs.declared.board.Acting.{Acting}
+use Rattle.domain_table.specs.Views.{of_participant}
 
 module _ (table : TableId) (sizes : Sizes) (seat : TableId) where
   -- the seat is at the table, which has the words of this many participants, and of this cell
   abbrev pub FitsCell : ℕ → ℕ → Type 0
   FitsCell participants cell = (seat ≡ table) × (sizes.participants ≡ participants) × (participants ≤ 2 ^ 30) × (cell < sizes.cells) × (sizes.cells ≤ 2 ^ 30) × (all_words sizes ≤ table.words)
-
-  -- and of this many cells, and of this slot, and the seat knows so
-  abbrev pub FitsSlot : Sizes → ℕ → ℕ → ℕ → Type 0
-  FitsSlot known participants cells slot = (seat ≡ table) × (sizes.participants ≡ participants) × (sizes.cells ≡ cells) × (participants ≤ 2 ^ 30) × (cells ≤ 2 ^ 30) × (slot < sizes.slots) × (sizes.slots ≤ 2 ^ 30) × (all_words sizes ≤ table.words) × (known ≡ sizes)
 
   -- the table has the words of a place of these sizes, and the seat knows them
   abbrev pub FitsSizes : Sizes → Sizes → Type 0
@@ -30,9 +27,9 @@ module _ (table : TableId) (sizes : Sizes) (seat : TableId) where
   abbrev pub FitsNumber : Sizes → Sizes → ℕ → Type 0
   FitsNumber known told number = (seat ≡ table) × (sizes ≡ told) × (known ≡ told) × IsSized told × (all_words told ≤ table.words) × (number < told.participants)
 
-  -- the table has the words of this many participants and cells, and of this slot
-  abbrev pub HasSlotWord : ℕ → ℕ → ℕ → Type 0
-  HasSlotWord participants cells slot = (seat ≡ table) × (sizes.participants ≡ participants) × (sizes.cells ≡ cells) × (participants ≤ 2 ^ 30) × (cells ≤ 2 ^ 30) × (slot < sizes.slots) × (sizes.slots ≤ 2 ^ 30) × (all_words sizes ≤ table.words)
+  -- the table has the words of a place of these sizes, and this slot is one of it
+  abbrev pub HasSlotWord : Sizes → ℕ → Type 0
+  HasSlotWord told slot = (seat ≡ table) × (sizes ≡ told) × IsSized told × (slot < told.slots) × (all_words told ≤ table.words)
 
   -- the table has the words of epochs, of this many participants
   abbrev pub HasEpochs : ℕ → Type 0
@@ -49,7 +46,7 @@ module _ (table : TableId) (sizes : Sizes) (seat : TableId) where
 module _ (table seat : TableId) (d : Acting) where
   -- the seat is at the table of a place of these sizes, and acts for a participant that has taken this slot
   abbrev pub FitsTaken : Sizes → ℕ → Type 0
-  FitsTaken sizes slot = (seat ≡ table) × (0 < table.words) × (d.kind ≡ 1) × (d.sizes ≡ sizes) × IsSized sizes × (d.slot ≡ slot) × (slot < 2 ^ 30)
+  FitsTaken sizes slot = (seat ≡ table) × (0 < table.words) × (d.kind ≡ of_participant) × (d.sizes ≡ sizes) × IsSized sizes × (d.slot ≡ slot) × (slot < 2 ^ 30)
 
   -- the seat is at the table of a place of this many slots, and acts for the participant of this number
   abbrev pub ActsAmong : ℕ → ℕ → Type 0

@@ -20,6 +20,7 @@ use Rattle.sdd_homes.specs.Lying.{Lying}
 use Rattle.sdd_homes.specs.Hands.{items_of, owned}
 use Rattle.domain_table.specs.Layout.{claim_word, cell_word, slot_word, link_word, Tells, all_words, all_homes, all_spares}
 use Rattle.domain_table.specs.declared.board.Acting.{Acting}
+use Rattle.domain_table.specs.Views.{of_participant}
 
 abbrev pub owners_in_hand : Acting → List Owner
 owners_in_hand d = d.hand
@@ -31,7 +32,7 @@ code slot_of (Some i) = suc (slot_of i)
 
 -- the view acts for p, which gives an owner of i back, and has its home of i out for that
 abbrev pub Grasps : Acting → ℕ → ℕ → Type 0
-Grasps d p i = (d.kind ≡ 1) × (d.number ≡ p) × (d.releasing ≡ suc i) × Has (items_of d.hand) i
+Grasps d p i = (d.kind ≡ of_participant) × (d.number ≡ p) × (d.releasing ≡ suc i) × Has (items_of d.hand) i
 
 abbrev pub Grip : List Acting → ℕ → ℕ → Type 0
 Grip views p i = (j : ℕ) × (d : Acting) × At views j d × Grasps d p i
@@ -87,7 +88,7 @@ IsLinked sizes words w = w.next ≢ 0 → slice_index words (link_word sizes w.s
 
 -- so it is of all that is in a bag: of a participant, in a private bag, or left
 pub record Links (sizes : Sizes) (words : List ℕ) (left : ℕ → List Garbage) (views : List Acting) : Type 0 where
-  pub waits : (j : ℕ) (d : Acting) (w : Garbage) → At views j d → d.kind ≡ 1 → Has d.waits w → IsLinked sizes words w
+  pub waits : (j : ℕ) (d : Acting) (w : Garbage) → At views j d → d.kind ≡ of_participant → Has d.waits w → IsLinked sizes words w
   pub notes : (j : ℕ) (d : Acting) (w : Garbage) → At views j d → Has d.collected w → IsLinked sizes words w
   pub lefts : (p : ℕ) (w : Garbage) → Has (left p) w → IsLinked sizes words w
 
@@ -120,8 +121,8 @@ pub record Items {S : Type 0} (IsIn : Content → S → Type 0) (sizes : Sizes) 
   pub hands : (i : ℕ) (it : Item) → At state.items i it → it.hand ≡ owned owners_in_hand i views
   pub owners : (j : ℕ) (d : Acting) (o : Owner) → At views j d → Has d.hand o → Owns state.items book.slot_of o
   pub given : (i : ℕ) (it : Item) → At state.items i it → ((q : ℕ) → it.state ≢ Reclaimed q) → IsGiven state.items book.slot_of (book.held (book.slot_of i)) it
-  pub waiting : (j : ℕ) (d : Acting) (w : Garbage) → At views j d → d.kind ≡ 1 → Has d.waits w → IsWaiting state.items book.slot_of d.number w
+  pub waiting : (j : ℕ) (d : Acting) (w : Garbage) → At views j d → d.kind ≡ of_participant → Has d.waits w → IsWaiting state.items book.slot_of d.number w
   pub leftovers : Leftovers state.items book.slot_of book.left
   pub private : Private state.items book.slot_of views
   pub links : Links sizes words book.left views
-  pub seats : (j : ℕ) (d : Acting) → At views j d → d.kind ≡ 1 → Carries sizes book d
+  pub seats : (j : ℕ) (d : Acting) → At views j d → d.kind ≡ of_participant → Carries sizes book d

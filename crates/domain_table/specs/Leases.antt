@@ -18,6 +18,7 @@ use Rattle.domain_table.specs.declared.board.Acting.{Acting}
 use Rattle.domain_table.specs.declared.board.Home.{Home}
 use Rattle.domain_table.specs.declared.board.Home.TheVariants.{Blank}
 use Rattle.domain_table.specs.declared.row.Row.{Row}
+use Rattle.domain_table.specs.Views.{of_participant}
 
 -- the number of the life that open guards have tokens of, if any is open
 abbrev pub life_number : Option Life → ℕ
@@ -121,11 +122,11 @@ HasOwned k r m m' = (o : Owner) × (ls : List Lease) × (o.slot ≡ k) × (o.rou
 
 -- the seat acts for p under an open guard, has this spare slot, and releases nothing
 abbrev pub CanExchange : ℕ → ℕ → Acting → Type 0
-CanExchange p spare d = (d.kind ≡ 1) × (d.number ≡ p) × (is_ready d.known ≡ true) × (is_inside d.known ≡ true) × (d.releasing ≡ 0) × (d.spare ≡ spare) × (spare < 2 ^ 31)
+CanExchange p spare d = (d.kind ≡ of_participant) × (d.number ≡ p) × (is_ready d.known ≡ true) × (is_inside d.known ≡ true) × (d.releasing ≡ 0) × (d.spare ≡ spare) × (spare < 2 ^ 31)
 
 -- the seat acts for p, which has nothing leased and releases nothing, and may make steps on items
 abbrev pub IsAtRest : ℕ → Acting → Type 0
-IsAtRest p d = (d.kind ≡ 1) × (d.number ≡ p) × (is_ready d.known ≡ true) × (d.releasing ≡ 0) × (d.leases ≡ [])
+IsAtRest p d = (d.kind ≡ of_participant) × (d.number ≡ p) × (is_ready d.known ≡ true) × (d.releasing ≡ 0) × (d.leases ≡ [])
 
 -- the code of what a row is of, or that of nothing
 abbrev pub HasCode : {T : Type 0} → List (Row T) → Option ℕ → ℕ → Type 0

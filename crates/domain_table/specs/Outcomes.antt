@@ -15,7 +15,7 @@ use Rattle.domain_table.specs.Contents.{blanks, is_blank}
 use Rattle.domain_table.specs.Owners.{told, besides}
 use Rattle.domain_table.specs.Leases.{leased_homes, has_all, HasEmptied}
 use Rattle.domain_table.specs.Plays.{with_step, owning, own_spare, Brings, GetsBack, CanKeep, CanEnd, ended_release, Refilled, CanFill, CanEmpty, filling_at, next_filled, gathered, emptying, reclaiming, deed_home}
-use Rattle.domain_table.specs.Views.{publishing, rotated}
+use Rattle.domain_table.specs.Views.{of_participant, publishing, rotated}
 use Rattle.domain_table.specs.declared.board.Acting.{Acting}
 use Rattle.domain_table.specs.declared.board.Home.{Home}
 use Rattle.domain_table.specs.declared.board.Home.TheVariants.{Blank}
@@ -27,11 +27,11 @@ HasPublished e m m' = (b : ℕ) × (e ≤ b) × (m' ≡ (record m.0 { known = pu
 
 -- a slot may be claimed for an item to be placed
 abbrev pub CanClaim : Acting → Type 0
-CanClaim d = (d.kind ≡ 1) × (is_ready d.known ≡ true) × (d.releasing ≡ 0) × (d.filling ≡ None)
+CanClaim d = (d.kind ≡ of_participant) × (is_ready d.known ≡ true) × (d.releasing ≡ 0) × (d.filling ≡ None)
 
 -- an item is ready to be placed: it holds all owners in hand, and no other one
 abbrev pub CanPlaceItem : {T : Type 0} → (T → List (ℕ × ℕ)) → T → Acting → Type 0
-CanPlaceItem holds item d = (d.kind ≡ 1) × (is_ready d.known ≡ true) × (d.releasing ≡ 0) × (holds item ≡ map told d.hand) × (d.filling ≡ None)
+CanPlaceItem holds item d = (d.kind ≡ of_participant) × (is_ready d.known ≡ true) × (d.releasing ≡ 0) × (holds item ≡ map told d.hand) × (d.filling ≡ None)
 
 -- the item is in one of this many slots, by a part of it, and its one owner is in hand
 abbrev pub HasPlacedItem : {T S : Type 0} → T → ℕ → ℕ → ℕ → Option (ManuallyDrop T) → Me S Acting → Me S Acting → Type 0

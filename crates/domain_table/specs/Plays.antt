@@ -14,7 +14,7 @@ use Rattle.sdd_homes.specs.declared.Owner.{Owner}
 use Rattle.sdd_homes.specs.declared.Filling.{Filling}
 use Rattle.sdd_homes.specs.declared.Garbage.{Garbage}
 use Rattle.sdd_homes.specs.Book.{Content, part, home, lease, Lends, Apart, recounted, blank, room, deed}
-use Rattle.domain_table.specs.Views.{spent, gathering, registered, reading, rereading, publishing, rotated, looking, settling, closing}
+use Rattle.domain_table.specs.Views.{of_owner, of_participant, spent, gathering, registered, reading, rereading, publishing, rotated, looking, settling, closing}
 use Rattle.domain_table.specs.Layout.{state_word, claim_word, slot_word, link_word, all_homes, Tells, shown}
 use Rattle.domain_table.specs.Chains.{is_threaded, left_code, AllBelow}
 use Rattle.domain_table.specs.Owners.{slot_code, part_of, besides}
@@ -92,7 +92,7 @@ SteadyButWaits m m' = Steady (record m.0 { waits = m'.0.waits }, m.1) m'
 
 -- the seat acts for p, whose guard is open with the count e, at this stage of a scan
 abbrev pub Scans : {S : Type 0} → Seat S Acting → ℕ → ℕ → ℕ → Type 0
-Scans s p e stage = (s.me.0.kind ≡ 1) × (s.me.0.number ≡ p) × (s.me.0.known.phase ≡ Opened e) × (s.me.0.known.found ≡ e) × (s.me.0.scan ≡ stage)
+Scans s p e stage = (s.me.0.kind ≡ of_participant) × (s.me.0.number ≡ p) × (s.me.0.known.phase ≡ Opened e) × (s.me.0.known.found ≡ e) × (s.me.0.scan ≡ stage)
 
 -- where the participant's home of a slot lies
 abbrev pub own_home : Acting → ℕ → ℕ
@@ -314,7 +314,7 @@ abbrev pub others_in : Acting → Acting
 others_in d = record d { hand = drop 1 d.hand }
 
 abbrev pub first_in : Acting → Acting
-first_in d = record spent { kind = 3; hand = take 1 d.hand }
+first_in d = record spent { kind = of_owner; hand = take 1 d.hand }
 
 -- the owners of another seat come into the hand
 abbrev pub joined_by : Acting → Acting → Acting

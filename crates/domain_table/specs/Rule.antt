@@ -12,7 +12,7 @@ use Rattle.sdd_steps.specs.declared.step.Step.{Step}
 use Rattle.sdd_steps.specs.Invariant.{Inv}
 use Rattle.sdd_homes.specs.Book.{Content, Book}
 use Rattle.sdd_homes.specs.declared.Garbage.{Garbage}
-use Rattle.domain_table.specs.Views.{rested}
+use Rattle.domain_table.specs.Views.{of_participant, rested}
 use Rattle.domain_table.specs.Items.{Items}
 use Rattle.domain_table.specs.Layout.{count_word, lock_word, state_word, claim_word, left_word, epoch_words, shown}
 use Rattle.domain_table.specs.Chains.{is_threaded, left_code}
@@ -44,7 +44,7 @@ pub record Epochs (n : ℕ) (state : steps.State) (born : ℕ → ℕ) (words : 
   pub count_is : slice_index words count_word ≡ state.count
   pub states : (p : ℕ) (x : Participant) → At state.participants p x → slice_index words (state_word p) ≡ shown x.phase
   pub free : (p : ℕ) (x : Participant) → At state.participants p x → slice_index words (claim_word p) ≢ 0 → x ≡ newcomer
-  pub seats : (j : ℕ) (d : Acting) → get_elem? views j ≡ some d → d.kind ≡ 1 → Acts state.participants state.count born words seat_of scanner j d
+  pub seats : (j : ℕ) (d : Acting) → get_elem? views j ≡ some d → d.kind ≡ of_participant → Acts state.participants state.count born words seat_of scanner j d
 
 -- Single steps lead from one state to another.
 abbrev pub Runs : steps.State → steps.State → Type 0

@@ -8,13 +8,23 @@ use Rattle.sdd_homes.specs.declared.Garbage.{Garbage}
 use Rattle.sdd_homes.specs.declared.Owner.{Owner}
 use Rattle.domain_table.specs.declared.board.Acting.{Acting}
 
+-- The kinds of seats: of nobody, which has a private bag at most, of a participant, and of an owner outside of calls.
+abbrev pub of_nobody : ℕ
+of_nobody = 0
+
+abbrev pub of_participant : ℕ
+of_participant = 1
+
+abbrev pub of_owner : ℕ
+of_owner = 3
+
 -- nothing: the view of a seat that acts for nobody
 abbrev pub spent : Acting
-spent = record { kind = 0; number = 0; scan = 0; born = 0; known = newcomer; sizes = record { participants = 0; slots = 0; cells = 0; jobs = 0 }; spare = 0; hand = []; leases = []; releasing = 0; slot = 0; filling = None; waits = []; left = 0; collected = []; cell_steps = [] }
+spent = record { kind = of_nobody; number = 0; scan = 0; born = 0; known = newcomer; sizes = record { participants = 0; slots = 0; cells = 0; jobs = 0 }; spare = 0; hand = []; leases = []; releasing = 0; slot = 0; filling = None; waits = []; left = 0; collected = []; cell_steps = [] }
 
 -- the view of a seat that has the owner o, and acts for nobody
 abbrev pub holding : Owner → Acting
-holding o = record spent { kind = 3; hand = o ∷ [] }
+holding o = record spent { kind = of_owner; hand = o ∷ [] }
 
 -- the view of a seat that has a private bag with these items, and acts for nobody
 abbrev pub gathering : List Garbage → Acting
@@ -22,7 +32,7 @@ gathering ws = record spent { collected = ws }
 
 -- the view of a seat that has just come to act for the participant p, which has the spare slot y
 abbrev pub registered : Sizes → ℕ → ℕ → Acting
-registered sizes y p = record spent { kind = 1; number = p; sizes = sizes; spare = y }
+registered sizes y p = record spent { kind = of_participant; number = p; sizes = sizes; spare = y }
 
 -- the seat has no owner, and nothing of the participant's homes
 abbrev pub IsBare : Acting → Type 0

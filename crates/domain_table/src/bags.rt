@@ -12,7 +12,7 @@ ghost use Rattle.domain_table.specs.Chains.{AllBelow};
 ghost use Rattle.domain_table.specs.Fitting.{FitsSizes};
 ghost use Rattle.domain_table.specs.Ledgers.{WaitsIn, Rearranges};
 ghost use Rattle.domain_table.specs.Plays.{taken_all};
-ghost use Rattle.domain_table.specs.Views.{older_waits};
+ghost use Rattle.domain_table.specs.Views.{of_participant, older_waits};
 
 use crate::board::{Seat, Words};
 use crate::holding::Holding;
@@ -35,7 +35,7 @@ fn join<T, H: Holding<T>>(
     older: Option<Ends>,
 ) -> Option<Ends>
     requires table { FitsSizes words.now.table_id words.now.key.sizes seat.old.table_id seat.old.me.0.sizes sizes.now }
-    requires acts { (seat.old.me.0.kind ≡ 1) × AllBelow sizes.now.slots seat.old.me.0.waits }
+    requires acts { (seat.old.me.0.kind ≡ of_participant) × AllBelow sizes.now.slots seat.old.me.0.waits }
     requires bags { (fs : List Garbage) × (bs : List Garbage) × (rest : List Garbage) × (seat.old.me.0.waits ≡ fs ++ (bs ++ rest)) × IsBag fs newer × IsBag bs older }
     ensures seat { (seat.new.table_id ≡ seat.old.table_id) × (seat.new.id ≡ seat.old.id) }
     ensures joined { (fs bs rest : List Garbage) → seat.old.me.0.waits ≡ fs ++ (bs ++ rest) → IsBag fs newer → IsBag bs older
@@ -62,7 +62,7 @@ fn take_first<T, H: Holding<T>>(
     bag: Option<Ends>,
 ) -> (Option<usize>, Option<Ends>)
     requires table { FitsSizes words.now.table_id words.now.key.sizes seat.old.table_id seat.old.me.0.sizes sizes.now }
-    requires acts { (seat.old.me.0.kind ≡ 1) × AllBelow sizes.now.slots seat.old.me.0.waits }
+    requires acts { (seat.old.me.0.kind ≡ of_participant) × AllBelow sizes.now.slots seat.old.me.0.waits }
     requires bag { (ps : List Garbage) × (cs : List Garbage) × (seat.old.me.0.waits ≡ ps ++ cs) × IsBag cs bag }
     ensures seat { (seat.new.table_id ≡ seat.old.table_id) × (seat.new.id ≡ seat.old.id) × (seat.new.me ≡ seat.old.me) }
     ensures none { IfNone result.0 ((bag ≡ None) × (result.1 ≡ None)) }
@@ -116,7 +116,7 @@ impl Bags {
         slot: usize,
     )
         requires table { FitsSizes words.now.table_id words.now.key.sizes seat.old.table_id seat.old.me.0.sizes sizes.now × (slot < sizes.now.slots) }
-        requires acts { seat.old.me.0.kind ≡ 1 }
+        requires acts { seat.old.me.0.kind ≡ of_participant }
         requires retired { (w : Garbage) × (ws : List Garbage) × (seat.old.me.0.waits ≡ w ∷ ws) × (w.slot ≡ slot) × (w.age ≡ 0) × WaitsIn sizes.now.slots ws self.old }
         ensures seat { (seat.new.table_id ≡ seat.old.table_id) × (seat.new.id ≡ seat.old.id) }
         ensures waits { Rearranges sizes.now.slots seat.old.me self.new seat.new.me }
@@ -138,7 +138,7 @@ impl Bags {
         chain: Option<Ends>,
     )
         requires table { FitsSizes words.now.table_id words.now.key.sizes seat.old.table_id seat.old.me.0.sizes sizes.now }
-        requires acts { seat.old.me.0.kind ≡ 1 }
+        requires acts { seat.old.me.0.kind ≡ of_participant }
         requires taken { (ts : List Garbage) × (ws : List Garbage) × (seat.old.me.0.waits ≡ taken_all ts ws) × IsBag ts chain × AllBelow sizes.now.slots ts × WaitsIn sizes.now.slots ws self.old }
         ensures seat { (seat.new.table_id ≡ seat.old.table_id) × (seat.new.id ≡ seat.old.id) }
         ensures waits { Rearranges sizes.now.slots seat.old.me self.new seat.new.me }
@@ -182,7 +182,7 @@ impl Bags {
         sizes: &Sizes,
     ) -> Option<usize>
         requires table { FitsSizes words.now.table_id words.now.key.sizes seat.old.table_id seat.old.me.0.sizes sizes.now }
-        requires acts { seat.old.me.0.kind ≡ 1 }
+        requires acts { seat.old.me.0.kind ≡ of_participant }
         requires waits { WaitsIn sizes.now.slots seat.old.me.0.waits self.old }
         ensures seat { (seat.new.table_id ≡ seat.old.table_id) × (seat.new.id ≡ seat.old.id) × (seat.new.me ≡ seat.old.me) }
         ensures none { IfNone result (WaitsIn sizes.now.slots seat.old.me.0.waits self.new × (self.new.due ≡ None)) }
@@ -201,7 +201,7 @@ impl Bags {
         sizes: &Sizes,
     ) -> Option<Ends>
         requires table { FitsSizes words.now.table_id words.now.key.sizes seat.old.table_id seat.old.me.0.sizes sizes.now }
-        requires acts { seat.old.me.0.kind ≡ 1 }
+        requires acts { seat.old.me.0.kind ≡ of_participant }
         requires waits { WaitsIn sizes.now.slots seat.old.me.0.waits self × (self.due ≡ None) }
         ensures seat { (seat.new.table_id ≡ seat.old.table_id) × (seat.new.id ≡ seat.old.id) }
         ensures joined { (ws : List Garbage) × IsBag ws result × AllBelow sizes.now.slots ws × (seat.new.me ≡ (record seat.old.me.0 { waits = ws }, seat.old.me.1)) }

@@ -18,8 +18,9 @@ pub struct CellStep {
 }
 
 /// What a seat knows. No value of it is made.
-/// Of kind 1 it acts for the participant `number`; of kind 0 it knows nothing.
 pub struct Acting {
+    /// Of which kind the seat is, by its names in `specs/Views`: `of_nobody` has a private bag at most, `of_participant` acts
+    /// for the participant `number`, and `of_owner` has one owner.
     pub kind: u64,
     pub number: u64,
     /// 0 outside a scan, 1 with the scan lock, and 2 where the count is known to be the published one too.

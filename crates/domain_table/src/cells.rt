@@ -8,15 +8,17 @@ ghost use Rattle.sdd_homes.specs.declared.Owner.{Owner};
 ghost use Rattle.sdd_steps.specs.State.{Has};
 ghost use Rattle.domain_table.specs.Outcomes.{Exchanges, KeepsLease, EndsRelease};
 ghost use Rattle.domain_table.specs.Leases.{HasFew, ReleasesOne};
-ghost use Rattle.domain_table.specs.Fitting.{FitsSlot, FitsCell, HasSlotWord};
+ghost use Rattle.domain_table.specs.Fitting.{FitsFree, FitsCell, HasSlotWord};
 ghost use Rattle.domain_table.specs.Contents.{IsIn};
 ghost use Rattle.domain_table.specs.Layout.{cell_word, Tells, claim_word, all_words, IsSized, AreAlike};
 ghost use Rattle.domain_table.specs.Plays.{Scans, load_then, read_cell_then, with_step, HasLoaded, load_own_then, HasLeasedAt, HasRound, CanClose, ending, end_all_then, Brings, swap_then, cloning, IsAlike, clone_then, MayNote, HasRoom, release_then, HasBegun, begin_then, CanEnd, end_release_then, CanKeep, keep_then, exchange_then, retag_then};
 ghost use Rattle.domain_table.specs.declared.board.Home.{Home};
+ghost use Rattle.domain_table.specs.Views.{of_participant};
 
 use crate::aim::Aim;
 use crate::board::{Acting, Home, Seat, Words};
 use crate::holding::Holding;
+use crate::layout::{NO_OWNER, ONE_OWNER, STATE, STRIDE, cell_word, owners_word};
 use atomic_table::Play;
 use sdd_plain::sizes::Sizes;
 use std::marker::PhantomData;
@@ -97,7 +99,7 @@ impl<T, H: Holding<T>, A: Aim> Play<Home<T>, Acting> for OnEndRelease<H, A> {
 pub fn word_of<T, H: Holding<T>>(words: &Words<T, H>, sizes: &Sizes, cell: usize) -> u64
     requires { (words.now.key.sizes ≡ sizes.now) × IsSized sizes.now × (cell < sizes.now.cells) × (all_words sizes.now ≤ words.now.table_id.words) }
 {
-    words.peek(8 * sizes.participants + 16 + cell)
+    words.peek(cell_word(sizes.participants, cell))
 }
 
 /// Reads the word of the cell, for `participants` of them, in one recorded step: nothing is loaded.
@@ -108,11 +110,11 @@ pub fn read_cell<T, H: Holding<T>>(
     cell: usize,
 ) -> u64
     requires table { FitsCell words.now.table_id words.now.key.sizes seat.old.table_id participants cell }
-    requires acts { seat.old.me.0.kind ≡ 1 }
+    requires acts { seat.old.me.0.kind ≡ of_participant }
     ensures seat { (seat.new.table_id ≡ seat.old.table_id) × (seat.new.id ≡ seat.old.id) }
     ensures read { (y : ℕ) × (k : ℕ) × (y < 2 ^ 31) × Tells result y k × (seat.new.me ≡ with_step (cell_word words.now.key.sizes cell) result result seat.old.me) }
 {
-    words.load::<OnRead>(seat, 8 * participants + 16 + cell)
+    words.load::<OnRead>(seat, cell_word(participants, cell))
 }
 
 /// Loads the cell under the participant's open guard, for `participants` of them. If it names an item, the
@@ -124,18 +126,18 @@ pub(crate) fn load<T, H: Holding<T>>(
     cell: usize,
 ) -> u64
     requires table { FitsCell words.now.table_id words.now.key.sizes seat.old.table_id participants cell }
-    requires open { (seat.old.me.0.kind ≡ 1) × (is_inside seat.old.me.0.known ≡ true) }
+    requires open { (seat.old.me.0.kind ≡ of_participant) × (is_inside seat.old.me.0.known ≡ true) }
     ensures seat { (seat.new.table_id ≡ seat.old.table_id) × (seat.new.id ≡ seat.old.id) }
     ensures loaded { HasLoaded (IsIn H.holds) (with_step (cell_word words.now.key.sizes cell) result result seat.old.me) result seat.new.me }
 {
-    words.load::<OnLoad<H>>(seat, 8 * participants + 16 + cell)
+    words.load::<OnLoad<H>>(seat, cell_word(participants, cell))
 }
 
 /// Loads the item of the owner that is first in hand, under the participant's open guard: the participant's parts of it
 /// are taken out of their home, unless they are leased already.
 pub(crate) fn load_own<T, H: Holding<T>>(words: &Words<T, H>, seat: &mut Seat<T>)
     requires table { (seat.old.table_id ≡ words.now.table_id) × (0 < words.now.table_id.words) }
-    requires open { (seat.old.me.0.kind ≡ 1) × (is_inside seat.old.me.0.known ≡ true) }
+    requires open { (seat.old.me.0.kind ≡ of_participant) × (is_inside seat.old.me.0.known ≡ true) }
     requires owner { (o : Owner) × (os : List Owner) × (seat.old.me.0.hand ≡ o ∷ os) }
     ensures seat { (seat.new.table_id ≡ seat.old.table_id) × (seat.new.id ≡ seat.old.id) }
     ensures loaded { (o : Owner) (os : List Owner) → seat.old.me.0.hand ≡ o ∷ os → HasLeasedAt (IsIn H.holds) seat.old.me o.slot seat.new.me × HasRound seat.new.me.0.leases o }
@@ -156,12 +158,12 @@ pub fn swap<T, H: Holding<T>>(
     word: u64,
 ) -> u64
     requires table { FitsCell words.now.table_id words.now.key.sizes seat.old.table_id participants cell }
-    requires ready { (seat.old.me.0.kind ≡ 1) × (is_ready seat.old.me.0.known ≡ true) × (seat.old.me.0.releasing ≡ 0) }
+    requires ready { (seat.old.me.0.kind ≡ of_participant) × (is_ready seat.old.me.0.known ≡ true) × (seat.old.me.0.releasing ≡ 0) }
     requires brings { (new : Option Owner) × (os : List Owner) × (tail : List (ℕ × Home T)) × Brings (IsIn H.holds) seat.old.me new os word tail }
     ensures seat { (seat.new.table_id ≡ seat.old.table_id) × (seat.new.id ≡ seat.old.id) }
     ensures swapped { Exchanges (IsIn H.holds) (cell_word words.now.key.sizes cell) seat.old.me word result seat.new.me }
 {
-    words.swap::<OnSwap<H>>(seat, 8 * participants + 16 + cell, word)
+    words.swap::<OnSwap<H>>(seat, cell_word(participants, cell), word)
 }
 
 /// Swaps the cell as `swap` does where its word is `expected`, and else loads it as `load` does, in one step either way.
@@ -174,13 +176,13 @@ pub fn compare_exchange<T, H: Holding<T>>(
     word: u64,
 ) -> u64
     requires table { FitsCell words.now.table_id words.now.key.sizes seat.old.table_id participants cell }
-    requires ready { (seat.old.me.0.kind ≡ 1) × (is_ready seat.old.me.0.known ≡ true) × (is_inside seat.old.me.0.known ≡ true) × (seat.old.me.0.releasing ≡ 0) }
+    requires ready { (seat.old.me.0.kind ≡ of_participant) × (is_ready seat.old.me.0.known ≡ true) × (is_inside seat.old.me.0.known ≡ true) × (seat.old.me.0.releasing ≡ 0) }
     requires brings { (new : Option Owner) × (os : List Owner) × (tail : List (ℕ × Home T)) × Brings (IsIn H.holds) seat.old.me new os word tail }
     ensures seat { (seat.new.table_id ≡ seat.old.table_id) × (seat.new.id ≡ seat.old.id) }
     ensures hit { result ≡ expected → Exchanges (IsIn H.holds) (cell_word words.now.key.sizes cell) seat.old.me word result seat.new.me }
     ensures miss { result ≢ expected → HasLoaded (IsIn H.holds) (with_step (cell_word words.now.key.sizes cell) result result seat.old.me) result seat.new.me }
 {
-    words.compare_exchange::<OnExchange<H>>(seat, 8 * participants + 16 + cell, expected, word)
+    words.compare_exchange::<OnExchange<H>>(seat, cell_word(participants, cell), expected, word)
 }
 
 /// Exchanges the word of the cell for one with another tag, where it is `expected`. Whether it was; the cell's item stays.
@@ -193,27 +195,26 @@ pub fn change_tag<T, H: Holding<T>>(
     word: u64,
 ) -> bool
     requires table { FitsCell words.now.table_id words.now.key.sizes seat.old.table_id participants cell }
-    requires acts { seat.old.me.0.kind ≡ 1 }
+    requires acts { seat.old.me.0.kind ≡ of_participant }
     requires alike { AreAlike expected word }
     ensures seat { (seat.new.table_id ≡ seat.old.table_id) × (seat.new.id ≡ seat.old.id) }
     ensures set { IsTrue result → seat.new.me ≡ with_step (cell_word words.now.key.sizes cell) expected word seat.old.me }
     ensures kept { IsFalse result → (w : ℕ) × (seat.new.me ≡ with_step (cell_word words.now.key.sizes cell) w w seat.old.me) }
 {
-    words.compare_exchange::<OnTag>(seat, 8 * participants + 16 + cell, expected, word) == expected
+    words.compare_exchange::<OnTag>(seat, cell_word(participants, cell), expected, word) == expected
 }
 
-/// Tries once to make one more owner of the item that is leased in `slot`, which has `owners` of them, for
-/// `participants` and `cells` of them. The owner is in hand, with one of the parts of the lease. Whether nobody was faster.
+/// Tries once to make one more owner of the item that is leased in `slot`, which has `owners` of them. The owner is in hand,
+/// with one of the parts of the lease. Whether nobody was faster.
 pub(crate) fn clone_owner<T, H: Holding<T>>(
     words: &Words<T, H>,
     seat: &mut Seat<T>,
-    participants: usize,
-    cells: usize,
+    sizes: &Sizes,
     slot: usize,
     owners: u64,
 ) -> bool
-    requires table { FitsSlot words.now.table_id words.now.key.sizes seat.old.table_id seat.old.me.0.sizes participants cells slot }
-    requires ready { (seat.old.me.0.kind ≡ 1) × (is_ready seat.old.me.0.known ≡ true) }
+    requires table { FitsFree words.now.table_id words.now.key.sizes seat.old.table_id seat.old.me.0.sizes sizes.now slot }
+    requires ready { (seat.old.me.0.kind ≡ of_participant) × (is_ready seat.old.me.0.known ≡ true) }
     requires leased { (l : Lease) × Has seat.old.me.0.leases l × (l.slot ≡ slot) × (0 < l.count) }
     requires counted { (0 < owners) × (owners < 2 ^ 32 - 1) }
     ensures seat { (seat.new.table_id ≡ seat.old.table_id) × (seat.new.id ≡ seat.old.id) }
@@ -221,19 +222,16 @@ pub(crate) fn clone_owner<T, H: Holding<T>>(
     ensures refused { IsFalse result → seat.new.me ≡ seat.old.me }
     ensures alike { (l : Lease) → Has seat.old.me.0.leases l → l.slot ≡ slot → Apart seat.old.me.0.leases × IsAlike l seat.old.me.0 }
 {
-    words.compare_exchange::<OnClone>(
-        seat,
-        8 * participants + 16 + cells + slot,
-        2 + owners,
-        3 + owners,
-    ) == 2 + owners
+    let word = owners_word(sizes, slot);
+    let found = NO_OWNER + owners;
+    words.compare_exchange::<OnClone>(seat, word, found, ONE_OWNER + owners) == found
 }
 
 /// Begins the release of the owner that is first in hand where its item isn't leased: the participant's home of it comes
 /// out.
 pub(crate) fn begin_release<T, H: Holding<T>>(words: &Words<T, H>, seat: &mut Seat<T>)
     requires table { (seat.old.table_id ≡ words.now.table_id) × (0 < words.now.table_id.words) }
-    requires ready { (seat.old.me.0.kind ≡ 1) × (seat.old.me.0.releasing ≡ 0) }
+    requires ready { (seat.old.me.0.kind ≡ of_participant) × (seat.old.me.0.releasing ≡ 0) }
     requires owner { (o : Owner) × (os : List Owner) × (seat.old.me.0.hand ≡ o ∷ os) × ¬ Lends seat.old.me.0.leases o.slot }
     ensures seat { (seat.new.table_id ≡ seat.old.table_id) × (seat.new.id ≡ seat.old.id) }
     ensures begun { (o : Owner) (os : List Owner) → seat.old.me.0.hand ≡ o ∷ os → HasBegun (IsIn H.holds) seat.old.me o seat.new.me }
@@ -246,7 +244,7 @@ pub(crate) fn begin_release<T, H: Holding<T>>(words: &Words<T, H>, seat: &mut Se
 /// its lease. The owners in hand stay.
 pub(crate) fn keep_home<T, H: Holding<T>>(words: &Words<T, H>, seat: &mut Seat<T>)
     requires table { (seat.old.table_id ≡ words.now.table_id) × (0 < words.now.table_id.words) }
-    requires out { (seat.old.me.0.kind ≡ 1) × ((l : Lease) × (ls : List Lease) × (tail : List (ℕ × Home T)) × CanKeep (IsIn H.holds) seat.old.me l ls tail) }
+    requires out { (seat.old.me.0.kind ≡ of_participant) × ((l : Lease) × (ls : List Lease) × (tail : List (ℕ × Home T)) × CanKeep (IsIn H.holds) seat.old.me l ls tail) }
     ensures seat { (seat.new.table_id ≡ seat.old.table_id) × (seat.new.id ≡ seat.old.id) }
     ensures kept { KeepsLease (IsIn H.holds) seat.old.me seat.new.me }
 {
@@ -254,47 +252,45 @@ pub(crate) fn keep_home<T, H: Holding<T>>(words: &Words<T, H>, seat: &mut Seat<T
     let _ = words.load::<OnKeep<H>>(seat, 0);
 }
 
-/// Releases the owner that is first in hand, of the item that is leased in `slot`, for `participants` and `cells` of
-/// them: its part is joined to the lease. Answers how many owners are left. The last release retires the item or puts it into
-/// a private bag, as `A` says, in the same step.
+/// Releases the owner that is first in hand, of the item that is leased in `slot`: its part is joined to the lease. Answers
+/// how many owners are left. The last release retires the item or puts it into a private bag, as `A` says, in the same
+/// step.
 pub(crate) fn release_owner<T, H: Holding<T>, A: Aim>(
     words: &Words<T, H>,
     seat: &mut Seat<T>,
-    participants: usize,
-    cells: usize,
+    sizes: &Sizes,
     slot: usize,
 ) -> u64
-    requires table { HasSlotWord words.now.table_id words.now.key.sizes seat.old.table_id participants cells slot }
-    requires ready { (seat.old.me.0.kind ≡ 1) × (is_ready seat.old.me.0.known ≡ true) × (seat.old.me.0.releasing ≡ 0) }
+    requires table { HasSlotWord words.now.table_id words.now.key.sizes seat.old.table_id sizes.now slot }
+    requires ready { (seat.old.me.0.kind ≡ of_participant) × (is_ready seat.old.me.0.known ≡ true) × (seat.old.me.0.releasing ≡ 0) }
     requires may { MayNote (A.to seat.old.me.0.known) seat.old.me.0.known }
     requires owner { (l : Lease) × (o : Owner) × (os : List Owner) × Has seat.old.me.0.leases l × (l.slot ≡ slot) × (o.slot ≡ l.slot) × (seat.old.me.0.hand ≡ o ∷ os) }
     ensures seat { (seat.new.table_id ≡ seat.old.table_id) × (seat.new.id ≡ seat.old.id) }
     ensures few { HasFew seat.old.me.0 }
     ensures released { ReleasesOne A.to seat.old.me (result + 3) seat.new.me }
 {
-    words.fetch_sub::<OnRelease<A>>(seat, 8 * participants + 16 + cells + slot, 1) - 3
+    words.fetch_sub::<OnRelease<A>>(seat, owners_word(sizes, slot), 1) - ONE_OWNER
 }
 
-/// Ends the release that `begin_release` began, of the owner that is first in hand and whose item is in `slot`, for
-/// `participants` and `cells` of them: the participant's home of the item is in front of what is out with the seat, the
-/// owner's part joined to its parts, and is put back in the same step. Answers how many owners are left. The last release
+/// Ends the release that `begin_release` began, of the owner that is first in hand and whose item is in `slot`: the
+/// participant's home of the item is in front of what is out with the seat, the owner's part joined to its parts, and is
+/// put back in the same step. Answers how many owners are left. The last release
 /// retires the item or puts it into a private bag, as `A` says, in that step too.
 pub(crate) fn end_release<T, H: Holding<T>, A: Aim>(
     words: &Words<T, H>,
     seat: &mut Seat<T>,
-    participants: usize,
-    cells: usize,
+    sizes: &Sizes,
     slot: usize,
 ) -> u64
-    requires table { HasSlotWord words.now.table_id words.now.key.sizes seat.old.table_id participants cells slot }
-    requires ready { (seat.old.me.0.kind ≡ 1) × (is_ready seat.old.me.0.known ≡ true) }
+    requires table { HasSlotWord words.now.table_id words.now.key.sizes seat.old.table_id sizes.now slot }
+    requires ready { (seat.old.me.0.kind ≡ of_participant) × (is_ready seat.old.me.0.known ≡ true) }
     requires may { MayNote (A.to seat.old.me.0.known) seat.old.me.0.known }
     requires begun { (l : Lease) × (ls : List Lease) × (o : Owner) × (os : List Owner) × (tail : List (ℕ × Home T)) × (l.slot ≡ slot) × CanEnd (IsIn H.holds) seat.old.me l ls o os tail }
     ensures seat { (seat.new.table_id ≡ seat.old.table_id) × (seat.new.id ≡ seat.old.id) }
     ensures room { HasRoom seat.old.me.0 }
     ensures ended { EndsRelease (IsIn H.holds) A.to seat.old.me (result + 3) seat.new.me }
 {
-    words.fetch_sub::<OnEndRelease<H, A>>(seat, 8 * participants + 16 + cells + slot, 1) - 3
+    words.fetch_sub::<OnEndRelease<H, A>>(seat, owners_word(sizes, slot), 1) - ONE_OWNER
 }
 
 /// Closes the guard of participant `number`. All that was leased is returned to its home in the same step: its slots are in front
@@ -306,5 +302,5 @@ pub fn close<T, H: Holding<T>>(words: &Words<T, H>, seat: &mut Seat<T>, number: 
     ensures seat { (seat.new.table_id ≡ seat.old.table_id) × (seat.new.id ≡ seat.old.id) }
     ensures closed { seat.new.me ≡ (ending seat.old.me.0, drop (length seat.old.me.0.leases) seat.old.me.1) }
 {
-    words.store::<OnEndAll>(seat, 8 * number + 16, 0);
+    words.store::<OnEndAll>(seat, STRIDE * number + STATE, 0);
 }

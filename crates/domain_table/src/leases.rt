@@ -14,6 +14,7 @@ ghost use Rattle.domain_table.specs.declared.board.Home.{Home};
 use crate::board::{Home, Seat, Stored, Words};
 use crate::holding::Holding;
 use crate::homes::let_go;
+use crate::layout::home_of;
 use crate::row::Row;
 use parted::{Ended, One, Seen};
 use std::collections::VecDeque;
@@ -78,7 +79,7 @@ fn refill<T, H: Holding<T>>(
     ensures empty { (rows.new.items ≡ []) × (deque_capacity rows.new ≡ deque_capacity rows.old) }
 {
     while let Some(row) = rows.pop_front() {
-        let home = number * slots + row.slot;
+        let home = home_of(number, slots, row.slot);
         let count = row.count;
         let parts = row.into_parts(ended);
         let_go(words.exchange(seat, home, Home::Part(parts, count)));

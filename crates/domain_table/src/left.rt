@@ -17,18 +17,15 @@ ghost use Rattle.domain_table.specs.Layout.{epoch_words};
 ghost use Rattle.domain_table.specs.Ledgers.{WaitsIn};
 ghost use Rattle.domain_table.specs.Outcomes.{HasLookedAtAll};
 ghost use Rattle.domain_table.specs.Plays.{taken_all, take_left_then, take_own_then, leaving, leave_then};
-ghost use Rattle.domain_table.specs.Views.{IsBare};
+ghost use Rattle.domain_table.specs.Views.{of_participant, IsBare};
 
 use crate::bags::{Bags, Ends};
 use crate::board::{Acting, Home, Seat, Words};
 use crate::holding::Holding;
-use crate::steps::STRIDE;
+use crate::layout::{LEFT, STRIDE};
 use atomic_table::Play;
 use parted::GhostList;
 use sdd_plain::sizes::Sizes;
-
-/// The number of the first participant's left word.
-const LEFT: usize = 18;
 
 /// A left word is the last slot, and one more than the first slot times this.
 const FIRST: u64 = 1 << 31;
@@ -84,7 +81,7 @@ fn take_left<T, H: Holding<T>>(
     number: usize,
 ) -> Option<Ends>
     requires table { FitsNumber words.now.table_id words.now.key.sizes seat.old.table_id seat.old.me.0.sizes sizes.now number }
-    requires ready { (seat.old.me.0.kind ≡ 1) × (is_ready seat.old.me.0.known ≡ true) }
+    requires ready { (seat.old.me.0.kind ≡ of_participant) × (is_ready seat.old.me.0.known ≡ true) }
     requires locked { 0 < seat.old.me.0.scan }
     ensures seat { (seat.new.table_id ≡ seat.old.table_id) × (seat.new.id ≡ seat.old.id) }
     ensures taken { (ws : List Garbage) × IsBag ws result × AllBelow sizes.now.slots ws × (seat.new.me ≡ (record seat.old.me.0 { waits = taken_all ws seat.old.me.0.waits }, seat.old.me.1)) }
@@ -100,7 +97,7 @@ fn take_own<T, H: Holding<T>>(
     number: usize,
 ) -> Option<Ends>
     requires table { FitsNumber words.now.table_id words.now.key.sizes seat.old.table_id seat.old.me.0.sizes sizes.now number }
-    requires ready { (seat.old.me.0.kind ≡ 1) × (is_ready seat.old.me.0.known ≡ true) × (seat.old.me.0.number ≡ number) }
+    requires ready { (seat.old.me.0.kind ≡ of_participant) × (is_ready seat.old.me.0.known ≡ true) × (seat.old.me.0.number ≡ number) }
     ensures seat { (seat.new.table_id ≡ seat.old.table_id) × (seat.new.id ≡ seat.old.id) }
     ensures taken { (ws : List Garbage) × IsBag ws result × AllBelow sizes.now.slots ws × (seat.new.me ≡ (record seat.old.me.0 { waits = taken_all ws seat.old.me.0.waits; left = 1 }, seat.old.me.1)) }
 {
@@ -116,7 +113,7 @@ fn tell<T, H: Holding<T>>(
     bag: Option<Ends>,
 )
     requires table { FitsNumber words.now.table_id words.now.key.sizes seat.old.table_id seat.old.me.0.sizes sizes.now number }
-    requires rests { (seat.old.me.0.kind ≡ 1) × (seat.old.me.0.number ≡ number) × (seat.old.me.0.known.phase ≡ Idle) × (seat.old.me.0.scan ≡ 0) × IsBare seat.old.me.0 }
+    requires rests { (seat.old.me.0.kind ≡ of_participant) × (seat.old.me.0.number ≡ number) × (seat.old.me.0.known.phase ≡ Idle) × (seat.old.me.0.scan ≡ 0) × IsBare seat.old.me.0 }
     requires known { seat.old.me.0.left ≡ 1 }
     requires bag { IsBag seat.old.me.0.waits bag × AllBelow sizes.now.slots seat.old.me.0.waits }
     ensures { (seat.new.table_id ≡ seat.old.table_id) × (seat.new.id ≡ seat.old.id) × (seat.new.me ≡ (leaving seat.old.me.0, seat.old.me.1)) }
@@ -133,7 +130,7 @@ pub fn leave<T, H: Holding<T>>(
     bags: Bags,
 )
     requires table { FitsNumber words.now.table_id words.now.key.sizes seat.old.table_id seat.old.me.0.sizes sizes.now number }
-    requires rests { (seat.old.me.0.kind ≡ 1) × (seat.old.me.0.number ≡ number) × (seat.old.me.0.known.phase ≡ Idle) × (seat.old.me.0.scan ≡ 0) × IsBare seat.old.me.0 }
+    requires rests { (seat.old.me.0.kind ≡ of_participant) × (seat.old.me.0.number ≡ number) × (seat.old.me.0.known.phase ≡ Idle) × (seat.old.me.0.scan ≡ 0) × IsBare seat.old.me.0 }
     requires waits { WaitsIn sizes.now.slots seat.old.me.0.waits bags × (bags.due ≡ None) }
     ensures { (seat.new.table_id ≡ seat.old.table_id) × (seat.new.id ≡ seat.old.id) × (seat.new.me ≡ (leaving seat.old.me.0, seat.old.me.1)) }
 {
@@ -169,7 +166,7 @@ fn take_if_left<T, H: Holding<T>>(
     looks: &mut Looks,
 )
     requires table { FitsNumber words.now.table_id words.now.key.sizes seat.old.table_id seat.old.me.0.sizes sizes.now number }
-    requires ready { (seat.old.me.0.kind ≡ 1) × (is_ready seat.old.me.0.known ≡ true) }
+    requires ready { (seat.old.me.0.kind ≡ of_participant) × (is_ready seat.old.me.0.known ≡ true) }
     requires locked { 0 < seat.old.me.0.scan }
     requires waits { WaitsIn sizes.now.slots seat.old.me.0.waits bags.old }
     ensures seat { (seat.new.table_id ≡ seat.old.table_id) × (seat.new.id ≡ seat.old.id) }
@@ -193,7 +190,7 @@ pub(crate) fn take_all_left<T, H: Holding<T>>(
     bags: &mut Bags,
 ) -> Looks
     requires table { FitsSizes words.now.table_id words.now.key.sizes seat.old.table_id seat.old.me.0.sizes sizes.now }
-    requires ready { (seat.old.me.0.kind ≡ 1) × (is_ready seat.old.me.0.known ≡ true) }
+    requires ready { (seat.old.me.0.kind ≡ of_participant) × (is_ready seat.old.me.0.known ≡ true) }
     requires locked { 0 < seat.old.me.0.scan }
     requires waits { WaitsIn sizes.now.slots seat.old.me.0.waits bags.old }
     ensures seat { (seat.new.table_id ≡ seat.old.table_id) × (seat.new.id ≡ seat.old.id) }

@@ -48,6 +48,7 @@ pub mod cells;
 pub mod first_words;
 pub mod holding;
 pub mod homes;
+pub mod layout;
 pub mod leases;
 pub mod ledger;
 pub mod left;

@@ -8,9 +8,11 @@ ghost use Rattle.std.specs.Prelude.{◌≡◌, ◌∷◌, ◌++◌, List, ◌+�
 ghost use Rattle.domain_table.specs.Layout.{all_words, IsSized};
 ghost use Rattle.domain_table.specs.Plays.{SlotsApart, TellsLink, load_link_then, follow_then};
 ghost use Rattle.sdd_homes.specs.declared.Garbage.{Garbage};
+ghost use Rattle.domain_table.specs.Views.{of_participant};
 
 use crate::board::{Acting, Home, Seat, Words};
 use crate::holding::Holding;
+use crate::layout::link_word;
 use atomic_table::Play;
 use sdd_plain::sizes::Sizes;
 
@@ -34,15 +36,12 @@ pub fn load_link<T, H: Holding<T>>(
     slot: usize,
 ) -> u64
     requires table { (seat.old.table_id ≡ words.now.table_id) × (words.now.key.sizes ≡ sizes.now) × (seat.old.me.0.sizes ≡ sizes.now) × IsSized sizes.now × (all_words sizes.now ≤ words.now.table_id.words) × (slot < sizes.now.slots) }
-    requires acts { seat.old.me.0.kind ≡ 1 }
+    requires acts { seat.old.me.0.kind ≡ of_participant }
     ensures seat { (seat.new.table_id ≡ seat.old.table_id) × (seat.new.id ≡ seat.old.id) × (seat.new.me ≡ seat.old.me) }
     ensures apart { SlotsApart seat.old.me.0.waits × SlotsApart seat.old.me.0.collected }
     ensures told { TellsLink seat.old.me.0 slot result }
 {
-    words.load::<OnLoadLink>(
-        seat,
-        8 * sizes.participants + 16 + sizes.cells + sizes.slots + slot,
-    )
+    words.load::<OnLoadLink>(seat, link_word(sizes, slot))
 }
 
 /// What came into the bag last, in slot `next`, follows what came before it, in `slot`.
@@ -54,14 +53,10 @@ pub fn follow<T, H: Holding<T>>(
     next: usize,
 )
     requires table { (seat.old.table_id ≡ words.now.table_id) × (words.now.key.sizes ≡ sizes.now) × (seat.old.me.0.sizes ≡ sizes.now) × IsSized sizes.now × (all_words sizes.now ≤ words.now.table_id.words) × (slot < sizes.now.slots) }
-    requires acts { (seat.old.me.0.kind ≡ 1) × (next < 2 ^ 30) }
+    requires acts { (seat.old.me.0.kind ≡ of_participant) × (next < 2 ^ 30) }
     requires held { (xs : List Garbage) × (w : Garbage) × (v : Garbage) × (ys : List Garbage) × (seat.old.me.0.waits ≡ xs ++ (w ∷ v ∷ ys)) × (w.slot ≡ next) × (v.slot ≡ slot) }
     ensures seat { (seat.new.table_id ≡ seat.old.table_id) × (seat.new.id ≡ seat.old.id) }
     ensures followed { (xs : List Garbage) (w v : Garbage) (ys : List Garbage) → seat.old.me.0.waits ≡ xs ++ (w ∷ v ∷ ys) → w.slot ≡ next → v.slot ≡ slot → seat.new.me ≡ (record seat.old.me.0 { waits = xs ++ (w ∷ record v { next = w.slot + 1 } ∷ ys) }, seat.old.me.1) }
 {
-    words.store::<OnFollow>(
-        seat,
-        8 * sizes.participants + 16 + sizes.cells + sizes.slots + slot,
-        next as u64 + 1,
-    );
+    words.store::<OnFollow>(seat, link_word(sizes, slot), next as u64 + 1);
 }

@@ -15,11 +15,13 @@ ghost use Rattle.domain_table.specs.declared.board.Acting.{Acting};
 ghost use Rattle.domain_table.specs.declared.board.Home.{Home};
 ghost use Rattle.domain_table.specs.declared.row.Row.{Row};
 ghost use Rattle.sdd_plain.specs.Epochs.{tag_number};
+ghost use Rattle.domain_table.specs.Views.{of_participant};
 
 use crate::board::{Home, Seat, Words};
 use crate::cells;
 use crate::holding::Holding;
 use crate::homes::parts_of;
+use crate::layout::{CODE, home_of};
 use crate::leases::row_of;
 use crate::row::Row;
 use crate::tags::tag_in;
@@ -34,7 +36,7 @@ pub fn slot_named(word: u64) -> Option<usize>
     ensures some { IfSome result (λ k. (k < 2 ^ 31) × ((y t c : ℕ) → y < 2 ^ 31 → t < 4 → word ≡ packed y t c → c ≡ k + 1)) }
     ensures none { IfNone result ((y t c : ℕ) → y < 2 ^ 31 → t < 4 → word ≡ packed y t c → c ≡ 0) }
 {
-    let code = word / (1 << 33);
+    let code = word / CODE;
     if code == 0 {
         None
     } else {
@@ -67,7 +69,7 @@ fn note_slot<T, H: Holding<T>>(
     if let Some(at) = row_of(rows, slot) {
         return at;
     }
-    let home = number * sizes.slots + slot;
+    let home = home_of(number, sizes.slots, slot);
     let (parts, count) = parts_of::<T, H>(words.exchange(seat, home, Home::Blank));
     seat.turn();
     rows.push_back_reserved(Row::new(slot, parts, count, life));
@@ -109,7 +111,7 @@ pub fn lease<T, H: Holding<T>>(
     cell: usize,
 ) -> (Option<usize>, Tag)
     requires table { FitsSizes words.now.table_id words.now.key.sizes seat.old.table_id seat.old.me.0.sizes sizes.now × (number < sizes.now.participants) × (cell < sizes.now.cells) }
-    requires open { (seat.old.me.0.kind ≡ 1) × (seat.old.me.0.number ≡ number) × (is_inside seat.old.me.0.known ≡ true) }
+    requires open { (seat.old.me.0.kind ≡ of_participant) × (seat.old.me.0.number ≡ number) × (is_inside seat.old.me.0.known ≡ true) }
     requires rows { HasRows life.now.id sizes.now.slots seat.old.me.0.leases rows.old.items (deque_capacity rows.old) }
     requires out { (k : ℕ) × (has_all is_blank (k ∷ leased_homes seat.old.me.0 seat.old.me.0.leases) seat.old.me.1 ≡ true) }
     ensures seat { (seat.new.table_id ≡ seat.old.table_id) × (seat.new.id ≡ seat.old.id) }
@@ -135,7 +137,7 @@ pub fn lease_own<T, H: Holding<T>>(
     slot: usize,
 ) -> usize
     requires table { FitsSizes words.now.table_id words.now.key.sizes seat.old.table_id seat.old.me.0.sizes sizes.now × (number < sizes.now.participants) }
-    requires open { (seat.old.me.0.kind ≡ 1) × (seat.old.me.0.number ≡ number) × (is_inside seat.old.me.0.known ≡ true) }
+    requires open { (seat.old.me.0.kind ≡ of_participant) × (seat.old.me.0.number ≡ number) × (is_inside seat.old.me.0.known ≡ true) }
     requires owner { (o : Owner) × (os : List Owner) × (seat.old.me.0.hand ≡ o ∷ os) × (o.slot ≡ slot) × (slot < 2 ^ 31) }
     requires rows { HasRows life.now.id sizes.now.slots seat.old.me.0.leases rows.old.items (deque_capacity rows.old) }
     ensures seat { (seat.new.table_id ≡ seat.old.table_id) × (seat.new.id ≡ seat.old.id) }

@@ -12,7 +12,7 @@ ghost use Rattle.domain_table.specs.Contents.{IsIn};
 ghost use Rattle.domain_table.specs.Fitting.{FitsSizes};
 ghost use Rattle.domain_table.specs.Leases.{row_told, lease_told, row_slots, all_below, IsFirst, HasReleased, HasEmptied, HasClonedOne, HasOwned};
 ghost use Rattle.domain_table.specs.declared.row.Row.{Row};
-ghost use Rattle.domain_table.specs.Views.{spent, holding};
+ghost use Rattle.domain_table.specs.Views.{of_participant, spent, holding};
 ghost use Rattle.domain_table.specs.Plays.{others_in, first_in, joined_by, cloning, IsAlike, MayNote};
 ghost use Rattle.domain_table.specs.declared.board.Home.{Home};
 
@@ -21,6 +21,7 @@ use crate::board::{Acting, Home, Seat, Stored, Words};
 use crate::cells;
 use crate::holding::Holding;
 use crate::homes::{let_go, parts_of};
+use crate::layout::{MANY_OWNERS, NO_OWNER, home_of, owners_word};
 use crate::leases::row_of;
 use crate::row::Row;
 use atomic_table::{Join, Split};
@@ -50,7 +51,7 @@ impl Join<Acting> for Coming {
 /// Gives the first owner in hand a seat of its own.
 pub fn part_with<T, H: Holding<T>>(words: &Words<T, H>, seat: &mut Seat<T>) -> Calm<Acting>
     requires table { (seat.old.table_id ≡ words.now.table_id) × (0 < words.now.table_id.words) }
-    requires ready { (seat.old.me.0.kind ≡ 1) × (seat.old.me.0.releasing ≡ 0) }
+    requires ready { (seat.old.me.0.kind ≡ of_participant) × (seat.old.me.0.releasing ≡ 0) }
     requires owner { (o : Owner) × (os : List Owner) × (seat.old.me.0.hand ≡ o ∷ os) }
     ensures seat { (seat.new.table_id ≡ seat.old.table_id) × (seat.new.id ≡ seat.old.id) × (seat.new.me ≡ (others_in seat.old.me.0, seat.old.me.1)) }
     ensures owner { (result.badge.table_id ≡ seat.old.table_id) × (result.badge.views ≡ first_in seat.old.me.0 ∷ []) }
@@ -61,7 +62,7 @@ pub fn part_with<T, H: Holding<T>>(words: &Words<T, H>, seat: &mut Seat<T>) -> C
 /// Takes the owner of a seat into the hand.
 pub fn take_in<T, H: Holding<T>>(words: &Words<T, H>, seat: &mut Seat<T>, owner: Calm<Acting>)
     requires table { (seat.old.table_id ≡ words.now.table_id) × (owner.badge.table_id ≡ words.now.table_id) × (0 < words.now.table_id.words) }
-    requires ready { seat.old.me.0.kind ≡ 1 }
+    requires ready { seat.old.me.0.kind ≡ of_participant }
     requires owner { (o : Owner) × (owner.badge.views ≡ holding o ∷ []) }
     ensures seat { (seat.new.table_id ≡ seat.old.table_id) × (seat.new.id ≡ seat.old.id) }
     ensures taken { (o : Owner) → owner.badge.views ≡ holding o ∷ [] → seat.new.me ≡ (record seat.old.me.0 { hand = o ∷ seat.old.me.0.hand }, seat.old.me.1) }
@@ -81,7 +82,7 @@ pub fn release_home<T, H: Holding<T>, A: Aim>(
     owner: One<Stored<T>>,
 ) -> u64
     requires table { FitsSizes words.now.table_id words.now.key.sizes seat.old.table_id seat.old.me.0.sizes sizes.now × (number < sizes.now.participants) }
-    requires ready { (seat.old.me.0.kind ≡ 1) × (seat.old.me.0.number ≡ number) × (is_ready seat.old.me.0.known ≡ true) × (seat.old.me.0.releasing ≡ 0) }
+    requires ready { (seat.old.me.0.kind ≡ of_participant) × (seat.old.me.0.number ≡ number) × (is_ready seat.old.me.0.known ≡ true) × (seat.old.me.0.releasing ≡ 0) }
     requires may { MayNote (A.to seat.old.me.0.known) seat.old.me.0.known }
     requires owner { IsFirst seat.old.me.0 slot owner.part.life.id × IsSome owner.part.seen.value }
     requires free { ¬ Lends seat.old.me.0.leases slot }
@@ -91,11 +92,11 @@ pub fn release_home<T, H: Holding<T>, A: Aim>(
     ensures released { HasReleased A.to slot result seat.old.me seat.old.me.0.leases seat.new.me }
 {
     cells::begin_release(words, seat);
-    let home = number * sizes.slots + slot;
+    let home = home_of(number, sizes.slots, slot);
     let (mut own, count) = parts_of::<T, H>(words.exchange(seat, home, Home::Blank));
     own.join(owner.into_part());
     let_go(words.exchange(seat, home, Home::Part(own, count + 1)));
-    cells::end_release::<T, H, A>(words, seat, sizes.participants, sizes.cells, slot)
+    cells::end_release::<T, H, A>(words, seat, sizes, slot)
 }
 
 /// The same where the item is leased: the owner's part is joined to those of its row, which is `at`.
@@ -109,7 +110,7 @@ fn release_leased<T, H: Holding<T>, A: Aim>(
     owner: One<Stored<T>>,
 ) -> u64
     requires table { FitsSizes words.now.table_id words.now.key.sizes seat.old.table_id seat.old.me.0.sizes sizes.now }
-    requires ready { (seat.old.me.0.kind ≡ 1) × (is_ready seat.old.me.0.known ≡ true) × (seat.old.me.0.releasing ≡ 0) }
+    requires ready { (seat.old.me.0.kind ≡ of_participant) × (is_ready seat.old.me.0.known ≡ true) × (seat.old.me.0.releasing ≡ 0) }
     requires may { MayNote (A.to seat.old.me.0.known) seat.old.me.0.known }
     requires owner { IsFirst seat.old.me.0 slot owner.part.life.id × IsSome owner.part.seen.value }
     requires rows { ((life : ℕ) × (map row_told rows.old.items ≡ map (lease_told life) seat.old.me.0.leases)) × (all_below sizes.now.slots (row_slots rows.old.items) ≡ true) }
@@ -121,7 +122,7 @@ fn release_leased<T, H: Holding<T>, A: Aim>(
     ensures rows { (life : ℕ) → map row_told rows.old.items ≡ map (lease_told life) seat.old.me.0.leases → map row_told rows.new.items ≡ map (lease_told life) seat.new.me.0.leases }
     ensures same { (deque_capacity rows.new ≡ deque_capacity rows.old) × (row_slots rows.new.items ≡ row_slots rows.old.items) }
 {
-    let left = cells::release_owner::<T, H, A>(words, seat, sizes.participants, sizes.cells, slot);
+    let left = cells::release_owner::<T, H, A>(words, seat, sizes, slot);
     match rows.get_mut(at) {
         Some(row) => row.take_in(owner),
         None => unreachable!(),
@@ -141,7 +142,7 @@ pub fn release<T, H: Holding<T>, A: Aim>(
     owner: One<Stored<T>>,
 ) -> u64
     requires table { FitsSizes words.now.table_id words.now.key.sizes seat.old.table_id seat.old.me.0.sizes sizes.now × (number < sizes.now.participants) }
-    requires ready { (seat.old.me.0.kind ≡ 1) × (seat.old.me.0.number ≡ number) × (is_ready seat.old.me.0.known ≡ true) × (seat.old.me.0.releasing ≡ 0) }
+    requires ready { (seat.old.me.0.kind ≡ of_participant) × (seat.old.me.0.number ≡ number) × (is_ready seat.old.me.0.known ≡ true) × (seat.old.me.0.releasing ≡ 0) }
     requires may { MayNote (A.to seat.old.me.0.known) seat.old.me.0.known }
     requires owner { IsFirst seat.old.me.0 slot owner.part.life.id × IsSome owner.part.seen.value }
     requires rows { ((life : ℕ) × (map row_told rows.old.items ≡ map (lease_told life) seat.old.me.0.leases)) × (all_below sizes.now.slots (row_slots rows.old.items) ≡ true) }
@@ -169,7 +170,7 @@ fn raise_owners<T, H: Holding<T>>(
     parts: u64,
 ) -> bool
     requires table { FitsSizes words.now.table_id words.now.key.sizes seat.old.table_id seat.old.me.0.sizes sizes.now × (slot < sizes.now.slots) }
-    requires ready { (seat.old.me.0.kind ≡ 1) × (is_ready seat.old.me.0.known ≡ true) }
+    requires ready { (seat.old.me.0.kind ≡ of_participant) × (is_ready seat.old.me.0.known ≡ true) }
     requires leased { (l : Lease) × Has seat.old.me.0.leases l × (l.slot ≡ slot) × (l.count ≡ parts) }
     ensures seat { (seat.new.table_id ≡ seat.old.table_id) × (seat.new.id ≡ seat.old.id) }
     ensures many { IsTrue result → 1 < parts }
@@ -181,11 +182,11 @@ fn raise_owners<T, H: Holding<T>>(
         return false;
     }
     for _ in 0..TRIES {
-        let word = words.peek(8 * sizes.participants + 16 + sizes.cells + slot);
-        if word <= 2 || word > 1 << 32 {
+        let word = words.peek(owners_word(sizes, slot));
+        if word <= NO_OWNER || word > MANY_OWNERS {
             return false;
         }
-        if cells::clone_owner(words, seat, sizes.participants, sizes.cells, slot, word - 2) {
+        if cells::clone_owner(words, seat, sizes, slot, word - NO_OWNER) {
             return true;
         }
     }
@@ -195,7 +196,7 @@ fn raise_owners<T, H: Holding<T>>(
 /// Gives the home back that `begin_release` took out and that was emptied since, with these parts. The owners in hand
 /// stay.
 fn put_back<T, H: Holding<T>>(words: &Words<T, H>, seat: &mut Seat<T>, home: usize, parts: Home<T>)
-    requires table { (seat.old.table_id ≡ words.now.table_id) × (0 < words.now.table_id.words) × (seat.old.me.0.kind ≡ 1) }
+    requires table { (seat.old.table_id ≡ words.now.table_id) × (0 < words.now.table_id.words) × (seat.old.me.0.kind ≡ of_participant) }
     requires out { (l : Lease) × (ls : List Lease) × (tail : List (ℕ × Home T)) × HasEmptied seat.old.me home l ls tail × IsIn H.holds (part l.round l.count) parts }
     ensures seat { (seat.new.table_id ≡ seat.old.table_id) × (seat.new.id ≡ seat.old.id) }
     ensures kept { PutsBack (IsIn H.holds) seat.old.me home parts seat.new.me }
@@ -214,7 +215,7 @@ fn clone_home<T, H: Holding<T>>(
     slot: usize,
 ) -> Option<One<Stored<T>>>
     requires table { FitsSizes words.now.table_id words.now.key.sizes seat.old.table_id seat.old.me.0.sizes sizes.now × (number < sizes.now.participants) }
-    requires ready { (seat.old.me.0.kind ≡ 1) × (seat.old.me.0.number ≡ number) × (is_ready seat.old.me.0.known ≡ true) × (seat.old.me.0.releasing ≡ 0) }
+    requires ready { (seat.old.me.0.kind ≡ of_participant) × (seat.old.me.0.number ≡ number) × (is_ready seat.old.me.0.known ≡ true) × (seat.old.me.0.releasing ≡ 0) }
     requires owner { (o : Owner) × (os : List Owner) × (seat.old.me.0.hand ≡ o ∷ os) × (o.slot ≡ slot) }
     requires free { ¬ Lends seat.old.me.0.leases slot }
     ensures seat { (seat.new.table_id ≡ seat.old.table_id) × (seat.new.id ≡ seat.old.id) }
@@ -223,7 +224,7 @@ fn clone_home<T, H: Holding<T>>(
     ensures leases { seat.new.me.0.leases ≡ seat.old.me.0.leases }
 {
     cells::begin_release(words, seat);
-    let home = number * sizes.slots + slot;
+    let home = home_of(number, sizes.slots, slot);
     let (mut own, count) = parts_of::<T, H>(words.exchange(seat, home, Home::Blank));
     if raise_owners(words, seat, sizes, slot, count) {
         let one = own.split_one();
@@ -245,7 +246,7 @@ fn own_at<T, H: Holding<T>>(
     slot: usize,
 ) -> Option<One<Stored<T>>>
     requires table { FitsSizes words.now.table_id words.now.key.sizes seat.old.table_id seat.old.me.0.sizes sizes.now }
-    requires ready { (seat.old.me.0.kind ≡ 1) × (is_ready seat.old.me.0.known ≡ true) }
+    requires ready { (seat.old.me.0.kind ≡ of_participant) × (is_ready seat.old.me.0.known ≡ true) }
     requires rows { ((life : ℕ) × (map row_told rows.old.items ≡ map (lease_told life) seat.old.me.0.leases)) × (all_below sizes.now.slots (row_slots rows.old.items) ≡ true) }
     requires row { (at < deque_len rows.old) × ((d : Row T) → (slice_index_or rows.old.items at d).slot ≡ slot) }
     ensures seat { (seat.new.table_id ≡ seat.old.table_id) × (seat.new.id ≡ seat.old.id) }
@@ -274,7 +275,7 @@ pub fn own_leased<T, H: Holding<T>>(
     slot: usize,
 ) -> Option<One<Stored<T>>>
     requires table { FitsSizes words.now.table_id words.now.key.sizes seat.old.table_id seat.old.me.0.sizes sizes.now }
-    requires ready { (seat.old.me.0.kind ≡ 1) × (is_ready seat.old.me.0.known ≡ true) }
+    requires ready { (seat.old.me.0.kind ≡ of_participant) × (is_ready seat.old.me.0.known ≡ true) }
     requires rows { ((life : ℕ) × (map row_told rows.old.items ≡ map (lease_told life) seat.old.me.0.leases)) × (all_below sizes.now.slots (row_slots rows.old.items) ≡ true) }
     ensures seat { (seat.new.table_id ≡ seat.old.table_id) × (seat.new.id ≡ seat.old.id) }
     ensures owned { IfSome result (λ p. HasOwned slot p.part.life.id seat.old.me seat.new.me) }
@@ -297,7 +298,7 @@ fn clone_by_row<T, H: Holding<T>>(
     slot: usize,
 ) -> Option<One<Stored<T>>>
     requires table { FitsSizes words.now.table_id words.now.key.sizes seat.old.table_id seat.old.me.0.sizes sizes.now × (number < sizes.now.participants) }
-    requires ready { (seat.old.me.0.kind ≡ 1) × (seat.old.me.0.number ≡ number) × (is_ready seat.old.me.0.known ≡ true) × (seat.old.me.0.releasing ≡ 0) }
+    requires ready { (seat.old.me.0.kind ≡ of_participant) × (seat.old.me.0.number ≡ number) × (is_ready seat.old.me.0.known ≡ true) × (seat.old.me.0.releasing ≡ 0) }
     requires owner { (o : Owner) × (os : List Owner) × (seat.old.me.0.hand ≡ o ∷ os) × (o.slot ≡ slot) }
     requires rows { ((life : ℕ) × (map row_told rows.old.items ≡ map (lease_told life) seat.old.me.0.leases)) × (all_below sizes.now.slots (row_slots rows.old.items) ≡ true) }
     ensures seat { (seat.new.table_id ≡ seat.old.table_id) × (seat.new.id ≡ seat.old.id) }
@@ -324,7 +325,7 @@ pub fn clone<T, H: Holding<T>>(
     misses: &mut Tally,
 ) -> Option<One<Stored<T>>>
     requires table { FitsSizes words.now.table_id words.now.key.sizes seat.old.table_id seat.old.me.0.sizes sizes.now × (number < sizes.now.participants) }
-    requires ready { (seat.old.me.0.kind ≡ 1) × (seat.old.me.0.number ≡ number) × (is_ready seat.old.me.0.known ≡ true) × (seat.old.me.0.releasing ≡ 0) }
+    requires ready { (seat.old.me.0.kind ≡ of_participant) × (seat.old.me.0.number ≡ number) × (is_ready seat.old.me.0.known ≡ true) × (seat.old.me.0.releasing ≡ 0) }
     requires owner { (o : Owner) × (os : List Owner) × (seat.old.me.0.hand ≡ o ∷ os) × (o.slot ≡ slot) }
     requires rows { ((life : ℕ) × (map row_told rows.old.items ≡ map (lease_told life) seat.old.me.0.leases)) × (all_below sizes.now.slots (row_slots rows.old.items) ≡ true) }
     ensures seat { (seat.new.table_id ≡ seat.old.table_id) × (seat.new.id ≡ seat.old.id) }

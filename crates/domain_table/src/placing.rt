@@ -10,10 +10,12 @@ ghost use Rattle.domain_table.specs.Fitting.{FitsFree, FitsSearch, FitsTaken};
 ghost use Rattle.domain_table.specs.Contents.{IsIn};
 ghost use Rattle.domain_table.specs.Owners.{told};
 ghost use Rattle.domain_table.specs.Plays.{HasClaimed, IsJustClaimed, filling_at, next_filled, placing};
+ghost use Rattle.domain_table.specs.Views.{of_participant};
 
 use crate::board::{Home, Seat, Stored, Words};
 use crate::holding::Holding;
 use crate::homes::{let_go, room_of};
+use crate::layout::home_of;
 use crate::slots;
 use crate::stored::store;
 use parted::{One, Part, Tally};
@@ -49,7 +51,11 @@ fn fill_home<T, H: Holding<T>>(
 {
     slots::take_next(words, seat);
     let part = all.split(count);
-    let_go(words.exchange(seat, at * sizes.slots + slot, Home::Part(part, count)));
+    let_go(words.exchange(
+        seat,
+        home_of(at, sizes.slots, slot),
+        Home::Part(part, count),
+    ));
     slots::give_next(words, seat);
 }
 
@@ -88,18 +94,18 @@ fn place_at<T, H: Holding<T>>(
     item: T,
 ) -> One<Stored<T>>
     requires table { FitsFree words.now.table_id words.now.key.sizes seat.old.table_id seat.old.me.0.sizes sizes.now slot }
-    requires ready { (seat.old.me.0.kind ≡ 1) × (is_ready seat.old.me.0.known ≡ true) × (seat.old.me.0.releasing ≡ 0) × (H.holds item ≡ map told seat.old.me.0.hand) }
+    requires ready { (seat.old.me.0.kind ≡ of_participant) × (is_ready seat.old.me.0.known ≡ true) × (seat.old.me.0.releasing ≡ 0) × (H.holds item ≡ map told seat.old.me.0.hand) }
     requires claimed { IsJustClaimed (IsIn H.holds) seat.old.me slot }
     ensures seat { (seat.new.table_id ≡ seat.old.table_id) × (seat.new.id ≡ seat.old.id) }
     ensures placed { (i : ℕ) × (f : Filling) × (f.round ≡ result.part.life.id) × (seat.new.me ≡ (placing i f seat.old.me.0, rest seat.old.me.1)) }
     ensures value { IsSomeAnd result.part.seen.value (λ m. manually_drop_value m ≡ item) }
 {
-    let own = sizes.participants * sizes.slots + slot;
+    let own = home_of(sizes.participants, sizes.slots, slot);
     let room = room_of::<T, H>(words.exchange(seat, own, Home::Blank));
     let (deed, mut all) = store(room, item);
     let_go(words.exchange(seat, own, Home::Deed(deed)));
     fill_homes(words, seat, sizes, slot, &mut all);
-    slots::place(words, seat, sizes.participants, sizes.cells, slot);
+    slots::place(words, seat, sizes, slot);
     One::from_part(all)
 }
 
@@ -113,7 +119,7 @@ fn claim_any<T, H: Holding<T>>(
     misses: &mut Tally,
 ) -> Option<usize>
     requires table { FitsSearch words.now.table_id words.now.key.sizes seat.old.table_id seat.old.me.0.sizes sizes.now from }
-    requires ready { (seat.old.me.0.kind ≡ 1) × (seat.old.me.0.filling ≡ None) }
+    requires ready { (seat.old.me.0.kind ≡ of_participant) × (seat.old.me.0.filling ≡ None) }
     ensures seat { (seat.new.table_id ≡ seat.old.table_id) × (seat.new.id ≡ seat.old.id) }
     ensures claimed { IfSome result (λ k. (k < sizes.now.slots) × HasClaimed (IsIn H.holds) seat.old.me k seat.new.me) }
     ensures none { IfNone result (seat.new.me ≡ seat.old.me) }
@@ -122,7 +128,7 @@ fn claim_any<T, H: Holding<T>>(
 {
     for step in 0..sizes.slots {
         let slot = (from + step) % sizes.slots;
-        if slots::claim(words, seat, sizes.participants, sizes.cells, slot) {
+        if slots::claim(words, seat, sizes, slot) {
             return Some(slot);
         }
     }

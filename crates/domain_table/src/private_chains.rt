@@ -8,10 +8,12 @@ ghost use Rattle.domain_table.specs.Chains.{AllBelow};
 ghost use Rattle.domain_table.specs.Fitting.{FitsSizes};
 ghost use Rattle.domain_table.specs.Layout.{all_words, IsSized};
 ghost use Rattle.domain_table.specs.Plays.{follow_noted_then};
+ghost use Rattle.domain_table.specs.Views.{of_participant};
 
 use crate::bags::Ends;
 use crate::board::{Acting, Home, Seat, Words};
 use crate::holding::Holding;
+use crate::layout::link_word;
 use crate::links::load_link;
 use atomic_table::Play;
 use sdd_plain::sizes::Sizes;
@@ -31,16 +33,12 @@ fn follow_noted<T, H: Holding<T>>(
     next: usize,
 )
     requires table { (seat.old.table_id ≡ words.now.table_id) × (words.now.key.sizes ≡ sizes.now) × (seat.old.me.0.sizes ≡ sizes.now) × IsSized sizes.now × (all_words sizes.now ≤ words.now.table_id.words) × (slot < sizes.now.slots) }
-    requires acts { (seat.old.me.0.kind ≡ 1) × (next < 2 ^ 30) }
+    requires acts { (seat.old.me.0.kind ≡ of_participant) × (next < 2 ^ 30) }
     requires held { (xs : List Garbage) × (w : Garbage) × (v : Garbage) × (ys : List Garbage) × (seat.old.me.0.collected ≡ xs ++ (w ∷ v ∷ ys)) × (w.slot ≡ next) × (v.slot ≡ slot) }
     ensures seat { (seat.new.table_id ≡ seat.old.table_id) × (seat.new.id ≡ seat.old.id) }
     ensures followed { (xs : List Garbage) (w v : Garbage) (ys : List Garbage) → seat.old.me.0.collected ≡ xs ++ (w ∷ v ∷ ys) → w.slot ≡ next → v.slot ≡ slot → seat.new.me ≡ (record seat.old.me.0 { collected = xs ++ (w ∷ record v { next = w.slot + 1 } ∷ ys) }, seat.old.me.1) }
 {
-    words.store::<OnFollowNoted>(
-        seat,
-        8 * sizes.participants + 16 + sizes.cells + sizes.slots + slot,
-        next as u64 + 1,
-    );
+    words.store::<OnFollowNoted>(seat, link_word(sizes, slot), next as u64 + 1);
 }
 
 /// Joins two chains of the private bag that lie one behind the other: what is in `newer` comes behind all that is in
@@ -53,7 +51,7 @@ pub fn join_noted<T, H: Holding<T>>(
     older: Option<Ends>,
 ) -> Option<Ends>
     requires table { FitsSizes words.now.table_id words.now.key.sizes seat.old.table_id seat.old.me.0.sizes sizes.now }
-    requires acts { (seat.old.me.0.kind ≡ 1) × AllBelow sizes.now.slots seat.old.me.0.collected }
+    requires acts { (seat.old.me.0.kind ≡ of_participant) × AllBelow sizes.now.slots seat.old.me.0.collected }
     requires bags { (fs : List Garbage) × (bs : List Garbage) × (rest : List Garbage) × (seat.old.me.0.collected ≡ fs ++ (bs ++ rest)) × IsBag fs newer × IsBag bs older }
     ensures seat { (seat.new.table_id ≡ seat.old.table_id) × (seat.new.id ≡ seat.old.id) }
     ensures joined { (fs bs rest : List Garbage) → seat.old.me.0.collected ≡ fs ++ (bs ++ rest) → IsBag fs newer → IsBag bs older
@@ -80,7 +78,7 @@ pub fn take_noted<T, H: Holding<T>>(
     bag: Option<Ends>,
 ) -> (Option<usize>, Option<Ends>)
     requires table { FitsSizes words.now.table_id words.now.key.sizes seat.old.table_id seat.old.me.0.sizes sizes.now }
-    requires acts { (seat.old.me.0.kind ≡ 1) × AllBelow sizes.now.slots seat.old.me.0.collected }
+    requires acts { (seat.old.me.0.kind ≡ of_participant) × AllBelow sizes.now.slots seat.old.me.0.collected }
     requires bag { (ps : List Garbage) × (cs : List Garbage) × (seat.old.me.0.collected ≡ ps ++ cs) × IsBag cs bag }
     ensures seat { (seat.new.table_id ≡ seat.old.table_id) × (seat.new.id ≡ seat.old.id) × (seat.new.me ≡ seat.old.me) }
     ensures none { IfNone result.0 ((bag ≡ None) × (result.1 ≡ None)) }

@@ -11,17 +11,14 @@ ghost use Rattle.sdd_steps.specs.declared.participant.Phase.TheVariants.{HasRead
 ghost use Rattle.domain_table.specs.Fitting.{FitsNumber, HasEpochs, HasEpochOf};
 ghost use Rattle.domain_table.specs.Ledgers.{WaitsIn};
 ghost use Rattle.domain_table.specs.Plays.{shut_then, settle_then};
-ghost use Rattle.domain_table.specs.Views.{looking, settling};
+ghost use Rattle.domain_table.specs.Views.{of_participant, looking, settling};
 
 use crate::bags::Bags;
 use crate::board::{Acting, Home, Seat, Words};
 use crate::holding::Holding;
-use crate::steps::{STATE, STRIDE};
+use crate::layout::{COUNT, STATE, STRIDE};
 use atomic_table::Play;
 use sdd_plain::sizes::Sizes;
-
-/// The word of the count of raises.
-const COUNT: usize = 0;
 
 struct OnShut;
 
@@ -38,7 +35,7 @@ impl<T> Play<Home<T>, Acting> for OnSettle {
 /// Whether the other has no guard open. It is asked once the count `epoch` was read, before it is published.
 fn is_shut<T, H: Holding<T>>(words: &Words<T, H>, seat: &mut Seat<T>, other: usize) -> bool
     requires table { HasEpochOf words.now.table_id words.now.key.sizes seat.old.table_id other }
-    requires read { (seat.old.me.0.kind ≡ 1) × (seat.old.me.0.number ≢ other) × ((e : ℕ) × (seat.old.me.0.known.phase ≡ HasRead e)) }
+    requires read { (seat.old.me.0.kind ≡ of_participant) × (seat.old.me.0.number ≢ other) × ((e : ℕ) × (seat.old.me.0.known.phase ≡ HasRead e)) }
     ensures seat { (seat.new.table_id ≡ seat.old.table_id) × (seat.new.id ≡ seat.old.id) }
     ensures noted { IsTrue result → seat.new.me ≡ (record seat.old.me.0 { known = looking other seat.old.me.0.known }, seat.old.me.1) }
     ensures not_noted { IsFalse result → seat.new.me ≡ seat.old.me }
@@ -55,7 +52,7 @@ fn passes<T, H: Holding<T>>(
     other: usize,
 ) -> bool
     requires table { HasEpochOf words.now.table_id words.now.key.sizes seat.old.table_id other }
-    requires read { (seat.old.me.0.kind ≡ 1) × (seat.old.me.0.number ≡ number) × ((e : ℕ) × (seat.old.me.0.known.phase ≡ HasRead e)) }
+    requires read { (seat.old.me.0.kind ≡ of_participant) × (seat.old.me.0.number ≡ number) × ((e : ℕ) × (seat.old.me.0.known.phase ≡ HasRead e)) }
     ensures seat { (seat.new.table_id ≡ seat.old.table_id) × (seat.new.id ≡ seat.old.id) }
     ensures looked { (ls : List ℕ) × (seat.new.me ≡ (record seat.old.me.0 { known = record seat.old.me.0.known { looked = ls } }, seat.old.me.1)) × (IsTrue result → other ≢ number → Has ls other) × ((q : ℕ) → Has seat.old.me.0.known.looked q → Has ls q) }
 {
@@ -77,7 +74,7 @@ fn all_shut<T, H: Holding<T>>(
     participants: usize,
 ) -> bool
     requires table { HasEpochs words.now.table_id words.now.key.sizes seat.old.table_id participants }
-    requires read { (seat.old.me.0.kind ≡ 1) × (seat.old.me.0.number ≡ number) × ((e : ℕ) × (seat.old.me.0.known.phase ≡ HasRead e)) }
+    requires read { (seat.old.me.0.kind ≡ of_participant) × (seat.old.me.0.number ≡ number) × ((e : ℕ) × (seat.old.me.0.known.phase ≡ HasRead e)) }
     ensures seat { (seat.new.table_id ≡ seat.old.table_id) × (seat.new.id ≡ seat.old.id) }
     ensures looked { (ls : List ℕ) × (seat.new.me ≡ (record seat.old.me.0 { known = record seat.old.me.0.known { looked = ls } }, seat.old.me.1)) × (IsTrue result → (q : ℕ) → q < participants → q ≢ number → Has ls q) }
 {
@@ -92,7 +89,7 @@ fn all_shut<T, H: Holding<T>>(
 /// All that the participant retired is due, where each other one was found without an open guard.
 fn settle_all<T, H: Holding<T>>(words: &Words<T, H>, seat: &mut Seat<T>, epoch: u64)
     requires table { (seat.old.table_id ≡ words.now.table_id) × (0 < words.now.table_id.words) }
-    requires read { (seat.old.me.0.kind ≡ 1) × (seat.old.me.0.known.phase ≡ HasRead epoch) × (3 ≤ epoch) }
+    requires read { (seat.old.me.0.kind ≡ of_participant) × (seat.old.me.0.known.phase ≡ HasRead epoch) × (3 ≤ epoch) }
     requires all { (q : ℕ) → q < words.now.key.sizes.participants → q ≢ seat.old.me.0.number → Has seat.old.me.0.known.looked q }
     ensures { (seat.new.table_id ≡ seat.old.table_id) × (seat.new.id ≡ seat.old.id) × (seat.new.me ≡ (settling epoch seat.old.me.0, seat.old.me.1)) }
 {
@@ -111,7 +108,7 @@ pub fn settle<T, H: Holding<T>>(
     epoch: u64,
 ) -> bool
     requires table { FitsNumber words.now.table_id words.now.key.sizes seat.old.table_id seat.old.me.0.sizes sizes.now number }
-    requires read { (seat.old.me.0.kind ≡ 1) × (seat.old.me.0.number ≡ number) × (seat.old.me.0.known.phase ≡ HasRead epoch) }
+    requires read { (seat.old.me.0.kind ≡ of_participant) × (seat.old.me.0.number ≡ number) × (seat.old.me.0.known.phase ≡ HasRead epoch) }
     requires waits { WaitsIn sizes.now.slots seat.old.me.0.waits bags.old × (bags.old.due ≡ None) }
     ensures seat { (seat.new.table_id ≡ seat.old.table_id) × (seat.new.id ≡ seat.old.id) }
     ensures settled { IsTrue result → (ls : List ℕ) × (ws : List Garbage) × WaitsIn sizes.now.slots ws bags.new × (seat.new.me ≡ (record seat.old.me.0 { known = record seat.old.me.0.known { found = epoch; looked = ls }; waits = ws }, seat.old.me.1)) }

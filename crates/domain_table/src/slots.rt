@@ -5,15 +5,17 @@ ghost use Rattle.std.specs.Prelude.{◌≡◌, ℕ, ◌+◌, ◌*◌, ◌<◌, �
 ghost use Rattle.sdd_steps.specs.Steps.{is_ready};
 ghost use Rattle.sdd_homes.specs.declared.Filling.{Filling};
 ghost use Rattle.domain_table.specs.Outcomes.{Fills, GivesHome, TakesDeed, TakesNext};
-ghost use Rattle.domain_table.specs.Fitting.{FitsSlot};
+ghost use Rattle.domain_table.specs.Fitting.{FitsFree};
 ghost use Rattle.domain_table.specs.Contents.{IsIn};
 ghost use Rattle.domain_table.specs.Layout.{all_words, IsSized};
 ghost use Rattle.domain_table.specs.Plays.{HasClaimed, claim_slot_then, HasTaken, fill_takes_then, CanFill, fill_gives_then, CanPlace, placing, place_then, opens_then, gathers_then, CanEmpty, empties_then, CanVacate, vacates_then};
 ghost use Rattle.sdd_homes.specs.declared.Garbage.{Garbage};
 ghost use Rattle.domain_table.specs.declared.board.Home.{Home};
+ghost use Rattle.domain_table.specs.Views.{of_participant};
 
 use crate::board::{Acting, Home, Seat, Words};
 use crate::holding::Holding;
+use crate::layout::{FILLING, ONE_OWNER, VACANT, owners_word};
 use atomic_table::Play;
 use sdd_plain::sizes::Sizes;
 use std::marker::PhantomData;
@@ -46,7 +48,7 @@ impl<T, H: Holding<T>> Play<Home<T>, Acting> for OnPlace<H> {
 fn is_used<T, H: Holding<T>>(words: &Words<T, H>, sizes: &Sizes, slot: usize) -> bool
     requires { (words.now.key.sizes ≡ sizes.now) × IsSized sizes.now × (slot < sizes.now.slots) × (all_words sizes.now ≤ words.now.table_id.words) }
 {
-    words.peek(8 * sizes.participants + 16 + sizes.cells + slot) > 0
+    words.peek(owners_word(sizes, slot)) != VACANT
 }
 
 /// How many slots aren't vacant, each looked at in one step of its own.
@@ -63,28 +65,28 @@ pub fn count_used<T, H: Holding<T>>(words: &Words<T, H>, sizes: &Sizes) -> usize
     used
 }
 
-/// Tries once to claim `slot`, for `participants` and `cells` of them. Where it was vacant it is the participant's to
-/// fill, and the item's own home is out, with the room for the item. Whether it was.
+/// Tries once to claim `slot`. Where it was vacant it is the participant's to fill, and the item's own home is out, with
+/// the room for the item. Whether it was.
 pub(crate) fn claim<T, H: Holding<T>>(
     words: &Words<T, H>,
     seat: &mut Seat<T>,
-    participants: usize,
-    cells: usize,
+    sizes: &Sizes,
     slot: usize,
 ) -> bool
-    requires table { FitsSlot words.now.table_id words.now.key.sizes seat.old.table_id seat.old.me.0.sizes participants cells slot }
-    requires ready { (seat.old.me.0.kind ≡ 1) × (seat.old.me.0.filling ≡ None) }
+    requires table { FitsFree words.now.table_id words.now.key.sizes seat.old.table_id seat.old.me.0.sizes sizes.now slot }
+    requires ready { (seat.old.me.0.kind ≡ of_participant) × (seat.old.me.0.filling ≡ None) }
     ensures seat { (seat.new.table_id ≡ seat.old.table_id) × (seat.new.id ≡ seat.old.id) }
     ensures claimed { IsTrue result → HasClaimed (IsIn H.holds) seat.old.me slot seat.new.me }
     ensures refused { IsFalse result → seat.new.me ≡ seat.old.me }
 {
-    words.compare_exchange::<OnClaim<H>>(seat, 8 * participants + 16 + cells + slot, 0, 1) == 0
+    let word = owners_word(sizes, slot);
+    words.compare_exchange::<OnClaim<H>>(seat, word, VACANT, FILLING) == VACANT
 }
 
 /// Takes the home of the next participant out of the slot that is being filled. It is empty.
 pub(crate) fn take_next<T, H: Holding<T>>(words: &Words<T, H>, seat: &mut Seat<T>)
     requires table { (seat.old.table_id ≡ words.now.table_id) × (0 < words.now.table_id.words) }
-    requires filling { (seat.old.me.0.kind ≡ 1) × ((f : Filling) × (seat.old.me.0.filling ≡ Some f) × (f.filled < seat.old.me.0.sizes.participants) × (f.out ≡ seat.old.me.0.sizes.participants)) }
+    requires filling { (seat.old.me.0.kind ≡ of_participant) × ((f : Filling) × (seat.old.me.0.filling ≡ Some f) × (f.filled < seat.old.me.0.sizes.participants) × (f.out ≡ seat.old.me.0.sizes.participants)) }
     ensures seat { (seat.new.table_id ≡ seat.old.table_id) × (seat.new.id ≡ seat.old.id) }
     ensures taken { (f : Filling) → seat.old.me.0.filling ≡ Some f → HasTaken (IsIn H.holds) seat.old.me f seat.new.me }
 {
@@ -95,7 +97,7 @@ pub(crate) fn take_next<T, H: Holding<T>>(words: &Words<T, H>, seat: &mut Seat<T
 /// Gives the home back that `take_next` took, with its parts. The first one shows which round the slot's parts are of.
 pub(crate) fn give_next<T, H: Holding<T>>(words: &Words<T, H>, seat: &mut Seat<T>)
     requires table { (seat.old.table_id ≡ words.now.table_id) × (0 < words.now.table_id.words) }
-    requires filling { (seat.old.me.0.kind ≡ 1) × ((f : Filling) × (c : ℕ) × (a : ℕ) × (tail : List (ℕ × Home T)) × CanFill (IsIn H.holds) seat.old.me f c a tail) }
+    requires filling { (seat.old.me.0.kind ≡ of_participant) × ((f : Filling) × (c : ℕ) × (a : ℕ) × (tail : List (ℕ × Home T)) × CanFill (IsIn H.holds) seat.old.me f c a tail) }
     ensures seat { (seat.new.table_id ≡ seat.old.table_id) × (seat.new.id ≡ seat.old.id) }
     ensures given { Fills (IsIn H.holds) seat.old.me seat.new.me }
 {
@@ -108,15 +110,14 @@ pub(crate) fn give_next<T, H: Holding<T>>(words: &Words<T, H>, seat: &mut Seat<T
 pub(crate) fn place<T, H: Holding<T>>(
     words: &Words<T, H>,
     seat: &mut Seat<T>,
-    participants: usize,
-    cells: usize,
+    sizes: &Sizes,
     slot: usize,
 )
-    requires table { FitsSlot words.now.table_id words.now.key.sizes seat.old.table_id seat.old.me.0.sizes participants cells slot }
-    requires ready { (seat.old.me.0.kind ≡ 1) × (is_ready seat.old.me.0.known ≡ true) × (seat.old.me.0.releasing ≡ 0) × (seat.old.me.0.slot ≡ slot) }
+    requires table { FitsFree words.now.table_id words.now.key.sizes seat.old.table_id seat.old.me.0.sizes sizes.now slot }
+    requires ready { (seat.old.me.0.kind ≡ of_participant) × (is_ready seat.old.me.0.known ≡ true) × (seat.old.me.0.releasing ≡ 0) × (seat.old.me.0.slot ≡ slot) }
     requires filled { (f : Filling) × (tail : List (ℕ × Home T)) × CanPlace (IsIn H.holds) seat.old.me f tail }
     ensures seat { (seat.new.table_id ≡ seat.old.table_id) × (seat.new.id ≡ seat.old.id) }
     ensures placed { (f : Filling) (tail : List (ℕ × Home T)) → CanPlace (IsIn H.holds) seat.old.me f tail → (i : ℕ) × (seat.new.me ≡ (placing i f seat.old.me.0, tail)) }
 {
-    words.store::<OnPlace<H>>(seat, 8 * participants + 16 + cells + slot, 3);
+    words.store::<OnPlace<H>>(seat, owners_word(sizes, slot), ONE_OWNER);
 }

@@ -9,7 +9,7 @@ ghost use Rattle.sdd_steps.specs.declared.participant.Phase.TheVariants.{Idle, H
 ghost use Rattle.domain_table.specs.Fitting.{HasEpochOf, HasClaimOf};
 ghost use Rattle.domain_table.specs.Contents.{IsIn, Announces};
 ghost use Rattle.domain_table.specs.Outcomes.{HasPublished, HasLookedAtAll};
-ghost use Rattle.domain_table.specs.Views.{IsBare, spent, reading, rotated, looking};
+ghost use Rattle.domain_table.specs.Views.{of_nobody, of_participant, IsBare, spent, reading, rotated, looking};
 ghost use Rattle.domain_table.specs.Layout.{lock_word, claim_word, epoch_words, all_words, IsSized, shown};
 ghost use Rattle.domain_table.specs.Plays.{read_then, publish_then, count_then, look_then, agree_then, raise_then, lock_then, unlock_then, sit_then, HasRegistered, HasSpare, claim_then, learn_then, end_then, Steady, Scans};
 ghost use Rattle.domain_table.specs.declared.board.Home.{Home};
@@ -17,29 +17,11 @@ ghost use Rattle.domain_table.specs.declared.board.Home.{Home};
 use crate::board::{Acting, Home, Seat, Words};
 use crate::holding::Holding;
 use crate::homes::let_go;
+use crate::layout::{CLAIM, COUNT, LOCK, STATE, STILL, STRIDE};
 use crate::left::Looks;
 use atomic_table::Play;
 use sdd_plain::sizes::Sizes;
 use std::marker::PhantomData;
-
-/// The word of the count of raises.
-const COUNT: usize = 0;
-
-/// A word that is always 0.
-const STILL: usize = 1;
-
-/// The word of the scan lock.
-const LOCK: usize = 8;
-
-/// Each participant has eight words, of which it uses three, so that what it publishes has a cache line of its own.
-pub(crate) const STRIDE: usize = 8;
-
-/// Where the first participant publishes.
-pub(crate) const STATE: usize = 16;
-
-/// The place of the word that says whether somebody acts for the first participant: then it is 0, and else one more than
-/// the number of the participant's spare slot.
-const CLAIM: usize = 17;
 
 struct OnRead;
 
@@ -136,7 +118,7 @@ pub fn claim<T, H: Holding<T>>(
     number: usize,
 ) -> Option<u64>
     requires table { HasClaimOf words.now.table_id words.now.key.sizes seat.old.table_id number }
-    requires nobody { (seat.old.me.0.kind ≡ 0) × IsBare seat.old.me.0 }
+    requires nobody { (seat.old.me.0.kind ≡ of_nobody) × IsBare seat.old.me.0 }
     ensures seat { (seat.new.table_id ≡ seat.old.table_id) × (seat.new.id ≡ seat.old.id) }
     ensures claimed { IfSome result (λ y. (y < 2 ^ 31) × HasRegistered (IsIn H.holds) seat.old.me number y seat.new.me) }
     ensures refused { IfNone result (seat.new.me ≡ seat.old.me) }
@@ -148,7 +130,7 @@ pub fn claim<T, H: Holding<T>>(
 /// Notes at the seat that the place has the sizes `sizes`. No word changes.
 pub fn learn<T, H: Holding<T>>(words: &Words<T, H>, seat: &mut Seat<T>, sizes: Sizes)
     requires table { (seat.old.table_id ≡ words.now.table_id) × (1 < words.now.table_id.words) × (sizes ≡ words.now.key.sizes) }
-    requires acts { seat.old.me.0.kind ≡ 1 }
+    requires acts { seat.old.me.0.kind ≡ of_participant }
     ensures seat { (seat.new.table_id ≡ seat.old.table_id) × (seat.new.id ≡ seat.old.id) × (seat.new.me ≡ seat.old.me) }
     ensures learned { seat.new.me.0.sizes ≡ sizes }
 {
@@ -181,7 +163,7 @@ pub fn any_claimed<T, H: Holding<T>>(words: &Words<T, H>, sizes: &Sizes) -> bool
 /// from now on. Its spare slot, which is in front of what is out with the seat, is put back empty.
 pub fn end<T, H: Holding<T>>(words: &Words<T, H>, seat: &mut Seat<T>, number: usize, spare: u64)
     requires table { (seat.old.table_id ≡ words.now.table_id) × (number < 2 ^ 30) × (claim_word number < words.now.table_id.words) }
-    requires rests { (seat.old.me.0.kind ≡ 1) × (seat.old.me.0.number ≡ number) × (seat.old.me.0.known.phase ≡ Idle) × (seat.old.me.0.known.found ≡ 0) × IsBare seat.old.me.0 }
+    requires rests { (seat.old.me.0.kind ≡ of_participant) × (seat.old.me.0.number ≡ number) × (seat.old.me.0.known.phase ≡ Idle) × (seat.old.me.0.known.found ≡ 0) × IsBare seat.old.me.0 }
     requires gone { seat.old.me.0.waits ≡ [] }
     requires spare { (seat.old.me.0.spare ≡ spare) × (spare < 2 ^ 31) × ((tail : List (ℕ × Home T)) × HasSpare (IsIn H.holds) seat.old.me tail) }
     ensures { (seat.new.table_id ≡ seat.old.table_id) × (seat.new.id ≡ seat.old.id) × (seat.new.me ≡ (spent, rest seat.old.me.1)) }
@@ -192,7 +174,7 @@ pub fn end<T, H: Holding<T>>(words: &Words<T, H>, seat: &mut Seat<T>, number: us
 /// Reads the count of raises, for an opening.
 pub fn read_count<T, H: Holding<T>>(words: &Words<T, H>, seat: &mut Seat<T>) -> u64
     requires table { (seat.old.table_id ≡ words.now.table_id) × (0 < words.now.table_id.words) }
-    requires closed { (seat.old.me.0.kind ≡ 1) × (seat.old.me.0.known.phase ≡ Idle) × (seat.old.me.0.scan ≡ 0) }
+    requires closed { (seat.old.me.0.kind ≡ of_participant) × (seat.old.me.0.known.phase ≡ Idle) × (seat.old.me.0.scan ≡ 0) }
     ensures { (seat.new.table_id ≡ seat.old.table_id) × (seat.new.id ≡ seat.old.id) × (seat.new.me ≡ (record seat.old.me.0 { known = reading result seat.old.me.0.known }, seat.old.me.1)) }
 {
     words.load::<OnRead>(seat, COUNT)
@@ -201,7 +183,7 @@ pub fn read_count<T, H: Holding<T>>(words: &Words<T, H>, seat: &mut Seat<T>) -> 
 /// Publishes the count that was read, and with it does the rotation that is due.
 pub fn publish<T, H: Holding<T>>(words: &Words<T, H>, seat: &mut Seat<T>, number: usize, epoch: u64)
     requires table { (seat.old.table_id ≡ words.now.table_id) × (number < 2 ^ 30) × (claim_word number < words.now.table_id.words) }
-    requires read { (seat.old.me.0.kind ≡ 1) × (seat.old.me.0.number ≡ number) × (seat.old.me.0.known.phase ≡ HasRead epoch) × (seat.old.me.0.scan ≡ 0) }
+    requires read { (seat.old.me.0.kind ≡ of_participant) × (seat.old.me.0.number ≡ number) × (seat.old.me.0.known.phase ≡ HasRead epoch) × (seat.old.me.0.scan ≡ 0) }
     ensures seat { (seat.new.table_id ≡ seat.old.table_id) × (seat.new.id ≡ seat.old.id) }
     ensures published { HasPublished epoch seat.old.me seat.new.me }
 {
@@ -211,7 +193,7 @@ pub fn publish<T, H: Holding<T>>(words: &Words<T, H>, seat: &mut Seat<T>, number
 /// Reads the count of raises under an open guard.
 pub fn count_under<T, H: Holding<T>>(words: &Words<T, H>, seat: &mut Seat<T>, epoch: u64) -> u64
     requires table { (seat.old.table_id ≡ words.now.table_id) × (0 < words.now.table_id.words) }
-    requires open { (seat.old.me.0.kind ≡ 1) × (seat.old.me.0.known.phase ≡ Opened epoch) }
+    requires open { (seat.old.me.0.kind ≡ of_participant) × (seat.old.me.0.known.phase ≡ Opened epoch) }
     ensures seat { (seat.new.table_id ≡ seat.old.table_id) × (seat.new.id ≡ seat.old.id) × (seat.new.me ≡ seat.old.me) }
     ensures least { seat.old.me.0.born ≤ result }
     ensures most { result ≤ seat.old.me.0.born + 1 }
@@ -288,7 +270,7 @@ fn look_at<T, H: Holding<T>>(
     epoch: u64,
 ) -> bool
     requires table { HasEpochOf words.now.table_id words.now.key.sizes seat.old.table_id other }
-    requires open { (seat.old.me.0.kind ≡ 1) × (seat.old.me.0.number ≢ other) × (seat.old.me.0.known.phase ≡ Opened epoch) × (seat.old.me.0.known.found ≡ epoch) × (seat.old.me.0.scan ≡ 2) }
+    requires open { (seat.old.me.0.kind ≡ of_participant) × (seat.old.me.0.number ≢ other) × (seat.old.me.0.known.phase ≡ Opened epoch) × (seat.old.me.0.known.found ≡ epoch) × (seat.old.me.0.scan ≡ 2) }
     requires below { epoch < 2 ^ 64 - 1 }
     ensures seat { (seat.new.table_id ≡ seat.old.table_id) × (seat.new.id ≡ seat.old.id) }
     ensures noted { IsTrue result → seat.new.me ≡ (record seat.old.me.0 { known = looking other seat.old.me.0.known }, seat.old.me.1) }

@@ -4,6 +4,7 @@ ghost use Rattle.std.specs.Prelude.{◌≡◌, ℕ, ◌+◌, ◌*◌, ◌^◌, �
 ghost use Rattle.sdd_plain.specs.Epochs.{tag_number};
 ghost use Rattle.domain_table.specs.Layout.{packed, AreAlike};
 
+use crate::layout::{CODE, TAG};
 use sdd_plain::tag::Tag;
 
 /// The number of a tag.
@@ -25,14 +26,14 @@ pub fn word_with(spare: u64, tag: Tag, code: u64) -> u64
     ensures word { result ≡ packed spare (tag_number tag) code }
     ensures few { tag_number tag < 4 }
 {
-    spare + (1 << 31) * (number_of(tag) + 4 * code)
+    spare + TAG * (number_of(tag) + 4 * code)
 }
 
 /// A cell's word with another tag.
 pub fn with_tag(word: u64, tag: Tag) -> u64
     ensures { AreAlike word result × ((y t c : ℕ) → y < 2 ^ 31 → t < 4 → word ≡ packed y t c → result ≡ packed y (tag_number tag) c) }
 {
-    word_with(word % (1 << 31), tag, word / (1 << 33))
+    word_with(word % TAG, tag, word / CODE)
 }
 
 /// The number of the tag in a cell's word.
@@ -40,7 +41,7 @@ pub fn number_in(word: u64) -> u64
     ensures told { (y t c : ℕ) → y < 2 ^ 31 → t < 4 → word ≡ packed y t c → result ≡ t }
     ensures few { result < 4 }
 {
-    word / (1 << 31) % 4
+    word / TAG % 4
 }
 
 /// The tag of this number.

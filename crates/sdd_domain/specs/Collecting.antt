@@ -13,6 +13,7 @@ use Rattle.domain_table.specs.declared.board.Acting.{Acting}
 use Rattle.domain_garbage.specs.Bag.{garbage_told, bag_in, NoneDue, AreAt}
 use Rattle.sdd_domain.specs.declared.private_collector.PrivateCollector.{PrivateCollector}
 use Rattle.sdd_domain.specs.declared.shared.Shared.{Shared}
+use Rattle.domain_table.specs.Views.{of_participant}
 
 -- the place of a collector, with its sizes
 abbrev pub collects_in : PrivateCollector → TableId × Sizes
@@ -36,7 +37,7 @@ IsSweptOf count old kept = (gone : List Garbage) × (old ≡ kept ++ gone) × ((
 
 -- the seat acts for p, releases nothing, and may make steps on items
 abbrev pub CanRelease : ℕ → Acting → Type 0
-CanRelease p d = (d.kind ≡ 1) × (d.number ≡ p) × (is_ready d.known ≡ true) × (d.releasing ≡ 0)
+CanRelease p d = (d.kind ≡ of_participant) × (d.number ≡ p) × (is_ready d.known ≡ true) × (d.releasing ≡ 0)
 
 -- the owners that an item holds, which are first in hand, are released under open guards
 abbrev pub GivesUpUnder : {T S : Type 0} → (T → List (ℕ × ℕ)) → T → Me S Acting → Me S Acting → Type 0

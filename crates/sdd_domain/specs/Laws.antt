@@ -16,6 +16,7 @@ use Rattle.domain_table.specs.Layout.{count_word}
 use Rattle.domain_table.specs.Rule.{Runs, beginning, Shows}
 use Rattle.domain_table.specs.declared.board.Acting.{Acting}
 use Rattle.domain_table.specs.declared.board.Plan.{Plan}
+use Rattle.domain_table.specs.Views.{of_participant}
 
 -- The words and views show a state of the single steps that a schedule of them has led to from the beginning. It meets their invariant and keeps their promise.
 abbrev pub ShowsSafe : (T : Type 0) → (T → List (ℕ × ℕ)) → Type 0
@@ -23,12 +24,12 @@ ShowsSafe T holds = (plan : Plan) (s : State (Home T) Acting) (r : Shows (IsIn h
 
 -- a guard that was published at the count `born` is open while the count is that or the next one
 abbrev pub RaisedAtMostOnce : (T : Type 0) → (T → List (ℕ × ℕ)) → Type 0
-RaisedAtMostOnce T holds = (plan : Plan) (s : State (Home T) Acting) (seat : ℕ) (v : Acting) (e : ℕ) → Shows (IsIn holds) plan s → get_elem? s.views seat ≡ some v → v.kind ≡ 1 → v.known.phase ≡ Opened e
+RaisedAtMostOnce T holds = (plan : Plan) (s : State (Home T) Acting) (seat : ℕ) (v : Acting) (e : ℕ) → Shows (IsIn holds) plan s → get_elem? s.views seat ≡ some v → v.kind ≡ of_participant → v.known.phase ≡ Opened e
     → (e ≤ v.born) × (v.born ≤ slice_index s.words count_word) × (slice_index s.words count_word ≤ v.born + 1)
 
 -- what the seat of a participant has leased is an item of that round, which isn't reclaimed
 abbrev pub LeasedStays : (T : Type 0) → (T → List (ℕ × ℕ)) → Type 0
-LeasedStays T holds = (plan : Plan) (s : State (Home T) Acting) (seat : ℕ) (v : Acting) (l : Lease) (r : Shows (IsIn holds) plan s) → get_elem? s.views seat ≡ some v → v.kind ≡ 1 → Has v.leases l
+LeasedStays T holds = (plan : Plan) (s : State (Home T) Acting) (seat : ℕ) (v : Acting) (l : Lease) (r : Shows (IsIn holds) plan s) → get_elem? s.views seat ≡ some v → v.kind ≡ of_participant → Has v.leases l
     → (it : Item) × At r.state.items l.item it × (it.value ≡ l.round) × (r.book.slot_of l.item ≡ l.slot) × ((q : ℕ) → it.state ≢ Reclaimed q)
 
 -- what a seat has an owner of is an item of that round, which is live

@@ -10,7 +10,7 @@ ghost use Rattle.sdd_homes.specs.declared.Garbage.{Garbage};
 ghost use Rattle.domain_table.specs.Ledgers.{WaitsIn};
 ghost use Rattle.domain_table.specs.Fitting.{FitsSizes, HasEpochs};
 ghost use Rattle.domain_table.specs.Contents.{IsIn, is_blank};
-ghost use Rattle.domain_table.specs.Views.{spent, rotated, older_waits};
+ghost use Rattle.domain_table.specs.Views.{of_participant, spent, rotated, older_waits};
 ghost use Rattle.domain_table.specs.Leases.{IsAtRest, life_number, row_told, lease_told, leased_homes, row_slots, all_below, has_all};
 ghost use Rattle.domain_table.specs.declared.row.Row.{Row};
 ghost use Rattle.domain_table.specs.Plays.{own_spare, HasRegistered, Scans, Steady};
@@ -52,7 +52,7 @@ pub struct Local<T> {
     pub(crate) rows: VecDeque<Row<T>>,
     /// How often it was refused for want of a slot, a cell or a part of an item.
     pub(crate) misses: Tally,
-    ghost acts: { (seat.me.0.kind ≡ 1) × (seat.me.0.number ≡ number) × (seat.me.0.scan ≡ 0) × (number < 2 ^ 30) × (claim_word number < seat.table_id.words) × (seat.me.0.releasing ≡ 0) },
+    ghost acts: { (seat.me.0.kind ≡ of_participant) × (seat.me.0.number ≡ number) × (seat.me.0.scan ≡ 0) × (number < 2 ^ 30) × (claim_word number < seat.table_id.words) × (seat.me.0.releasing ≡ 0) },
     ghost has_spare: { (seat.me.0.spare ≡ spare) × (spare < 2 ^ 31) × (has_all is_blank (own_spare seat.me.0 spare ∷ leased_homes seat.me.0 seat.me.0.leases) seat.me.1 ≡ true) },
     ghost lends: { (map row_told rows.items ≡ map (lease_told (life_number life)) seat.me.0.leases) × (seat.me.0.sizes.slots ≤ deque_capacity rows) × (all_below seat.me.0.sizes.slots (row_slots rows.items) ≡ true) },
     ghost shut: { ForNone life ((own.nesting ≡ 0) × (seat.me.0.leases ≡ [])) },
@@ -127,7 +127,7 @@ pub(crate) fn turn<T: Holds>(
 )
     requires table { FitsSizes words.now.table_id words.now.key.sizes seat.old.table_id seat.old.me.0.sizes sizes.now × (number < sizes.now.participants) }
     requires open { (seat.old.me.0.known.phase ≡ Opened epoch) × (seat.old.me.0.known.found ≡ epoch) }
-    requires rest { (seat.old.me.0.kind ≡ 1) × (seat.old.me.0.number ≡ number) × (seat.old.me.0.releasing ≡ 0) × (seat.old.me.0.leases ≡ []) × (seat.old.me.0.filling ≡ None) }
+    requires rest { (seat.old.me.0.kind ≡ of_participant) × (seat.old.me.0.number ≡ number) × (seat.old.me.0.releasing ≡ 0) × (seat.old.me.0.leases ≡ []) × (seat.old.me.0.filling ≡ None) }
     requires noted { own.old.published ≡ own.old.previous }
     requires waits { (ws : List Garbage) × (seat.old.me.0.waits ≡ rotated epoch own.old.previous ws) × WaitsIn sizes.now.slots ws bags.old }
     requires done { bags.old.due ≡ None }

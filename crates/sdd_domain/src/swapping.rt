@@ -16,6 +16,7 @@ ghost use Rattle.domain_table.specs.declared.board.Acting.{Acting};
 ghost use Rattle.domain_table.specs.declared.board.Home.{Home};
 ghost use Rattle.domain_table.specs.declared.board.Home.TheVariants.{Blank};
 ghost use Rattle.sdd_domain.specs.declared.shared.Shared.{Shared};
+ghost use Rattle.domain_table.specs.Views.{of_participant};
 
 use crate::board::{Told, Words};
 use crate::holds::Holds;
@@ -23,6 +24,7 @@ use crate::shared::Shared;
 use domain_table::board::{Home, Seat};
 use domain_table::cells::swap;
 use domain_table::homes::{let_go, parts_of, spare_at};
+use domain_table::layout::{CODE, TAG};
 use domain_table::owners::{part_with, take_in};
 use domain_table::tags::{tag_in, word_with};
 use parted::One;
@@ -39,7 +41,7 @@ pub(crate) fn bring<T: Holds>(
     new: (Option<Shared<T>>, Tag),
 ) -> u64
     requires table { FitsSizes words.now.table_id words.now.key.sizes seat.old.table_id seat.old.me.0.sizes sizes.now }
-    requires ready { (seat.old.me.0.kind ≡ 1) × (seat.old.me.0.spare ≡ spare) × (spare < 2 ^ 31) }
+    requires ready { (seat.old.me.0.kind ≡ of_participant) × (seat.old.me.0.spare ≡ spare) × (spare < 2 ^ 31) }
     requires out { (tail : List (ℕ × Home T)) × (seat.old.me.1 ≡ (own_spare seat.old.me.0 spare, Blank) ∷ tail) }
     requires mine { IfSome new.0 (λ s. kept_in s ≡ words.now.table_id) }
     ensures seat { (seat.new.table_id ≡ seat.old.table_id) × (seat.new.id ≡ seat.old.id) }
@@ -67,7 +69,7 @@ pub(crate) fn take_back<T: Holds>(
     word: u64,
 ) -> (u64, (Option<Shared<T>>, Tag))
     requires table { FitsSizes words.now.table_id words.now.key.sizes seat.old.table_id seat.old.me.0.sizes sizes.now }
-    requires ready { (seat.old.me.0.kind ≡ 1) × (seat.old.me.0.releasing ≡ 0) }
+    requires ready { (seat.old.me.0.kind ≡ of_participant) × (seat.old.me.0.releasing ≡ 0) }
     requires back { (m : Me (Home T) Acting) × (os : List Owner) × (tail : List (ℕ × Home T)) × GetsBack (IsIn T.holds) m os word tail seat.old.me }
     ensures seat { (seat.new.table_id ≡ seat.old.table_id) × (seat.new.id ≡ seat.old.id) }
     ensures spare { result.0 < 2 ^ 31 }
@@ -76,9 +78,9 @@ pub(crate) fn take_back<T: Holds>(
     ensures back { TakesBack (IsIn T.holds) word seat.old.me result.0 seat.new.me }
     ensures mine { IfSome result.1.0 (λ s. kept_in s ≡ words.now.table_id) }
 {
-    let spare = word % (1 << 31);
+    let spare = word % TAG;
     let tag = tag_in(word);
-    let code = word / (1 << 33);
+    let code = word / CODE;
     if code == 0 {
         return (spare, (None, tag));
     }
@@ -103,7 +105,7 @@ pub(crate) fn swap_owner<T: Holds>(
     new: (Option<Shared<T>>, Tag),
 ) -> (u64, (Option<Shared<T>>, Tag))
     requires table { FitsSizes words.now.table_id words.now.key.sizes seat.old.table_id seat.old.me.0.sizes sizes.now × (cell < sizes.now.cells) }
-    requires ready { (seat.old.me.0.kind ≡ 1) × (is_ready seat.old.me.0.known ≡ true) × (seat.old.me.0.releasing ≡ 0) × (seat.old.me.0.spare ≡ spare) × (spare < 2 ^ 31) }
+    requires ready { (seat.old.me.0.kind ≡ of_participant) × (is_ready seat.old.me.0.known ≡ true) × (seat.old.me.0.releasing ≡ 0) × (seat.old.me.0.spare ≡ spare) × (spare < 2 ^ 31) }
     requires out { (tail : List (ℕ × Home T)) × (seat.old.me.1 ≡ (own_spare seat.old.me.0 spare, Blank) ∷ tail) }
     requires mine { IfSome new.0 (λ s. kept_in s ≡ words.now.table_id) }
     ensures seat { (seat.new.table_id ≡ seat.old.table_id) × (seat.new.id ≡ seat.old.id) }

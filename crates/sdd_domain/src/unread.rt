@@ -5,7 +5,7 @@ ghost use Rattle.sdd_homes.specs.declared.Garbage.{Garbage};
 ghost use Rattle.sdd_steps.specs.declared.participant.Phase.TheVariants.{Idle, HasRead};
 ghost use Rattle.domain_table.specs.Fitting.{FitsNumber};
 ghost use Rattle.domain_table.specs.Ledgers.{WaitsIn};
-ghost use Rattle.domain_table.specs.Views.{publishing};
+ghost use Rattle.domain_table.specs.Views.{of_participant, publishing};
 
 use crate::board::Words;
 use crate::domain::Domain;
@@ -29,7 +29,7 @@ fn reclaim_settled<T: Holds>(
     epoch: u64,
 )
     requires table { FitsNumber words.now.table_id words.now.key.sizes seat.old.table_id seat.old.me.0.sizes sizes.now number }
-    requires read { (seat.old.me.0.kind ≡ 1) × (seat.old.me.0.number ≡ number) × (seat.old.me.0.known.phase ≡ HasRead epoch) × (seat.old.me.0.known.found ≡ epoch) × (seat.old.me.0.scan ≡ 0) }
+    requires read { (seat.old.me.0.kind ≡ of_participant) × (seat.old.me.0.number ≡ number) × (seat.old.me.0.known.phase ≡ HasRead epoch) × (seat.old.me.0.known.found ≡ epoch) × (seat.old.me.0.scan ≡ 0) }
     requires rest { (seat.old.me.0.releasing ≡ 0) × (seat.old.me.0.leases ≡ []) × (seat.old.me.0.filling ≡ None) }
     requires waits { WaitsIn sizes.now.slots seat.old.me.0.waits bags.old }
     ensures seat { (seat.new.table_id ≡ seat.old.table_id) × (seat.new.id ≡ seat.old.id) }
@@ -51,7 +51,7 @@ fn open_and_reclaim<T: Holds>(
     bags: &mut Bags,
 ) -> u64
     requires table { FitsNumber words.now.table_id words.now.key.sizes seat.old.table_id seat.old.me.0.sizes sizes.now number }
-    requires shut { (seat.old.me.0.kind ≡ 1) × (seat.old.me.0.number ≡ number) × (seat.old.me.0.known.phase ≡ Idle) × (seat.old.me.0.scan ≡ 0) }
+    requires shut { (seat.old.me.0.kind ≡ of_participant) × (seat.old.me.0.number ≡ number) × (seat.old.me.0.known.phase ≡ Idle) × (seat.old.me.0.scan ≡ 0) }
     requires rest { (seat.old.me.0.releasing ≡ 0) × (seat.old.me.0.leases ≡ []) × (seat.old.me.0.filling ≡ None) }
     requires found { (seat.old.me.0.known.found ≡ own.old.previous) × (own.old.published ≡ own.old.previous) }
     requires waits { WaitsIn sizes.now.slots seat.old.me.0.waits bags.old × (bags.old.due ≡ None) }

@@ -1,4 +1,5 @@
-use Rattle.std.proofs.Common.{◌≡◌, ◌+◌, ◌*◌, subst, arith}
+use Rattle.std.proofs.Common.{◌≡◌, ◌∙◌, ap, subst, sym, arith}
+use Rattle.sdd_plain.specs.declared.sizes.Sizes.{Sizes}
 use mathlib.Core.Option.{none}
 use Rattle.atomic_table.specs.Table.{step, Allows}
 use Rattle.domain_table.specs.Contents.{IsIn}
@@ -9,10 +10,10 @@ use Rattle.domain_table.proofs.Gathers.{vacates}
 use Rattle.domain_garbage.proofs.emptying.vacate.Goals as goal
 
 pub store-requires : goal.store-requires
-store-requires g c = let t = c.requires.table in let plan = c.args.words.now.key in let seat = c.args.seat.now in let slots = c.args.words.now.table_id.slots in let same = t.1 in let cells = t.2 in let few = t.3 in let small = t.4 in let inside = t.5 in let low = t.6 in let room = t.7 in let r = c.requires.emptied in let at = r.1 in let f = r.2 in
-    let word : slot_word plan.sizes seat.me.0.slot ≡ 8 * c.args.participants + 16 + c.args.cells + c.args.slot = omega arith in (
+store-requires g c = let t = c.requires.table in let plan = c.args.words.now.key in let seat = c.args.seat.now in let slots = c.args.words.now.table_id.slots in let index = c.owners_word.ensures in let sized = t.3 in let inside = t.4 in let room = t.5 in let r = c.requires.emptied in let at = r.1 in let f = r.2 in
+    let word : slot_word plan.sizes seat.me.0.slot ≡ c.owners_word.result = ap (λ k. slot_word plan.sizes k) at ∙ (ap (λ (q : Sizes). slot_word q c.args.slot) t.1 ∙ sym index) in (
       t.0,
       omega arith,
       subst (λ i. Allows (Shows (IsIn g.H.Holding.holds) plan) slots seat.id seat.me i (λ _. 0) (vacates_then (IsIn g.H.Holding.holds) (step slots i 0 0 none) seat.me)) word
-          (vacates _ (IsIn g.H.Holding.holds) plan slots seat.id seat.me f.0 f.1 r.0 t.8 f.2),
+          (vacates _ (IsIn g.H.Holding.holds) plan slots seat.id seat.me f.0 f.1 r.0 (t.2 ∙ sym t.1) f.2),
     )

@@ -1,4 +1,4 @@
-use Rattle.std.proofs.Common.{◌≡◌, ℕ, ◌+◌, ◌*◌, List, ◌∷◌, Option, None, Some, IsSome, IsSomeAnd, map, ap, sym, ◌∙◌, subst, refl}
+use Rattle.std.proofs.Common.{◌≡◌, ℕ, List, ◌∷◌, Option, None, Some, IsSome, IsSomeAnd, map, ap, sym, ◌∙◌, subst, refl}
 use Rattle.atomic_table.specs.Table.{Me, rest}
 use Rattle.core.specs.declared.mem.manually_drop.ManuallyDrop.{ManuallyDrop}
 use Rattle.std.specs.Mem.{manually_drop_value}
@@ -52,20 +52,20 @@ had_back holds (Some m) item hs tells is = ap holds (sym is) ∙ tells
 
 pub deed_of-deed-requires : goal.deed_of-deed-requires
 deed_of-deed-requires g c = let m = c.args.seat.now.me in let q = c.requires.opened in let o = q.2 in let e = c.exchange.ensures in
-    (o.f.round, q.0, had g.H.Holding.holds c.args.slot (c.args.sizes.now.participants * c.args.sizes.now.slots + c.args.slot) m c.exchange.new.seat.me q.0 q.1 o c.exchange.result e.2 e.3)
+    (o.f.round, q.0, had g.H.Holding.holds c.args.slot c.home_of-own.result m c.exchange.new.seat.me q.0 q.1 o c.exchange.result e.2 e.3)
 
 pub gather_all-all-requires-clause-filled : goal.gather_all-all-requires-clause-filled
-gather_all-all-requires-clause-filled g c = let m = c.args.seat.now.me in let q = c.requires.opened in let o = q.2 in let e = c.exchange.ensures in let n : ℕ = c.args.sizes.now.participants in
-    let is = emptied g.H.Holding.holds c.args.slot (n * c.args.sizes.now.slots + c.args.slot) m c.exchange.new.seat.me q.0 q.1 o c.exchange.result e.2 e.3 in let wide = ap (λ (z : Sizes). z.participants) c.requires.table.0.2 in
+gather_all-all-requires-clause-filled g c = let m = c.args.seat.now.me in let q = c.requires.opened in let o = q.2 in let e = c.exchange.ensures in
+    let is = emptied g.H.Holding.holds c.args.slot c.home_of-own.result m c.exchange.new.seat.me q.0 q.1 o c.exchange.result e.2 e.3 in let wide = ap (λ (z : Sizes). z.participants) c.requires.table.0.2 in
     (o.f, ap (λ (z : Me _ Acting). z.0.filling) is ∙ o.fills, o.all ∙ wide, o.back ∙ wide, o.none)
 
 pub take_out-item-requires : goal.take_out-item-requires
-take_out-item-requires g c = let m = c.args.seat.now.me in let q = c.requires.opened in let o = q.2 in let e = c.exchange.ensures in let n : ℕ = c.args.sizes.now.participants in let i : ℕ = n * c.args.sizes.now.slots + c.args.slot in
+take_out-item-requires g c = let m = c.args.seat.now.me in let q = c.requires.opened in let o = q.2 in let e = c.exchange.ensures in let i : ℕ = c.home_of-own.result in
     let is = emptied g.H.Holding.holds c.args.slot i m c.exchange.new.seat.me q.0 q.1 o c.exchange.result e.2 e.3 in let a = c.gather_all-all.ensures.gathered o.f (ap (λ (z : Me _ Acting). z.0.filling) is ∙ o.fills) in
     let d = c.deed_of-deed.ensures o.f.round q.0 (had g.H.Holding.holds c.args.slot i m c.exchange.new.seat.me q.0 q.1 o c.exchange.result e.2 e.3) in (a.3 ∙ sym d.0, c.gather_all-all.ensures.all, is_there _ c.deed_of-deed.result.value d.1)
 
 pub vacate-requires-clause-emptied : goal.vacate-requires-clause-emptied
-vacate-requires-clause-emptied g c = let m = c.args.seat.now.me in let q = c.requires.opened in let o = q.2 in let e = c.exchange.ensures in let e' = c.exchange-2.ensures in let n : ℕ = c.args.sizes.now.participants in let i : ℕ = n * c.args.sizes.now.slots + c.args.slot in
+vacate-requires-clause-emptied g c = let m = c.args.seat.now.me in let q = c.requires.opened in let o = q.2 in let e = c.exchange.ensures in let e' = c.exchange-2.ensures in let i : ℕ = c.home_of-own.result in
     let m2 = c.exchange.new.seat.me in let m3 = c.gather_all-all.new.seat.me in let m4 = c.exchange-2.new.seat.me in let r = c.exchange.result in let r' = c.exchange-2.result in let y = Room c.take_out-item.result.1 in
     let is = emptied g.H.Holding.holds c.args.slot i m m2 q.0 q.1 o r e.2 e.3 in let a = c.gather_all-all.ensures.gathered o.f (ap (λ (z : Me _ Acting). z.0.filling) is ∙ o.fills) in
     let back = restored g.H.Holding.holds c.args.slot i m m2 q.0 q.1 o r e.2 e.3 m3 m4 a.0 i r' y a.4 e'.2 e'.3 in
@@ -73,7 +73,7 @@ vacate-requires-clause-emptied g c = let m = c.args.seat.now.me in let q = c.req
     (ap (λ (z : Me _ Acting). z.0.kind) back ∙ c.requires.acts, ap (λ (z : Me _ Acting). z.0.slot) back, (a.0, q.1, ready))
 
 pub returns-clause-taken : goal.returns-clause-taken
-returns-clause-taken g c = λ hs tail o. let m = c.args.seat.now.me in let e = c.exchange.ensures in let e' = c.exchange-2.ensures in let n : ℕ = c.args.sizes.now.participants in let i : ℕ = n * c.args.sizes.now.slots + c.args.slot in
+returns-clause-taken g c = λ hs tail o. let m = c.args.seat.now.me in let e = c.exchange.ensures in let e' = c.exchange-2.ensures in let i : ℕ = c.home_of-own.result in
     let m2 = c.exchange.new.seat.me in let m3 = c.gather_all-all.new.seat.me in let m4 = c.exchange-2.new.seat.me in let r = c.exchange.result in let r' = c.exchange-2.result in let y = Room c.take_out-item.result.1 in
     let is = emptied g.H.Holding.holds c.args.slot i m m2 hs tail o r e.2 e.3 in let a = c.gather_all-all.ensures.gathered o.f (ap (λ (z : Me _ Acting). z.0.filling) is ∙ o.fills) in
     let ready = can g.H.Holding.holds c.args.slot i m m2 hs tail o r e.2 e.3 m3 m4 a.0 i r' y a.4 e'.2 e'.3 a.1 (a.2 ∙ sym (ap (λ (z : Sizes). z.participants) c.requires.table.0.2)) (_, refl) in

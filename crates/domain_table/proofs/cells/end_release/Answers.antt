@@ -1,4 +1,5 @@
-use Rattle.std.proofs.Common.{◌≡◌, ◌+◌, ◌-◌, ◌*◌, ◌%◌, ◌∙◌, ℕ, ap, subst, arith}
+use Rattle.std.proofs.Common.{◌≡◌, ◌+◌, ◌-◌, ◌%◌, ◌∙◌, ℕ, ap, subst, sym, arith}
+use Rattle.sdd_plain.specs.declared.sizes.Sizes.{Sizes}
 use mathlib.Core.Option.{none}
 use Rattle.atomic_table.specs.Table.{step, Allows}
 use Rattle.domain_table.specs.Contents.{IsIn}
@@ -9,8 +10,8 @@ use Rattle.domain_table.proofs.EndedReleases.{ends_one}
 use Rattle.domain_table.proofs.cells.end_release.Goals as goal
 
 pub fetch_sub-requires : goal.fetch_sub-requires
-fetch_sub-requires g c = let t = c.requires.table in let plan = c.args.words.now.key in let seat = c.args.seat.now in let slots = c.args.words.now.table_id.slots in let same = t.1 in let cells = t.2 in let few = t.3 in let small = t.4 in let inside = t.5 in let low = t.6 in let room = t.7 in let l = c.requires.begun in
-    let is = l.5 in let word : slot_word plan.sizes l.0.slot ≡ 8 * c.args.participants + 16 + c.args.cells + c.args.slot = omega arith in (
+fetch_sub-requires g c = let t = c.requires.table in let plan = c.args.words.now.key in let seat = c.args.seat.now in let slots = c.args.words.now.table_id.slots in let index = c.owners_word.ensures in let sized = t.2 in let inside = t.3 in let room = t.4 in let l = c.requires.begun in
+    let is = l.5 in let word : slot_word plan.sizes l.0.slot ≡ c.owners_word.result = ap (λ k. slot_word plan.sizes k) is ∙ (ap (λ (q : Sizes). slot_word q c.args.slot) t.1 ∙ sym index) in (
       t.0,
       omega arith,
       subst (λ i. Allows (Shows (IsIn g.H.Holding.holds) plan) slots seat.id seat.me i (λ n. (n + (18446744073709551616 - 1)) % 18446744073709551616) (end_release_then (IsIn g.H.Holding.holds) g.A.Aim.to (step slots i 1 0 none) seat.me)) word

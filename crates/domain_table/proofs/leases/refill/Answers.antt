@@ -1,4 +1,4 @@
-use Rattle.std.proofs.Common.{◌≡◌, ◌<◌, ℕ, ◌+◌, ◌*◌, List, [], ◌∷◌, ◌++◌, map, length, drop, append_assoc, sym, ap, ◌∙◌, subst}
+use Rattle.std.proofs.Common.{◌≡◌, ◌<◌, ℕ, List, [], ◌∷◌, ◌++◌, map, length, drop, append_assoc, sym, ap, ◌∙◌, subst}
 use Rattle.atomic_table.specs.Table.{rest}
 use Rattle.sdd_homes.specs.declared.Lease.{Lease}
 use Rattle.sdd_homes.specs.Book.{home, part}
@@ -24,7 +24,7 @@ into_parts-parts-requires g c = let i = c.loop-row.invariant.filled in let f = f
 pub exchange-requires : goal.exchange-requires
 exchange-requires g c = let t = c.requires.table in let i = c.loop-row.invariant.filled in let f = first c.args.ended.now.id c.in-Some.row c.pop_front.new.self.items c.loop-row.rows.items i.1 c.in-Some.ensures.items i.4 in let m = c.args.seat.now.me in let d = m.0 in
     let all : List (ℕ × Home _) = drop (length d.leases) m.1 in let is = i.6 ∙ λ j. (d, blanks (leased_homes d (f.2 j)) ++ (all ++ i.2)) in let there = front c.loop-row.seat.me d f.0 f.1 all i.2 is in
-    let at : own_home d f.0.slot ≡ c.args.number * c.args.slots + c.in-Some.row.slot = λ j. home (t.1 j) (sym (ap (λ (x : ℕ × ℕ × ℕ × ℕ). x.0) f.3) j) (t.3 j) in
+    let at : own_home d f.0.slot ≡ c.home_of-home.result = (λ j. home (t.1 j) (sym (ap (λ (x : ℕ × ℕ × ℕ × ℕ). x.0) f.3) j) (t.3 j)) ∙ sym c.home_of-home.ensures in
     (c.loop-row.invariant.seat.0 ∙ t.0, (Blank, there ∙ λ j. (at j, Blank) ∷ rest (sym there j)))
 
 pub loop-row-preserved : goal.loop-row-preserved
@@ -41,6 +41,6 @@ loop-row-preserved g c = let i = c.loop-row.invariant.filled in let f = first c.
         i.3 ∙ (ap (λ ls. i.0 ++ ls) f.2 ∙ sym (append_assoc i.0 (l ∷ []) f.1)),
         f.4,
         more_filled (IsIn g.H.Holding.holds) d i.0 i.2 l y good i.5,
-        turned_on c.loop-row.seat.me d l f.1 t i.2 is (c.args.number * c.args.slots + r.slot) c.exchange.result y c.exchange.new.seat.me c.turn.new.self.me e.2 e.3 u.2,
+        turned_on c.loop-row.seat.me d l f.1 t i.2 is c.home_of-home.result c.exchange.result y c.exchange.new.seat.me c.turn.new.self.me e.2 e.3 u.2,
       );
     }

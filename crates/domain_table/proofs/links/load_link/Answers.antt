@@ -1,4 +1,4 @@
-use Rattle.std.proofs.Common.{◌≡◌, ◌+◌, ◌*◌, ◌∙◌, subst, sym, ap, arith}
+use Rattle.std.proofs.Common.{◌≡◌, ◌∙◌, subst, sym, ap, arith}
 use mathlib.Core.Option.{none}
 use Rattle.atomic_table.specs.Table.{step, Allows}
 use Rattle.domain_table.specs.Contents.{IsIn}
@@ -10,8 +10,8 @@ use Rattle.domain_table.proofs.Linking.{loads_link}
 use Rattle.domain_table.proofs.links.load_link.Goals as goal
 
 pub load-requires : goal.load-requires
-load-requires g c = let t = c.requires.table in let plan = c.args.words.now.key in let seat = c.args.seat.now in let slots = c.args.words.now.table_id.slots in let low = t.5 in let room = t.4 in
-    let word : link_word plan.sizes c.args.slot ≡ 8 * c.args.sizes.now.participants + 16 + c.args.sizes.now.cells + c.args.sizes.now.slots + c.args.slot = ap (λ (z : Sizes). link_word z c.args.slot) t.1 in (
+load-requires g c = let t = c.requires.table in let plan = c.args.words.now.key in let seat = c.args.seat.now in let slots = c.args.words.now.table_id.slots in let low = t.5 in let room = t.4 in let index = c.link_word.ensures in
+    let word : link_word plan.sizes c.args.slot ≡ c.link_word.result = ap (λ (z : Sizes). link_word z c.args.slot) t.1 ∙ sym c.link_word.ensures in (
       t.0,
       omega arith,
       subst (λ i. Allows (Shows (IsIn g.H.Holding.holds) plan) slots seat.id seat.me i (λ m. m) (load_link_then (step slots i 0 0 none) seat.me)) word
@@ -19,4 +19,4 @@ load-requires g c = let t = c.requires.table in let plan = c.args.words.now.key 
     )
 
 pub returns-clause-told : goal.returns-clause-told
-returns-clause-told g c = let t = c.requires.table in c.load.ensures.2.3 c.args.slot (sym (ap (λ (z : Sizes). link_word z c.args.slot) t.2))
+returns-clause-told g c = let t = c.requires.table in c.load.ensures.2.3 c.args.slot (c.link_word.ensures ∙ sym (ap (λ (z : Sizes). link_word z c.args.slot) t.2))

@@ -1,4 +1,4 @@
-use Rattle.std.proofs.Common.{◌≡◌, ℕ, ◌+◌, ◌*◌, ◌<◌, ◌≤◌, List, [], ◌∷◌, ◌++◌, map, length, slice_index_or, refl, sym, ap, ◌∙◌, subst, arith}
+use Rattle.std.proofs.Common.{◌≡◌, ℕ, ◌<◌, ◌≤◌, List, [], ◌∷◌, ◌++◌, map, length, slice_index_or, refl, sym, ap, ◌∙◌, subst, arith}
 use Rattle.atomic_table.specs.Table.{Me, rest}
 use Rattle.sdd_plain.specs.declared.sizes.Sizes.{Sizes}
 use Rattle.sdd_steps.specs.State.{Has}
@@ -33,16 +33,16 @@ returns-in-Some-clause-rows g c = let q = c.requires.found in let m = q.0 in let
 pub exchange-requires : goal.exchange-requires
 exchange-requires g c = let q = c.requires.found in let m = q.0 in let m1 = c.args.seat.now.me in let slot : ℕ = c.args.slot in let f = q.1 in
     let takes = is_new g.H.Holding.holds c.args.life.now.id c.args.rows.now.items m m1 slot f.0 q.4 f.1 c.in_default.ensures.free in let there = front g.H.Holding.holds m m1 slot f.0 takes in
-    let at : own_home m.0 slot ≡ c.args.number * c.args.sizes.now.slots + slot = (λ j. home (q.3 j).slots slot (q.2 j)) in
+    let at : own_home m.0 slot ≡ c.home_of-home.result = (λ j. home (q.3 j).slots slot (q.2 j)) ∙ sym c.home_of-home.ensures in
     (c.requires.table.0, (takes.3.1, there ∙ λ j. (at j, takes.3.1) ∷ rest (sym there j)))
 
 pub parts_of-parts-requires : goal.parts_of-parts-requires
 parts_of-parts-requires g c = let q = c.requires.found in let m = q.0 in let m1 = c.args.seat.now.me in let slot : ℕ = c.args.slot in let f = q.1 in
-    let takes = is_new g.H.Holding.holds c.args.life.now.id c.args.rows.now.items m m1 slot f.0 q.4 f.1 c.in_default.ensures.free in (f.0.value, takes.3.0, had g.H.Holding.holds m m1 slot f.0 takes (c.args.number * c.args.sizes.now.slots + slot) c.exchange.result c.exchange.ensures.2)
+    let takes = is_new g.H.Holding.holds c.args.life.now.id c.args.rows.now.items m m1 slot f.0 q.4 f.1 c.in_default.ensures.free in (f.0.value, takes.3.0, had g.H.Holding.holds m m1 slot f.0 takes c.home_of-home.result c.exchange.result c.exchange.ensures.2)
 
 pub new-requires-clause-parts : goal.new-requires-clause-parts
 new-requires-clause-parts g c = let q = c.requires.found in let m = q.0 in let m1 = c.args.seat.now.me in let slot : ℕ = c.args.slot in let f = q.1 in
-    let takes = is_new g.H.Holding.holds c.args.life.now.id c.args.rows.now.items m m1 slot f.0 q.4 f.1 c.in_default.ensures.free in let p = c.parts_of-parts.ensures f.0.value takes.3.0 (had g.H.Holding.holds m m1 slot f.0 takes (c.args.number * c.args.sizes.now.slots + slot) c.exchange.result c.exchange.ensures.2) in
+    let takes = is_new g.H.Holding.holds c.args.life.now.id c.args.rows.now.items m m1 slot f.0 q.4 f.1 c.in_default.ensures.free in let p = c.parts_of-parts.ensures f.0.value takes.3.0 (had g.H.Holding.holds m m1 slot f.0 takes c.home_of-home.result c.exchange.result c.exchange.ensures.2) in
     (p.1 ∙ sym p.2, subst (λ n. 0 < n) (sym p.2) p.3, subst (λ n. n ≤ 9223372036854775808) (sym p.2) takes.3.3, p.4)
 
 pub push_back_reserved-requires : goal.push_back_reserved-requires
@@ -55,12 +55,12 @@ returns-clause-view g c = ap (λ (z : Me _ Acting). z.0) (c.turn.ensures.2) ∙ 
 pub returns-clause-noted : goal.returns-clause-noted
 returns-clause-noted g c = λ m loaded told. let m1 = c.args.seat.now.me in let slot : ℕ = c.args.slot in let f = loaded in
     let takes = is_new g.H.Holding.holds c.args.life.now.id c.args.rows.now.items m m1 slot f.0 told f.1 c.in_default.ensures.free in let e = c.exchange.ensures in
-    (m.0.known.loaded ++ f.0 ∷ [], new g.H.Holding.holds m m1 slot f.0 takes ∷ [], behind g.H.Holding.holds m m1 slot f.0 takes (c.args.number * c.args.sizes.now.slots + slot) c.exchange.result c.exchange.new.seat.me c.turn.new.self.me e.2 e.3 c.turn.ensures.2)
+    (m.0.known.loaded ++ f.0 ∷ [], new g.H.Holding.holds m m1 slot f.0 takes ∷ [], behind g.H.Holding.holds m m1 slot f.0 takes c.home_of-home.result c.exchange.result c.exchange.new.seat.me c.turn.new.self.me e.2 e.3 c.turn.ensures.2)
 
 pub returns-clause-rows : goal.returns-clause-rows
 returns-clause-rows g c = let q = c.requires.found in let m = q.0 in let m1 = c.args.seat.now.me in let slot : ℕ = c.args.slot in let f = q.1 in let rows = c.args.rows.now.items in let life : ℕ = c.args.life.now.id in
-    let takes = is_new g.H.Holding.holds c.args.life.now.id c.args.rows.now.items m m1 slot f.0 q.4 f.1 c.in_default.ensures.free in let e = c.exchange.ensures in let p = c.parts_of-parts.ensures f.0.value takes.3.0 (had g.H.Holding.holds m m1 slot f.0 takes (c.args.number * c.args.sizes.now.slots + slot) c.exchange.result e.2) in
-    let all = behind g.H.Holding.holds m m1 slot f.0 takes (c.args.number * c.args.sizes.now.slots + slot) c.exchange.result c.exchange.new.seat.me c.turn.new.self.me e.2 e.3 c.turn.ensures.2 in let pushed = c.push_back_reserved.ensures.items in
+    let takes = is_new g.H.Holding.holds c.args.life.now.id c.args.rows.now.items m m1 slot f.0 q.4 f.1 c.in_default.ensures.free in let e = c.exchange.ensures in let p = c.parts_of-parts.ensures f.0.value takes.3.0 (had g.H.Holding.holds m m1 slot f.0 takes c.home_of-home.result c.exchange.result e.2) in
+    let all = behind g.H.Holding.holds m m1 slot f.0 takes c.home_of-home.result c.exchange.result c.exchange.new.seat.me c.turn.new.self.me e.2 e.3 c.turn.ensures.2 in let pushed = c.push_back_reserved.ensures.items in
     let one : row_told c.new.result ≡ lease_told life (new g.H.Holding.holds m m1 slot f.0 takes) = c.new.ensures ∙ λ j. (slot, p.0 j, p.2 j, life) in (
       ap (map row_told) pushed ∙ (more_told life rows m.0.leases c.new.result (new g.H.Holding.holds m m1 slot f.0 takes) q.4 one ∙ sym (ap (λ (z : Me _ Acting). map (lease_told life) z.0.leases) all)),
       ap (λ rs. all_below c.args.sizes.now.slots (row_slots rs)) pushed ∙ more_below c.args.sizes.now.slots rows c.new.result c.requires.rows.0 (subst (λ k. k < c.args.sizes.now.slots) (sym (ap (λ (t : ℕ × ℕ × ℕ × ℕ). t.0) one)) (subst (λ (z : Sizes). slot < z.slots) q.3 takes.1)),

@@ -1,4 +1,4 @@
-use Rattle.std.proofs.Common.{◌≡◌, ℕ, suc, ◌+◌, ◌*◌, ◌<◌, List, [], ◌∷◌, ◌++◌, Option, None, Some, length, IsSome, ap, sym, ◌∙◌, subst, refl, arith}
+use Rattle.std.proofs.Common.{◌≡◌, ℕ, suc, ◌+◌, ◌<◌, List, [], ◌∷◌, ◌++◌, Option, None, Some, length, IsSome, ap, sym, ◌∙◌, subst, refl, arith}
 use Rattle.atomic_table.specs.Table.{Me, rest}
 use Rattle.sdd_plain.specs.declared.sizes.Sizes.{Sizes}
 use Rattle.sdd_steps.specs.declared.participant.Participant.{Participant}
@@ -50,26 +50,26 @@ begin_release-requires-clause-owner g c = let q = c.requires.owner.0 in (q.0, q.
 
 pub parts_of-own-requires : goal.parts_of-own-requires
 parts_of-own-requires g c = let q = c.requires.owner.0 in let b = c.begin_release.ensures.begun q.0 q.1 q.2 in let e = c.exchange.ensures in
-    (q.0.round, b.0, had g.H.Holding.holds c.args.seat.now.me c.begin_release.new.seat.me q.0 b (c.args.number * c.args.sizes.now.slots + c.args.slot) c.exchange.result e.2)
+    (q.0.round, b.0, had g.H.Holding.holds c.args.seat.now.me c.begin_release.new.seat.me q.0 b c.home_of-home.result c.exchange.result e.2)
 
 pub join-requires : goal.join-requires
 join-requires g c = let q = c.requires.owner.0 in let b = c.begin_release.ensures.begun q.0 q.1 q.2 in let e = c.exchange.ensures in let few = b.3 in
-    let p = c.parts_of-own.ensures q.0.round b.0 (had g.H.Holding.holds c.args.seat.now.me c.begin_release.new.seat.me q.0 b (c.args.number * c.args.sizes.now.slots + c.args.slot) c.exchange.result e.2) in let many = p.1 in let some = p.3 in
+    let p = c.parts_of-own.ensures q.0.round b.0 (had g.H.Holding.holds c.args.seat.now.me c.begin_release.new.seat.me q.0 b c.home_of-home.result c.exchange.result e.2) in let many = p.1 in let some = p.3 in
     let mine = c.into_part.ensures in let one = mine.1 in (ap (λ z. z.life.id) mine.0 ∙ (sym q.4 ∙ sym p.0), omega arith, omega arith)
 
 pub overflow_add-count : goal.overflow_add-count
 overflow_add-count g c = let q = c.requires.owner.0 in let b = c.begin_release.ensures.begun q.0 q.1 q.2 in let e = c.exchange.ensures in let few = b.3 in
-    let p = c.parts_of-own.ensures q.0.round b.0 (had g.H.Holding.holds c.args.seat.now.me c.begin_release.new.seat.me q.0 b (c.args.number * c.args.sizes.now.slots + c.args.slot) c.exchange.result e.2) in let many = p.2 in omega arith
+    let p = c.parts_of-own.ensures q.0.round b.0 (had g.H.Holding.holds c.args.seat.now.me c.begin_release.new.seat.me q.0 b c.home_of-home.result c.exchange.result e.2) in let many = p.2 in omega arith
 
 pub end_release-requires-clause-begun : goal.end_release-requires-clause-begun
-end_release-requires-clause-begun g c = let m = c.args.seat.now.me in let q = c.requires.owner.0 in let o = q.0 in let b = c.begin_release.ensures.begun o q.1 q.2 in let n : ℕ = b.0 in let i : ℕ = c.args.number * c.args.sizes.now.slots + c.args.slot in let e = c.exchange.ensures in let e' = c.exchange-2.ensures in
+end_release-requires-clause-begun g c = let m = c.args.seat.now.me in let q = c.requires.owner.0 in let o = q.0 in let b = c.begin_release.ensures.begun o q.1 q.2 in let n : ℕ = b.0 in let i : ℕ = c.home_of-home.result in let e = c.exchange.ensures in let e' = c.exchange-2.ensures in
     let m1 = c.begin_release.new.seat.me in let m2 = c.exchange.new.seat.me in let m3 = c.exchange-2.new.seat.me in let r = c.exchange.result in let r' = c.exchange-2.result in let s = c.join.new.self in let told = c.join.ensures in let y = Part s (c.parts_of-own.result.1 + 1) in
     let p = c.parts_of-own.ensures o.round n (had g.H.Holding.holds m m1 o b i r e.2) in let many : c.parts_of-own.result.0.life.count ≡ n = p.1 in let one = c.into_part.ensures.1 in let sum = ap (λ z. z.count) told.life in
     let all : s.life.count ≡ n + 1 = omega arith in let is_in : IsIn g.H.Holding.holds (part o.round (n + 1)) y = (s, ap (λ z. Part s (z + 1)) p.2, ap (λ z. z.id) told.life ∙ p.0, all, omega arith, subst (λ z. IsSome z.value) (sym told.seen) p.4) in
     (lease o.slot o.item n o.round, m.0.leases, o, q.1, m.1, q.3, can g.H.Holding.holds m m1 o b i r e.2 m2 m3 i r' Blank y e.3 e'.2 e'.3 q.1 q.2 is_in)
 
 pub returns-clause-released : goal.returns-clause-released
-returns-clause-released g c = λ o' os' first'. let m = c.args.seat.now.me in let q = c.requires.owner.0 in let o = q.0 in let b = c.begin_release.ensures.begun o q.1 q.2 in let n : ℕ = b.0 in let i : ℕ = c.args.number * c.args.sizes.now.slots + c.args.slot in let e = c.exchange.ensures in let e' = c.exchange-2.ensures in
+returns-clause-released g c = λ o' os' first'. let m = c.args.seat.now.me in let q = c.requires.owner.0 in let o = q.0 in let b = c.begin_release.ensures.begun o q.1 q.2 in let n : ℕ = b.0 in let i : ℕ = c.home_of-home.result in let e = c.exchange.ensures in let e' = c.exchange-2.ensures in
     let m1 = c.begin_release.new.seat.me in let m2 = c.exchange.new.seat.me in let m3 = c.exchange-2.new.seat.me in let r = c.exchange.result in let r' = c.exchange-2.result in let s = c.join.new.self in let told = c.join.ensures in let y = Part s (c.parts_of-own.result.1 + 1) in
     let p = c.parts_of-own.ensures o.round n (had g.H.Holding.holds m m1 o b i r e.2) in let many : c.parts_of-own.result.0.life.count ≡ n = p.1 in let one = c.into_part.ensures.1 in let sum = ap (λ z. z.count) told.life in
     let all : s.life.count ≡ n + 1 = omega arith in let is_in : IsIn g.H.Holding.holds (part o.round (n + 1)) y = (s, ap (λ z. Part s (z + 1)) p.2, ap (λ z. z.id) told.life ∙ p.0, all, omega arith, subst (λ z. IsSome z.value) (sym told.seen) p.4) in
@@ -84,6 +84,6 @@ pub returns-clause-low : goal.returns-clause-low
 returns-clause-low g c = let q = c.requires.owner.0 in let b = c.begin_release.ensures.begun q.0 q.1 q.2 in let low = b.4 in let at = q.3 in let slots = ap (λ (z : Sizes). z.slots) c.requires.table.0.2 in omega arith
 
 pub returns-clause-bag_room : goal.returns-clause-bag_room
-returns-clause-bag_room g c = let m = c.args.seat.now.me in let q = c.requires.owner.0 in let o = q.0 in let b = c.begin_release.ensures.begun o q.1 q.2 in let i : ℕ = c.args.number * c.args.sizes.now.slots + c.args.slot in let e = c.exchange.ensures in let e' = c.exchange-2.ensures in
+returns-clause-bag_room g c = let m = c.args.seat.now.me in let q = c.requires.owner.0 in let o = q.0 in let b = c.begin_release.ensures.begun o q.1 q.2 in let i : ℕ = c.home_of-home.result in let e = c.exchange.ensures in let e' = c.exchange-2.ensures in
     let is = joined g.H.Holding.holds m c.begin_release.new.seat.me o b i c.exchange.result e.2 c.exchange.new.seat.me c.exchange-2.new.seat.me i c.exchange-2.result Blank _ e.3 e'.2 e'.3 in
     subst (λ (z : Sizes). length m.0.collected < z.slots) c.requires.table.0.2 (subst (λ (t : Me _ Acting). length t.0.collected < t.0.sizes.slots) is c.end_release.ensures.room.1)

@@ -1,9 +1,8 @@
-use Rattle.std.proofs.Common.{◌≡◌, ◌<◌, ◌≤◌, ℕ, ◌+◌, length, ◌∷◌, map, slice_set, sym, refl, ap, ◌∙◌, subst, arith}
+use Rattle.std.proofs.Common.{◌≡◌, ◌<◌, ℕ, ◌+◌, length, ◌∷◌, map, slice_set, sym, refl, ap, ◌∙◌, subst, arith}
 use Rattle.sdd_plain.specs.declared.sizes.Sizes.{Sizes}
 use Rattle.sdd_homes.specs.declared.Owner.{Owner}
 use Rattle.sdd_homes.specs.Book.{recounted}
 use Rattle.domain_table.specs.Leases.{row_told, lease_told}
-use Rattle.domain_table.specs.Layout.{all_words}
 use Rattle.domain_table.specs.declared.board.Acting.{Acting}
 use Rattle.domain_table.proofs.Bagging.{gone, bags_stay, one_goes}
 use Rattle.domain_table.proofs.Rows.{row_at, at_slot, inside, slots_told, recounted_slots}
@@ -11,8 +10,7 @@ use Rattle.domain_table.proofs.owners.release_leased.Goals as goal
 
 pub release_owner-left-requires-clause-table : goal.release_owner-left-requires-clause-table
 release_owner-left-requires-clause-table g c = let t = c.requires.table in let r = c.requires.rows in let rows = c.args.rows.now.items in let ls = c.args.seat.now.me.0.leases in let low = c.requires.row.0 in let long = c.args.rows.now.ok.0 in let f = row_at r.0.0 rows ls c.args.at r.0.1 (omega arith) in
-    let below = inside r.0.0 rows ls c.args.at c.args.slot f c.requires.row.1 r.0.1 c.args.sizes.now.slots r.1 in let slots = ap (λ (z : Sizes). z.slots) t.1 in let sized = t.3 in
-    (t.0, ap (λ (z : Sizes). z.participants) t.1, ap (λ (z : Sizes). z.cells) t.1, omega arith, omega arith, omega arith, omega arith, subst (λ z. all_words z ≤ c.args.words.now.table_id.words) (sym t.1) t.4)
+    let below = inside r.0.0 rows ls c.args.at c.args.slot f c.requires.row.1 r.0.1 c.args.sizes.now.slots r.1 in (t.0, t.1, t.3, below, t.4)
 
 pub release_owner-left-requires-clause-owner : goal.release_owner-left-requires-clause-owner
 release_owner-left-requires-clause-owner g c = let r = c.requires.rows in let rows = c.args.rows.now.items in let ls = c.args.seat.now.me.0.leases in let low = c.requires.row.0 in let long = c.args.rows.now.ok.0 in let f = row_at r.0.0 rows ls c.args.at r.0.1 (omega arith) in

@@ -1,4 +1,4 @@
-use Rattle.std.proofs.Common.{◌≡◌, ◌⊎◌, ℕ, ◌+◌, ◌*◌, ◌<◌, ◌≤◌, List, ◌∷◌, Some, IsSome, ap, sym, ◌∙◌, subst, refl, ⊎_elim, inl, inr, arith}
+use Rattle.std.proofs.Common.{◌≡◌, ◌⊎◌, ℕ, ◌<◌, ◌≤◌, List, ◌∷◌, Some, IsSome, ap, sym, ◌∙◌, subst, refl, ⊎_elim, inl, inr, arith}
 use Rattle.atomic_table.specs.Table.{Me, rest}
 use Rattle.sdd_plain.specs.declared.sizes.Sizes.{Sizes}
 use Rattle.sdd_homes.specs.declared.Filling.{Filling}
@@ -29,14 +29,14 @@ module _ {T : Type 0} (holds : T → List (ℕ × ℕ)) (d : Acting) (xs : List 
 pub give_next-requires-clause-filling : goal.give_next-requires-clause-filling
 give_next-requires-clause-filling g c = let m = c.args.seat.now.me in let q = c.requires.filling in let f = q.0 in let t = c.take_next.ensures.taken f q.1 in let e = c.exchange.ensures in let s = c.split-part.ensures in let p = c.split-part.result in
     let n : ℕ = c.args.count in let all = c.args.all.now in let y = Part p n in let low = q.2 in let less = q.3 in let left = q.5 in let wide = ap (λ (z : Sizes). z.participants) c.requires.table.3 in let few = c.requires.parts in let is_in : IsIn g.H.Holding.holds (part all.life.id n) y = (p, refl, ap (λ l. l.id) s.taken.1, ap (λ l. l.count) s.taken.1, few.0, subst (λ z. IsSome z.value) (sym s.taken.0) few.3) in
-    let new = filled g.H.Holding.holds m.0 m.1 c.take_next.new.seat.me c.exchange.new.seat.me f t.0 c.exchange.result y (c.args.at * c.args.sizes.now.slots + c.args.slot) t.2 e.2 e.3 in (
+    let new = filled g.H.Holding.holds m.0 m.1 c.take_next.new.seat.me c.exchange.new.seat.me f t.0 c.exchange.result y c.home_of.result t.2 e.2 e.3 in (
       ap (λ (z : Me _ Acting). z.0.kind) new ∙ c.requires.table.2,
       (
         next_out f,
         all.life.id,
         n,
         m.1,
-        can g.H.Holding.holds m.0 m.1 c.take_next.new.seat.me c.exchange.new.seat.me f t.0 c.exchange.result y (c.args.at * c.args.sizes.now.slots + c.args.slot) t.2 e.2 e.3 all.life.id n (omega arith) (let z = few.1 in omega arith)
+        can g.H.Holding.holds m.0 m.1 c.take_next.new.seat.me c.exchange.new.seat.me f t.0 c.exchange.result y c.home_of.result t.2 e.2 e.3 all.life.id n (omega arith) (let z = few.1 in omega arith)
             (⊎_elim (λ (z : c.args.at ≡ 0). inl (low ∙ z)) (λ z. inr z) q.6) is_in,
       ),
     )
@@ -44,7 +44,7 @@ give_next-requires-clause-filling g c = let m = c.args.seat.now.me in let q = c.
 pub returns-clause-filled : goal.returns-clause-filled
 returns-clause-filled g c = λ f' is'. let m = c.args.seat.now.me in let q = c.requires.filling in let f = q.0 in let t = c.take_next.ensures.taken f q.1 in let e = c.exchange.ensures in let s = c.split-part.ensures in let p = c.split-part.result in
     let n : ℕ = c.args.count in let all = c.args.all.now in let y = Part p n in let low = q.2 in let less = q.3 in let left = q.5 in let wide = ap (λ (z : Sizes). z.participants) c.requires.table.3 in let few = c.requires.parts in let is_in : IsIn g.H.Holding.holds (part all.life.id n) y = (p, refl, ap (λ l. l.id) s.taken.1, ap (λ l. l.count) s.taken.1, few.0, subst (λ z. IsSome z.value) (sym s.taken.0) few.3) in
-    let i : ℕ = c.args.at * c.args.sizes.now.slots + c.args.slot in let r = c.exchange.result in let m1 = c.take_next.new.seat.me in let m2 = c.exchange.new.seat.me in
+    let i : ℕ = c.home_of.result in let r = c.exchange.result in let m1 = c.take_next.new.seat.me in let m2 = c.exchange.new.seat.me in
     let heads : Some f ≡ Some f' = sym q.1 ∙ is' in let same : f ≡ f' = cc in
     let ready = can g.H.Holding.holds m.0 m.1 m1 m2 f t.0 r y i t.2 e.2 e.3 all.life.id n (omega arith) (let z = few.1 in omega arith) (⊎_elim (λ (z : c.args.at ≡ 0). inl (low ∙ z)) (λ z. inr z) q.6) is_in in
     after g.H.Holding.holds m.0 m.1 m1 m2 f t.0 r y i t.2 e.2 e.3 c.give_next.new.seat.me all.life.id n (c.give_next.ensures.given (next_out f) all.life.id n m.1 ready) ∙ ap (λ (z : ℕ × Filling). (filling_at z.0 (next_filled m.0 all.life.id n z.1) m.0, m.1)) (λ j. (c.requires.table.5 j, same j))

@@ -1,4 +1,4 @@
-use Rattle.std.proofs.Common.{◌≡◌, ℕ, ◌+◌, ◌*◌, ◌∷◌, Option, None, Some, IsSomeAnd, map, ap, sym, ◌∙◌, subst, refl, List}
+use Rattle.std.proofs.Common.{◌≡◌, ℕ, ◌∷◌, Option, None, Some, IsSomeAnd, map, ap, sym, ◌∙◌, subst, refl, List}
 use Rattle.atomic_table.specs.Table.{Me, rest}
 use Rattle.core.specs.declared.mem.manually_drop.ManuallyDrop.{ManuallyDrop}
 use Rattle.std.specs.Mem.{manually_drop_value}
@@ -44,12 +44,12 @@ holding holds None item hand there e = there
 holding holds (Some m) item hand there e = ap holds there ∙ e
 
 pub fill_homes-requires-clause-filling : goal.fill_homes-requires-clause-filling
-fill_homes-requires-clause-filling g c = let m = c.args.seat.now.me in let own : ℕ = c.args.sizes.now.participants * c.args.sizes.now.slots + c.args.slot in let e = c.exchange.ensures in let e' = c.exchange-2.ensures in let q = c.requires.claimed in
+fill_homes-requires-clause-filling g c = let m = c.args.seat.now.me in let own : ℕ = c.home_of-own.result in let e = c.exchange.ensures in let e' = c.exchange-2.ensures in let q = c.requires.claimed in
     let is = stored g.H.Holding.holds c.args.slot own own m c.exchange.new.seat.me c.exchange-2.new.seat.me c.exchange.result c.exchange-2.result Blank (Deed c.store-deed.result.0) q e.2 e.3 e'.2 e'.3 in
     (claimed_by m.0, ap (λ (z : Me _ Acting). z.0.filling) is ∙ q.0, refl, ap (λ (z : Sizes). z.participants) c.requires.table.2, refl)
 
 pub place-requires-clause-filled : goal.place-requires-clause-filled
-place-requires-clause-filled g c = let m = c.args.seat.now.me in let own : ℕ = c.args.sizes.now.participants * c.args.sizes.now.slots + c.args.slot in let e = c.exchange.ensures in let e' = c.exchange-2.ensures in let q = c.requires.claimed in let x = c.fill_homes.ensures.filled in let d = c.store-deed in (
+place-requires-clause-filled g c = let m = c.args.seat.now.me in let own : ℕ = c.home_of-own.result in let e = c.exchange.ensures in let e' = c.exchange-2.ensures in let q = c.requires.claimed in let x = c.fill_homes.ensures.filled in let d = c.store-deed in (
   x.0,
   rest m.1,
   can g.H.Holding.holds c.args.slot own own m c.exchange.new.seat.me c.exchange-2.new.seat.me c.exchange.result c.exchange-2.result Blank (Deed d.result.0) q e.2 e.3 e'.2 e'.3 c.fill_homes.new.seat.me x.0 x.5
@@ -57,7 +57,7 @@ place-requires-clause-filled g c = let m = c.args.seat.now.me in let own : ℕ =
 )
 
 pub returns-clause-placed : goal.returns-clause-placed
-returns-clause-placed g c = let m = c.args.seat.now.me in let own : ℕ = c.args.sizes.now.participants * c.args.sizes.now.slots + c.args.slot in let e = c.exchange.ensures in let e' = c.exchange-2.ensures in let q = c.requires.claimed in let x = c.fill_homes.ensures.filled in let d = c.store-deed in
+returns-clause-placed g c = let m = c.args.seat.now.me in let own : ℕ = c.home_of-own.result in let e = c.exchange.ensures in let e' = c.exchange-2.ensures in let q = c.requires.claimed in let x = c.fill_homes.ensures.filled in let d = c.store-deed in
     let m1 = c.exchange.new.seat.me in let m2 = c.exchange-2.new.seat.me in let m3 = c.fill_homes.new.seat.me in let r = c.exchange.result in let r' = c.exchange-2.result in let y = Deed d.result.0 in
     let ready = can g.H.Holding.holds c.args.slot own own m m1 m2 r r' Blank y q e.2 e.3 e'.2 e'.3 m3 x.0 x.5 (x.1 ∙ ap (λ (z : Sizes). z.participants) (sym c.requires.table.2)) x.3 (d.result.0, refl, sym d.ensures.round.0 ∙ sym x.4, holding g.H.Holding.holds d.result.0.value c.args.item m.0.hand d.ensures.there c.requires.ready.3) in
     let p = c.place.ensures.placed x.0 (rest m.1) ready in
