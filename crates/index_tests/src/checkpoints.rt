@@ -5,17 +5,18 @@ use crate::reads::{
     LIST_4, LIST_5, LIST_6,
 };
 use crate::table::Call::{
-    Audit, AuditOf, Base, Checkpoint, Close, Commit, CommitOf, CommitOn, Len, Look, Number, Open,
-    Read, Reclaim, Since, Slots,
+    Audit, AuditOf, Base, Checkpoint, Close, Commit, CommitOf, Len, Look, Number, Open, Read,
+    Reclaim, Slots,
 };
 use crate::table::Claim::Got;
 use crate::table::Told::{
-    Accepted, Ahead, Audited, Based, Behind, Checkpointed, Closed, Done, Fed, Holds, Opened,
-    Refused, Seen, Unfed,
+    Accepted, Ahead, Audited, Based, Behind, Checkpointed, Closed, Done, Holds, Opened, Refused,
+    Seen,
 };
 use crate::table::{Row, Table, Told, first_wrong};
+use index_rows::{CHECKPOINTS, CUT_AT_THE_LAST_NUMBER, FED};
 use local_index::Audit::{No, TooOld, Unknown, Yes};
-use local_index::{Cause, Reply, SinceRefused, Write};
+use local_index::{Cause, Reply, Write};
 
 const UPSERTED: &[Reply] = &[Reply::Upserted];
 
@@ -120,38 +121,6 @@ const PRESENT: Table = Table {
     ]],
 };
 
-// Reads made below the base conflict if and only if they no longer hold of the present list.
-const BELOW: Table = Table {
-    about: "a commit on a receipt below the base is tested by answers",
-    places: 0,
-    slots: 32,
-    last: u64::MAX,
-    parts: &[&[
-        TEN,
-        ELEVEN,
-        TWELVE,
-        (Checkpoint(3), Checkpointed(3)),
-        (
-            CommitOn(1, &[Got(1, Some(10))], &[]),
-            Refused(Cause::Conflict(0)),
-        ),
-        (
-            CommitOn(
-                1,
-                &[Got(1, Some(12)), Got(2, None)],
-                &[Write::Upsert(1, 10)],
-            ),
-            Accepted(4, UPSERTED),
-        ),
-        (
-            CommitOn(1, &[Got(1, Some(10))], &[Write::Insert(2, 20)]),
-            Accepted(5, &[Reply::Inserted]),
-        ),
-        (Audit(1, &[Got(1, Some(10))]), Audited(TooOld(3))),
-        (Audit(4, &[Got(1, Some(10))]), Audited(Yes)),
-    ]],
-};
-
 // Audits of each number from a base on.
 const FROM_3: &[Row] = &[
     (Audit(2, &[LIST_2]), Audited(TooOld(3))),
@@ -234,50 +203,18 @@ const BEHIND_A_SESSION: Table = Table {
     ],
 };
 
-const UPSERT_11: &[Write<u64, u64>] = &[Write::Upsert(1, 11)];
-
-const UPSERT_12: &[Write<u64, u64>] = &[Write::Upsert(1, 12)];
-
-// What came after a number is returned from the base on.
-const FEED: Table = Table {
-    about: "the transactions behind a number are told",
-    places: 0,
-    slots: 32,
-    last: u64::MAX,
-    parts: &[&[
-        (Since(0), Fed(&[])),
-        (Since(1), Unfed(SinceRefused::Ahead(0))),
-        TEN,
-        ELEVEN,
-        TWELVE,
-        (
-            Since(0),
-            Fed(&[&[Write::Upsert(1, 10)], UPSERT_11, UPSERT_12]),
-        ),
-        (Since(1), Fed(&[UPSERT_11, UPSERT_12])),
-        (Since(3), Fed(&[])),
-        (Since(4), Unfed(SinceRefused::Ahead(3))),
-        (Checkpoint(2), Checkpointed(2)),
-        (Since(1), Unfed(SinceRefused::TooOld(2))),
-        (Since(2), Fed(&[UPSERT_12])),
-        (Since(3), Fed(&[])),
-        (Commit(&[]), Accepted(4, &[])),
-        (Since(3), Fed(&[&[]])),
-        (Since(2), Fed(&[UPSERT_12, &[]])),
-    ]],
-};
-
 const TABLES: &[Table] = &[
     OF_A_NUMBER,
     BESIDE_SESSIONS,
     PRESENT,
-    BELOW,
     BEFORE_AND_BEHIND_A_CLEARING,
     BEHIND_A_SESSION,
-    FEED,
+    FED,
+    CUT_AT_THE_LAST_NUMBER,
 ];
 
 #[test]
 fn checkpoints_drop_what_came_before(rt: HostRuntime) {
     assert_eq!(rt; first_wrong::<_, 2>(&rt, rt.alloc(), TABLES), None);
+    assert_eq!(rt; first_wrong::<_, 2>(&rt, rt.alloc(), CHECKPOINTS), None);
 }

@@ -1,158 +1,23 @@
 //! Indexes that begin with a list: by example, as another index left it, and with each allocation refused.
 
-ghost use Rattle.std.specs.Prelude.{◌≡◌, None, replicate};
+ghost use Rattle.std.specs.Prelude.{◌≡◌, None, replicate, IfOk};
 ghost use Rattle.version_views.specs.Sizes.{IsStoreSized};
 
 use crate::scene::Scene;
-use crate::table::Call::{Audit, Close, Commit, Len, Look, Open, Reclaim, Slots};
-use crate::table::Claim::{Got, Listed};
+use crate::table::Call::{Audit, Commit, Look, Open};
+use crate::table::Claim::Got;
 use crate::table::Row;
-use crate::table::Told::{self, Accepted, Audited, Closed, Done, Opened, Refused, Seen};
-use local_index::Audit::{TooOld, Unknown, Yes};
-use local_index::Cause::{Exhausted, NoSlot};
+use crate::table::Told::{Accepted, Audited, Opened, Seen};
+use index_rows::{BASES, BaseCase, Begun, FIVE, NoBase};
+use local_index::Audit::{TooOld, Yes};
 use local_index::{BaseCause, BaseRefused, LocalIndex, Receipt, Reply, Write};
 use std::alloc::{AllocError, Global};
-use std::ops::Bound::Unbounded;
 use std::process::Abort;
 
 // An index of numbers, with two pairs in a segment.
 type Numbers = LocalIndex<u64, u64, 2>;
 
 const ROOM: &str = "memory";
-
-const FIVE: &[(u64, u64)] = &[(1, 10), (2, 20), (3, 30), (4, 40), (5, 50)];
-
-/// What is answered where an index is to begin with a list.
-#[derive(Clone, Copy)]
-enum Begun {
-    /// The index has this many slots in use, and answers these calls.
-    With(usize, &'static [Row]),
-    /// There is no index, and the pairs are returned.
-    Not(BaseCause),
-}
-
-/// A number and its list, how many slots an index of it is to have, and what is answered.
-struct Case {
-    number: u64,
-    pairs: &'static [(u64, u64)],
-    slots: usize,
-    told: Begun,
-}
-
-const JUST_ENOUGH: Case = Case {
-    number: 7,
-    pairs: FIVE,
-    slots: 4,
-    told: Begun::With(
-        4,
-        &[
-            (Open(1), Opened(7)),
-            (Len(1), Told::Len(5)),
-            (Look(1, 4), Seen(7, 5, Some(40))),
-            (Audit(6, &[]), Audited(TooOld(7))),
-            (
-                Audit(7, &[Listed(Unbounded, Unbounded, FIVE)]),
-                Audited(Yes),
-            ),
-            (Audit(8, &[]), Audited(Unknown)),
-            (Commit(&[Write::Upsert(1, 11)]), Refused(NoSlot)),
-            (Slots, Told::Slots(4)),
-        ],
-    ),
-};
-
-const ONE_TOO_FEW: Case = Case {
-    number: 7,
-    pairs: FIVE,
-    slots: 3,
-    told: Begun::Not(BaseCause::NoSlot),
-};
-
-const WITH_ROOM: Case = Case {
-    number: 7,
-    pairs: FIVE,
-    slots: 16,
-    told: Begun::With(
-        4,
-        &[
-            (
-                Commit(&[Write::Upsert(1, 11)]),
-                Accepted(8, &[Reply::Upserted]),
-            ),
-            (Open(1), Opened(8)),
-            (Look(1, 1), Seen(8, 5, Some(11))),
-            (Audit(7, &[Got(1, Some(10))]), Audited(Yes)),
-            (Audit(8, &[Got(1, Some(11))]), Audited(Yes)),
-            (Audit(6, &[Got(1, Some(10))]), Audited(TooOld(7))),
-            (Slots, Told::Slots(6)),
-            (Close(1), Closed(8, &[])),
-            (Reclaim, Done),
-            (Slots, Told::Slots(4)),
-        ],
-    ),
-};
-
-const TWICE_A_KEY: Case = Case {
-    number: 7,
-    pairs: &[(1, 10), (3, 30), (3, 31)],
-    slots: 16,
-    told: Begun::Not(BaseCause::NotAscending(2)),
-};
-
-const TURNED: Case = Case {
-    number: 7,
-    pairs: &[(2, 20), (1, 10)],
-    slots: 16,
-    told: Begun::Not(BaseCause::NotAscending(1)),
-};
-
-// Where several causes are there, the order of the keys comes first.
-const TURNED_AND_TOO_FEW: Case = Case {
-    number: 7,
-    pairs: &[(1, 10), (2, 20), (9, 90), (4, 40), (3, 30)],
-    slots: 1,
-    told: Begun::Not(BaseCause::NotAscending(3)),
-};
-
-const OF_NOTHING: Case = Case {
-    number: 0,
-    pairs: &[],
-    slots: 1,
-    told: Begun::With(
-        1,
-        &[
-            (Open(1), Opened(0)),
-            (Look(1, 1), Seen(0, 0, None)),
-            (Audit(0, &[Got(1, None)]), Audited(Yes)),
-            (Audit(1, &[]), Audited(Unknown)),
-        ],
-    ),
-};
-
-const LAST_NUMBER: Case = Case {
-    number: u64::MAX,
-    pairs: FIVE,
-    slots: 16,
-    told: Begun::With(
-        4,
-        &[
-            (Open(1), Opened(u64::MAX)),
-            (Commit(&[Write::Upsert(1, 11)]), Refused(Exhausted)),
-            (Look(1, 1), Seen(u64::MAX, 5, Some(10))),
-        ],
-    ),
-};
-
-const CASES: &[Case] = &[
-    JUST_ENOUGH,
-    ONE_TOO_FEW,
-    WITH_ROOM,
-    TWICE_A_KEY,
-    TURNED,
-    TURNED_AND_TOO_FEW,
-    OF_NOTHING,
-    LAST_NUMBER,
-];
 
 // Whether an index answers calls as is wanted. It is ended.
 fn plays<R: Abort>(rt: &R, scene: Scene<2>, rows: &[Row]) -> bool {
@@ -165,35 +30,70 @@ fn plays<R: Abort>(rt: &R, scene: Scene<2>, rows: &[Row]) -> bool {
     right
 }
 
-// Whether an index begins with a list as is wanted.
-fn begins<R: Abort>(rt: &R, alloc: Global, case: &Case) -> bool {
+// An index with one place that begins with a list, or why there is none, with the pairs.
+fn held(
+    alloc: Global,
+    number: u64,
+    pairs: Vec<(u64, u64)>,
+    slots: usize,
+) -> Result<Numbers, BaseRefused<u64, u64>>
+    requires { IsStoreSized 1 slots 2 }
+    ensures { IfOk result (λ index. index.places ≡ replicate 1 None) }
+{
+    Numbers::from_base(alloc, number, pairs, 1, slots)
+}
+
+// The cause that a row names.
+fn cause_of(why: NoBase) -> BaseCause {
+    match why {
+        NoBase::NotAscending(place) => BaseCause::NotAscending(place),
+        NoBase::NoSlot => BaseCause::NoSlot,
+    }
+}
+
+// Whether an index begins with a list as is wanted: with so many slots in use, and these answers, or not.
+fn begins<R: Abort>(
+    rt: &R,
+    alloc: Global,
+    case: &BaseCase,
+    wanted: Result<usize, NoBase>,
+    rows: &[Row],
+) -> bool {
     if case.slots == 0 || case.slots > 16 {
         panic!(rt; "a small index");
     }
     let pairs = Vec::from_clones(alloc, case.pairs).expect(rt, ROOM);
-    match (
-        Numbers::from_base(alloc, case.number, pairs, 1, case.slots),
-        case.told,
-    ) {
-        (Ok(index), Begun::With(used, rows)) => {
+    match (held(alloc, case.number, pairs, case.slots), wanted) {
+        (Ok(index), Ok(used)) => {
             let found = index.slots_in_use();
             plays(rt, Scene::of(rt, alloc, index, (1, false)), rows) && found == used
         }
-        (Err(refused), Begun::Not(cause)) => {
-            refused.cause == cause && refused.pairs.as_slice() == case.pairs
+        (Err(refused), Err(why)) => {
+            refused.cause == cause_of(why) && refused.pairs.as_slice() == case.pairs
         }
-        (Ok(index), Begun::Not(_)) => {
+        (Ok(index), Err(_)) => {
             Scene::of(rt, alloc, index, (1, false)).end(rt);
             false
         }
-        (Err(_), Begun::With(_, _)) => false,
+        (Err(_), Ok(_)) => false,
+    }
+}
+
+// Whether it does, with sessions and without them.
+fn is_begun<R: Abort>(rt: &R, alloc: Global, case: &BaseCase) -> bool {
+    match case.told {
+        Begun::With(used, rows, by_sessions) => {
+            begins(rt, alloc, case, Ok(used), rows)
+                && begins(rt, alloc, case, Ok(used), by_sessions)
+        }
+        Begun::Not(why) => begins(rt, alloc, case, Err(why), &[]),
     }
 }
 
 #[test]
 fn an_index_begins_with_a_list(rt: HostRuntime) {
-    for at in 0..CASES.len() {
-        assert!(rt; begins(&rt, rt.alloc(), &CASES[at]), "case {at}");
+    for at in 0..BASES.len() {
+        assert!(rt; is_begun(&rt, rt.alloc(), &BASES[at]), "case {at}");
     }
 }
 
@@ -224,7 +124,7 @@ fn followed<R: Abort>(rt: &R, alloc: Global) -> Numbers
         Ok(()) => {}
         Err(_open) => panic!(rt; "no session is open"),
     }
-    match Numbers::from_base(alloc, number, pairs, 1, 16) {
+    match held(alloc, number, pairs, 16) {
         Ok(index) => index,
         Err(_) => panic!(rt; "memory is there, and slots are"),
     }
@@ -270,7 +170,7 @@ fn begun_again<R: Abort>(
     requires { IsStoreSized 1 slots 2 }
 {
     let pairs = five(rt, alloc, met);
-    let back = match Numbers::from_base(alloc, 7, pairs, 1, slots) {
+    let back = match held(alloc, 7, pairs, slots) {
         Ok(index) => return Ok(index),
         Err(refused) => refused,
     };
@@ -280,7 +180,7 @@ fn begun_again<R: Abort>(
         return Err(cause);
     }
     *met = true;
-    match Numbers::from_base(alloc, 7, pairs, 1, slots) {
+    match held(alloc, 7, pairs, slots) {
         Ok(index) => Ok(index),
         Err(refused) => {
             assert!(rt; refused.pairs.as_slice() == FIVE);

@@ -154,7 +154,7 @@ fn kept<R: Abort>(rt: &R, alloc: Global, index: &mut Numbers, value: u64, met: &
 }
 
 // The number of the base after the first commit, the second, and so on.
-const BASES: [u64; 12] = [0, 0, 0, 0, 3, 3, 3, 6, 6, 6, 9, 9];
+const BASES: &[u64] = &[0, 0, 0, 0, 3, 3, 3, 6, 6, 6, 9, 9];
 
 #[test]
 fn commits_keep_the_last_transactions(rt: HostRuntime) {
@@ -164,7 +164,7 @@ fn commits_keep_the_last_transactions(rt: HostRuntime) {
     let mut value = 0u64;
     for base in BASES {
         value = value.saturating_add(1);
-        assert_eq!(rt; kept(&rt, rt.alloc(), index, value, &mut met), base);
+        assert_eq!(rt; kept(&rt, rt.alloc(), index, value, &mut met), *base);
     }
     assert!(rt; was(index, 9, 9) && was(index, 12, 12));
 }

@@ -4,10 +4,11 @@ ghost use Rattle.local_index.specs.State.{IsSessionOf};
 
 use crate::scene::Scene;
 use crate::table::Call::{Audit, Close, Commit, CommitOn, InsertTo, Open, Read};
-use crate::table::Claim::{Between, Exact, Got, Has, Larger, Listed, Mixed, Smaller};
+use crate::table::Claim::{Between, Exact, Got, Has, Larger, Listed, Smaller};
 use crate::table::Told::{Accepted, All, Audited, Closed, Holds, Opened, Refused};
 use crate::table::{Claim, Row, Table, first_wrong};
-use local_index::Audit::{No, Unknown, Yes};
+use index_rows::AUDITS;
+use local_index::Audit::{No, Yes};
 use local_index::{Cause, LocalIndex, Reply, Session, Write};
 use local_versions::Nearby;
 use std::ops::Bound;
@@ -94,45 +95,6 @@ const EACH_KIND: Table = Table {
     ]],
 };
 
-// An answer of another kind, pairs in another order, and a pair within reversed bounds.
-const KIND: Claim = Mixed(1, true);
-
-const TURNED: Claim = Listed(Bound::Included(1), Bound::Included(2), &[(2, 2), (1, 1)]);
-
-const REVERSED: Claim = Listed(Bound::Included(8), Bound::Excluded(1), &[(2, 2)]);
-
-const FORGED: Table = Table {
-    about: "forged receipts conflict and audit no",
-    places: 0,
-    slots: 32,
-    last: u64::MAX,
-    parts: &[&[
-        (
-            Commit(&[Write::Insert(1, 1), Write::Insert(2, 2)]),
-            Accepted(1, &TWO_INSERTED),
-        ),
-        (CommitOn(0, &[KIND], &[]), Refused(Cause::Conflict(0))),
-        (Audit(0, &[KIND]), Audited(No(0))),
-        (CommitOn(1, &[TURNED], &[]), Refused(Cause::Conflict(0))),
-        (CommitOn(1, &[REVERSED], &[]), Refused(Cause::Conflict(0))),
-    ]],
-};
-
-const OF_THE_NUMBER: Table = Table {
-    about: "an audit looks at the list of the number",
-    places: 0,
-    slots: 32,
-    last: u64::MAX,
-    parts: &[&[
-        (Commit(&[Write::Upsert(1, 10)]), Accepted(1, &UPSERTED)),
-        (Commit(&[Write::Upsert(1, 11)]), Accepted(2, &UPSERTED)),
-        (Audit(1, &[Got(1, Some(10))]), Audited(Yes)),
-        (Audit(1, &[Got(1, Some(11))]), Audited(No(0))),
-        (Audit(2, &[Got(1, Some(11))]), Audited(Yes)),
-        (Audit(9, &[]), Audited(Unknown)),
-    ]],
-};
-
 // Reads of all pairs, as the lists with the numbers 0 to 6 have them after the commits below.
 pub(crate) const LIST_0: Claim = Listed(Bound::Unbounded, Bound::Unbounded, &[]);
 
@@ -172,7 +134,7 @@ pub(crate) const COMMIT_5: Row = (Commit(&[Write::Insert(6, 60)]), Accepted(5, &
 pub(crate) const COMMIT_6: Row = (Commit(&[Write::Insert(7, 70)]), Accepted(6, &ONE_INSERTED));
 
 // Audits of each number by its own list, and by the next.
-const AUDITS: &[Row] = &[
+const BY_LISTS: &[Row] = &[
     (Audit(0, &[LIST_0]), Audited(Yes)),
     (Audit(1, &[LIST_1]), Audited(Yes)),
     (Audit(2, &[LIST_2]), Audited(Yes)),
@@ -205,9 +167,9 @@ const OF_ANY_NUMBER: Table = Table {
             COMMIT_5,
             COMMIT_6,
         ],
-        AUDITS,
+        BY_LISTS,
         &[(Close(1), Closed(1, &[]))],
-        AUDITS,
+        BY_LISTS,
     ],
 };
 
@@ -226,23 +188,16 @@ const OF_LATER_LISTS: Table = Table {
             (Open(1), Opened(5)),
             COMMIT_6,
         ],
-        AUDITS,
+        BY_LISTS,
     ],
 };
 
-const TABLES: &[Table] = &[
-    ENTERED,
-    LEFT,
-    EACH_KIND,
-    FORGED,
-    OF_THE_NUMBER,
-    OF_ANY_NUMBER,
-    OF_LATER_LISTS,
-];
+const TABLES: &[Table] = &[ENTERED, LEFT, EACH_KIND, OF_ANY_NUMBER, OF_LATER_LISTS];
 
 #[test]
 fn reads_are_recorded_tested_and_audited(rt: HostRuntime) {
     assert_eq!(rt; first_wrong::<_, 2>(&rt, rt.alloc(), TABLES), None);
+    assert_eq!(rt; first_wrong::<_, 2>(&rt, rt.alloc(), AUDITS), None);
 }
 
 fn read(pair: Option<(&u64, &u64)>) -> Option<(u64, u64)> {

@@ -20,16 +20,11 @@ use std::process::Abort;
 
 type Replied = Result<DeskReply<u64, u64>, AllocError>;
 
-// A label under which the present list is looked at.
-const LOOKOUT: u64 = u64::MAX;
-
 impl Scene<2> {
     // How many slots are in use, what the present list has at the key 1, where a place is free, and the number of the base and
     // of its pairs.
     fn state(&mut self) -> (usize, Option<Seen>, u64, usize) {
-        let _opened = self.reply(DeskCall::Open(LOOKOUT));
-        let seen = self.looked_up(LOOKOUT, 1);
-        let _closed = self.reply(DeskCall::Close(LOOKOUT));
+        let seen = self.present(1);
         let (number, pairs) = self.index.base();
         (self.index.slots_in_use(), seen, number, pairs.len())
     }
@@ -343,7 +338,7 @@ const CHECKPOINTED: &[Row] = &[
 ];
 
 // What takes no memory at a base behind number 0: each call is made once.
-const AT_A_BASE: [Row; 5] = [
+const AT_A_BASE: &[Row] = &[
     (Checkpoint(3), Checkpointed(3)),
     (Checkpoint(2), Behind(3)),
     (Checkpoint(4), Ahead(3)),
@@ -388,7 +383,7 @@ fn plays<R: Abort>(rt: &R, alloc: Global) -> bool {
     met
 }
 
-const TAKE_NONE: [Row; 13] = [
+const TAKE_NONE: &[Row] = &[
     (Open(7), Opened(0)),
     (Open(8), NoPlace),
     (Number(7), Told::Number(0)),
@@ -429,7 +424,7 @@ fn a_refusal_of_memory_records_nothing(rt: HostRuntime) {
 
 #[test]
 fn a_refusal_of_memory_leaves_the_base(rt: HostRuntime) {
-    let _met = insisted(&rt, rt.alloc(), CHECKPOINTED, &AT_A_BASE);
+    let _met = insisted(&rt, rt.alloc(), CHECKPOINTED, AT_A_BASE);
 }
 
 #[test]
@@ -476,7 +471,7 @@ fn no_memory_is_refused_where_reads_are_recorded(rt: HostRuntime) {
 
 #[test]
 fn no_memory_is_refused_where_a_base_is_made(rt: HostRuntime) {
-    assert!(rt; !insisted(&rt, rt.alloc(), CHECKPOINTED, &AT_A_BASE));
+    assert!(rt; !insisted(&rt, rt.alloc(), CHECKPOINTED, AT_A_BASE));
 }
 
 #[test]

@@ -6,12 +6,16 @@ ghost use Rattle.local_index.specs.Desk.{Serves};
 ghost use Rattle.local_index.specs.State.{IsSessionOf};
 
 use crate::table::{Call, Told, desk_call, is_told};
-use local_index::{Desk, DeskCall, DeskReply, LocalIndex, Session, Write, play_all, play_one};
+use index_rows::{Entry, is_fed};
+use local_index::{Desk, DeskCall, DeskReply, LocalIndex, Session, play_all, play_one};
 use std::alloc::{AllocError, Global};
 use std::process::Abort;
 
 /// What a look-up finds: the number and the length of a session's list, the value of a key there, and whether a pair has it.
 pub(crate) type Seen = (u64, usize, Option<u64>, bool);
+
+// A label under which the present list is looked at.
+const LOOKOUT: u64 = u64::MAX;
 
 pub(crate) struct Scene<const S: usize> {
     pub(crate) alloc: Global,
@@ -168,22 +172,40 @@ impl<const S: usize> Scene<S> {
         first == number && list == pairs
     }
 
-    // Whether the transactions behind a number have these writes.
-    fn is_fed(&self, number: u64, writes: &[&[Write<u64, u64>]]) -> bool {
-        let Ok(fed) = self.index.since(number) else {
-            return false;
-        };
-        let mut alike = fed.len() == writes.len();
-        for (transaction, wanted) in fed.iter().zip(writes) {
-            alike = transaction.writes.as_slice() == *wanted && alike;
+    // Whether the transactions behind a number are these.
+    fn is_fed(&self, number: u64, entries: &[Entry]) -> bool {
+        match self.index.since(number) {
+            Ok(fed) => is_fed(&fed, entries),
+            Err(_) => false,
         }
-        alike
     }
 
-    // Makes one round of a reclaim.
-    fn reclaim_once(&mut self) -> bool {
-        self.index.reclaim_once();
-        true
+    /// What the present list has at a key, by a session of its own, where a place is free.
+    pub(crate) fn present(&mut self, key: u64) -> Option<Seen> {
+        let _opened = self.reply(DeskCall::Open(LOOKOUT));
+        let seen = self.looked_up(LOOKOUT, key);
+        let _closed = self.reply(DeskCall::Close(LOOKOUT));
+        seen
+    }
+
+    // Whether the present list has this number, and so many pairs, if that is asked.
+    fn is_present(&mut self, number: u64, pairs: Option<usize>) -> bool {
+        match self.present(0) {
+            Some((present, len, _, _)) => present == number && len == pairs.unwrap_or(len),
+            None => false,
+        }
+    }
+
+    // Makes rounds of a reclaim, and returns whether so many slots are in use then, if that is asked.
+    fn goes_round(&mut self, count: u64, told: Told) -> bool {
+        for _ in 0..count {
+            self.index.reclaim_once();
+        }
+        match told {
+            Told::Slots(used) => self.index.slots_in_use() == used,
+            Told::Done => true,
+            _ => false,
+        }
     }
 
     fn is_played(&mut self, call: Call, told: Told) -> Result<bool, AllocError> {
@@ -198,9 +220,13 @@ impl<const S: usize> Scene<S> {
             (Call::Look(label, key), Told::Seen(number, len, value)) => {
                 self.looked_up(label, key) == Some((number, len, value, value.is_some()))
             }
-            (Call::ReclaimOnce, Told::Done) => self.reclaim_once(),
+            (Call::Rounds(count), _) => self.goes_round(count, told),
+            (Call::Counts, Told::Counted(number, pairs)) => self.is_present(number, Some(pairs)),
+            (Call::Numbers, Told::Numbered(first, last)) => {
+                self.index.base().0 == first && self.is_present(last, None)
+            }
             (Call::Base, Told::Based(number, pairs)) => self.is_based(number, pairs),
-            (Call::Since(number), Told::Fed(writes)) => self.is_fed(number, writes),
+            (Call::Since(number), Told::Fed(entries)) => self.is_fed(number, entries),
             (Call::Since(number), Told::Unfed(why)) => self.index.since(number) == Err(why),
             _ => self.is_played(call, told).unwrap_or(false),
         }

@@ -2,12 +2,12 @@
 
 ghost use Rattle.local_index.specs.State.{IsSessionOf};
 
-use crate::table::Call::{Close, Commit, CommitOn, Look, Open};
-use crate::table::Claim::Got;
-use crate::table::Told::{Accepted, Closed, NoPlace, Opened, Refused, Seen};
+use crate::table::Call::{Close, Commit, Look, Open};
+use crate::table::Told::{Accepted, Closed, NoPlace, Opened, Seen};
 use crate::table::{Table, first_wrong};
+use index_rows::{COMMITS, CONFLICTS, LAST_NUMBER};
 use local_index::{
-    Cause, LocalIndex, Receipt, Reply, Seq, Session, Write, clones_of_lists, equals_of_lists,
+    LocalIndex, Receipt, Reply, Seq, Session, Write, clones_of_lists, equals_of_lists,
 };
 use std::alloc::Global;
 use std::process::Abort;
@@ -71,58 +71,14 @@ const AT_ITS_OPENING: Table = Table {
     ]],
 };
 
-const FIFTY: [Write<u64, u64>; 1] = [Write::Insert(5, 50)];
-
-const LAST_NUMBER: Table = Table {
-    about: "the last number is exhausted after conflicts",
-    places: 1,
-    slots: 16,
-    last: 1,
-    parts: &[&[
-        (
-            CommitOn(0, &[], &[Write::Insert(1, 10)]),
-            Accepted(1, &[Reply::Inserted]),
-        ),
-        (CommitOn(0, &[], &FIFTY), Refused(Cause::Exhausted)),
-        (
-            CommitOn(0, &[Got(5, Some(1))], &FIFTY),
-            Refused(Cause::Conflict(0)),
-        ),
-    ]],
-};
-
-const BY_ANSWERS: Table = Table {
-    about: "a commit is tested by answers",
-    places: 1,
-    slots: 16,
-    last: u64::MAX,
-    parts: &[&[
-        (
-            CommitOn(
-                0,
-                &[Got(5, None)],
-                &[Write::Insert(2, 1), Write::Insert(4, 1)],
-            ),
-            Accepted(1, &[Reply::Inserted, Reply::Inserted]),
-        ),
-        (
-            CommitOn(0, &[Got(2, Some(1))], &[Write::Insert(5, 1)]),
-            Accepted(2, &[Reply::Inserted]),
-        ),
-        (CommitOn(0, &[Got(2, Some(1))], &[]), Accepted(3, &[])),
-        (
-            CommitOn(0, &[Got(5, None)], &[]),
-            Refused(Cause::Conflict(0)),
-        ),
-        (CommitOn(0, &[], &[]), Accepted(4, &[])),
-    ]],
-};
-
-const TABLES: &[Table] = &[AT_ITS_OPENING, LAST_NUMBER, BY_ANSWERS];
+const TABLES: &[Table] = &[AT_ITS_OPENING, LAST_NUMBER];
 
 #[test]
 fn sessions_read_and_commits_are_tested_by_answers(rt: HostRuntime) {
-    assert_eq!(rt; first_wrong::<_, 2>(&rt, rt.alloc(), TABLES), None);
+    let own = first_wrong::<_, 2>(&rt, rt.alloc(), TABLES);
+    let commits = first_wrong::<_, 2>(&rt, rt.alloc(), COMMITS);
+    let conflicts = first_wrong::<_, 2>(&rt, rt.alloc(), CONFLICTS);
+    assert_eq!(rt; [own, commits, conflicts], [None; 3]);
 }
 
 // An index whose keys and values are byte strings.

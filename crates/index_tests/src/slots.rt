@@ -1,8 +1,7 @@
 //! Slots and reclaiming, all writes with their replies, and sessions that outlast commits.
 
 use crate::table::Call::{
-    Close, Commit, CommitOn, InsertEven, InsertTo, Look, Open, Reclaim, ReclaimOnce, Slots,
-    UpsertOdd,
+    Close, Commit, CommitOn, InsertEven, InsertTo, Look, Open, Reclaim, Rounds, Slots, UpsertOdd,
 };
 use crate::table::Claim::Got;
 use crate::table::Told::{Accepted, All, AtMost, Closed, Done, NoPlace, Opened, Refused, Seen};
@@ -96,35 +95,21 @@ const ROUND_BY_ROUND: Table = Table {
                 Commit(&[Write::Insert(1, 1)]),
                 Accepted(1, &[Reply::Inserted]),
             ),
-            (ReclaimOnce, Done),
-            (ReclaimOnce, Done),
-            (ReclaimOnce, Done),
-            (Slots, Told::Slots(3)),
-            (ReclaimOnce, Done),
-            (Slots, Told::Slots(2)),
+            (Rounds(3), Told::Slots(3)),
+            (Rounds(1), Told::Slots(2)),
         ],
         &[
             (Commit(&[Write::Upsert(1, 7)]), Accepted(2, &UPSERTED)),
-            (ReclaimOnce, Done),
-            (ReclaimOnce, Done),
-            (Slots, Told::Slots(4)),
-            (ReclaimOnce, Done),
-            (Slots, Told::Slots(3)),
-            (ReclaimOnce, Done),
-            (ReclaimOnce, Done),
-            (Slots, Told::Slots(3)),
-            (ReclaimOnce, Done),
-            (Slots, Told::Slots(2)),
+            (Rounds(2), Told::Slots(4)),
+            (Rounds(1), Told::Slots(3)),
+            (Rounds(2), Told::Slots(3)),
+            (Rounds(1), Told::Slots(2)),
         ],
         // a session keeps what it reads, whatever the rounds
         &[
             (Open(1), Opened(2)),
             (Commit(&[Write::Clear]), Accepted(3, &[Reply::Cleared])),
-            (ReclaimOnce, Done),
-            (ReclaimOnce, Done),
-            (ReclaimOnce, Done),
-            (ReclaimOnce, Done),
-            (Slots, Told::Slots(3)),
+            (Rounds(4), Told::Slots(3)),
             (Look(1, 1), Seen(2, 1, Some(7))),
         ],
     ],
@@ -264,35 +249,6 @@ const RANGES: Table = Table {
         (Commit(CLEAR_TWICE), Accepted(4, CLEARED)),
         (Open(3), Opened(4)),
         (Look(3, 7), Seen(4, 0, None)),
-    ]],
-};
-
-const OTHER: [Write<u64, u64>; 1] = [Write::Upsert(2, 20)];
-
-const TEN: [Write<u64, u64>; 1] = [Write::Upsert(1, 10)];
-
-const HOLDS_AGAIN: Table = Table {
-    about: "a read that holds again is no conflict",
-    places: 1,
-    slots: 64,
-    last: u64::MAX,
-    parts: &[&[
-        (Commit(&TEN), Accepted(1, &UPSERTED)),
-        (Commit(&[Write::Upsert(1, 11)]), Accepted(2, &UPSERTED)),
-        // the answer differs, and nothing is written
-        (
-            CommitOn(1, &[Got(1, Some(10))], &OTHER),
-            Refused(Cause::Conflict(0)),
-        ),
-        (Open(1), Opened(2)),
-        (Look(1, 2), Seen(2, 1, None)),
-        (Close(1), Closed(2, &[])),
-        // the list is another, but the answer is that of the receipt
-        (Commit(&TEN), Accepted(3, &UPSERTED)),
-        (
-            CommitOn(1, &[Got(1, Some(10))], &OTHER),
-            Accepted(4, &UPSERTED),
-        ),
     ]],
 };
 
@@ -443,7 +399,6 @@ const OF_TWO: &[Table] = &[
     REPLACED,
     ALL_KINDS,
     RANGES,
-    HOLDS_AGAIN,
     CAUSES,
 ];
 

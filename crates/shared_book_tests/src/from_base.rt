@@ -7,188 +7,15 @@ ghost use Rattle.shared_book_tests.specs.Scenes.{CanBegin};
 
 use crate::refusals::{end_by_two, place_by_two, registered_by_two};
 use crate::scene::{Item, ROOM, Scene, end, in_use, leave, member, place};
-use crate::table::Call::{self, Audit, Base, Checkpoint, Commit, Counts, Reclaim};
-use crate::table::Claim::{Got, Listed};
-use crate::table::Told::{self, Accepted, Audited, Based, Counted, Done, Kept, Refused};
 use crate::table::played;
+use index_rows::{BASES, BaseCase, Begun, FIVE, NoBase};
 use sdd_domain::domain::Domain;
 use sdd_domain::local::Local;
-use serial_history::Audit::{TooOld, Unknown, Yes};
-use serial_history::Cause::{Conflict, Exhausted, NoSlot};
-use serial_history::CheckpointRefused::{Ahead, Behind};
-use serial_history::Reply::{Inserted, Upserted};
 use shared_index::{BaseList, Naming, SharedBaseCause, SharedBaseRefused};
 use std::alloc::{AllocError, Global};
 use std::marker::Brand;
-use std::ops::Bound::Unbounded;
 use std::process::Abort;
 use std::sync::ledger::Blank;
-use version_views::Write::{Insert, Upsert};
-
-const FIVE: &[(u64, u64)] = &[(1, 10), (2, 20), (3, 30), (4, 40), (5, 50)];
-
-/// What is answered where a book is to begin with a list.
-#[derive(Clone, Copy)]
-enum Begun {
-    /// This many slots are in use then, and the book answers these calls.
-    With(usize, &'static [(Call, Told)]),
-    /// There is no book; the pairs are returned, and no slot is in use once what waits is reclaimed.
-    Not(SharedBaseCause),
-}
-
-/// A number and its list, how many slots the place of a book of it has, and what is answered.
-#[derive(Clone, Copy)]
-struct Case {
-    number: u64,
-    pairs: &'static [(u64, u64)],
-    slots: usize,
-    told: Begun,
-}
-
-const JUST_ENOUGH: Case = Case {
-    number: 7,
-    pairs: FIVE,
-    slots: 4,
-    told: Begun::With(
-        4,
-        &[
-            (Counts, Counted(7, 5, 7)),
-            (Base, Based(7, FIVE)),
-            (Audit(6, &[]), Audited(TooOld(7))),
-            (
-                Audit(7, &[Listed(Unbounded, Unbounded, FIVE)]),
-                Audited(Yes),
-            ),
-            (Audit(8, &[]), Audited(Unknown)),
-            (Commit(7, &[], &[Upsert(1, 11)]), Refused(NoSlot)),
-            (Counts, Counted(7, 5, 7)),
-        ],
-    ),
-};
-
-const ONE_TOO_FEW: Case = Case {
-    number: 7,
-    pairs: FIVE,
-    slots: 3,
-    told: Begun::Not(SharedBaseCause::NoSlot),
-};
-
-const WITH_ROOM: Case = Case {
-    number: 7,
-    pairs: FIVE,
-    slots: 16,
-    told: Begun::With(
-        4,
-        &[
-            (
-                Commit(7, &[Got(1, Some(10))], &[Upsert(1, 11)]),
-                Accepted(8, &[Upserted]),
-            ),
-            (Counts, Counted(8, 5, 8)),
-            (
-                Commit(7, &[Got(1, Some(10))], &[Upsert(1, 12)]),
-                Refused(Conflict(0)),
-            ),
-            (Audit(6, &[Got(1, Some(10))]), Audited(TooOld(7))),
-            (Audit(7, &[Got(1, Some(10))]), Audited(Yes)),
-            (Audit(8, &[Got(1, Some(11))]), Audited(Yes)),
-            (Base, Based(7, FIVE)),
-            (Checkpoint(6), Kept(Behind(7))),
-            (Checkpoint(9), Kept(Ahead(8))),
-            (Checkpoint(8), Done),
-            (
-                Base,
-                Based(8, &[(1, 11), (2, 20), (3, 30), (4, 40), (5, 50)]),
-            ),
-            (Audit(7, &[Got(1, Some(10))]), Audited(TooOld(8))),
-            (Reclaim, Done),
-            (Commit(8, &[], &[Insert(6, 60)]), Accepted(9, &[Inserted])),
-            (Audit(9, &[Got(6, Some(60))]), Audited(Yes)),
-            (Counts, Counted(9, 6, 9)),
-        ],
-    ),
-};
-
-const TWICE_A_KEY: Case = Case {
-    number: 7,
-    pairs: &[(1, 10), (3, 30), (3, 31)],
-    slots: 16,
-    told: Begun::Not(SharedBaseCause::NotAscending(2)),
-};
-
-const TURNED: Case = Case {
-    number: 7,
-    pairs: &[(2, 20), (1, 10)],
-    slots: 16,
-    told: Begun::Not(SharedBaseCause::NotAscending(1)),
-};
-
-/// Where several causes are there, the order of the keys comes first.
-const TURNED_AND_TOO_FEW: Case = Case {
-    number: 7,
-    pairs: &[(1, 10), (2, 20), (9, 90), (4, 40), (3, 30)],
-    slots: 1,
-    told: Begun::Not(SharedBaseCause::NotAscending(3)),
-};
-
-const OF_NOTHING: Case = Case {
-    number: 0,
-    pairs: &[],
-    slots: 1,
-    told: Begun::With(
-        1,
-        &[
-            (Counts, Counted(0, 0, 0)),
-            (Base, Based(0, &[])),
-            (Audit(0, &[Got(1, None)]), Audited(Yes)),
-            (Audit(1, &[]), Audited(Unknown)),
-        ],
-    ),
-};
-
-/// All pairs are gone, and the number isn't.
-const EMPTIED: Case = Case {
-    number: 3,
-    pairs: &[],
-    slots: 16,
-    told: Begun::With(
-        1,
-        &[
-            (Audit(2, &[]), Audited(TooOld(3))),
-            (
-                Commit(3, &[Got(1, None)], &[Insert(1, 10)]),
-                Accepted(4, &[Inserted]),
-            ),
-            (Counts, Counted(4, 1, 4)),
-        ],
-    ),
-};
-
-const LAST_NUMBER: Case = Case {
-    number: u64::MAX,
-    pairs: FIVE,
-    slots: 16,
-    told: Begun::With(
-        4,
-        &[
-            (Commit(0, &[], &[Upsert(1, 11)]), Refused(Exhausted)),
-            (Audit(u64::MAX, &[Got(1, Some(10))]), Audited(Yes)),
-            (Counts, Counted(u64::MAX, 5, u64::MAX)),
-        ],
-    ),
-};
-
-const CASES: &[Case] = &[
-    JUST_ENOUGH,
-    ONE_TOO_FEW,
-    WITH_ROOM,
-    TWICE_A_KEY,
-    TURNED,
-    TURNED_AND_TOO_FEW,
-    OF_NOTHING,
-    EMPTIED,
-    LAST_NUMBER,
-];
 
 /// Ends the participant of a book that wasn't made: whether nothing is in use then.
 fn left(domain: &Domain<Item>, local: Local<Item>) -> bool
@@ -198,6 +25,14 @@ fn left(domain: &Domain<Item>, local: Local<Item>) -> bool
     in_use(domain) == 0
 }
 
+/// The cause that a row names.
+fn cause_of(why: NoBase) -> SharedBaseCause {
+    match why {
+        NoBase::NotAscending(place) => SharedBaseCause::NotAscending(place),
+        NoBase::NoSlot => SharedBaseCause::NoSlot,
+    }
+}
+
 /// Whether a book begins with a list as is wanted. It is ended.
 fn begins<L: Naming, R: Abort>(
     rt: &R,
@@ -205,7 +40,7 @@ fn begins<L: Naming, R: Abort>(
     domain: &Domain<Item>,
     local: Local<Item>,
     blank: Blank,
-    case: Case,
+    case: BaseCase,
 ) -> bool
     requires begins { CanBegin L.place L.name L.parts 1 domain.now local blank }
     requires last { L.last ≡ 18446744073709551615 }
@@ -218,19 +53,20 @@ fn begins<L: Naming, R: Abort>(
         Scene::<L, 2>::holding(alloc, domain, local, blank, base),
         case.told,
     ) {
-        (Ok(scene), Begun::With(used, rows)) => {
+        (Ok(scene), Begun::With(used, rows, _)) => {
             let found = in_use(domain);
-            played(rt, alloc, scene, rows) == rows.len() && found == used
+            let (right, made) = played(rt, alloc, scene, &[rows]);
+            right == made && found == used
         }
-        (Err((local, _, refused)), Begun::Not(cause)) => {
+        (Err((local, _, refused)), Begun::Not(why)) => {
             let is_free = left(domain, local);
-            is_free && refused.cause == cause && refused.pairs.as_slice() == case.pairs
+            is_free && refused.cause == cause_of(why) && refused.pairs.as_slice() == case.pairs
         }
         (Ok(scene), Begun::Not(_)) => {
             scene.end();
             false
         }
-        (Err((local, _, _)), Begun::With(_, _)) => {
+        (Err((local, _, _)), Begun::With(_, _, _)) => {
             leave(domain, local);
             false
         }
@@ -238,7 +74,7 @@ fn begins<L: Naming, R: Abort>(
 }
 
 /// Whether it does in a place of its own.
-fn begins_alone<R: Abort>(rt: &R, alloc: Global, case: Case) -> bool {
+fn begins_alone<R: Abort>(rt: &R, alloc: Global, case: BaseCase) -> bool {
     if case.slots == 0 || case.slots > 16 {
         panic!(rt; "a small place");
     }
@@ -251,8 +87,8 @@ fn begins_alone<R: Abort>(rt: &R, alloc: Global, case: Case) -> bool {
 
 #[test]
 fn a_book_begins_with_a_list(rt: HostRuntime) {
-    for at in 0..CASES.len() {
-        assert!(rt; begins_alone(&rt, rt.alloc(), CASES[at]), "case {at}");
+    for at in 0..BASES.len() {
+        assert!(rt; begins_alone(&rt, rt.alloc(), BASES[at]), "case {at}");
     }
 }
 

@@ -7,6 +7,7 @@ ghost use Rattle.shared_index.specs.SharedInvariant.{IsUnengaged};
 ghost use Rattle.shared_book_tests.specs.Scenes.{CanBegin};
 
 use crate::scene::{Item, Scene, closed, end, in_use, member, place, registered};
+use index_rows::is_accepted;
 use sdd_domain::domain::Domain;
 use sdd_domain::local::Local;
 use sdd_domain::refusal::RegisterRefused;
@@ -225,16 +226,11 @@ fn writes_and_audits<L: Naming, R: Abort>(
     (first, second, [replayed, based], counts)
 }
 
-/// Whether a commit answers this.
-fn is_told(accepted: &Accepted, number: u64, replies: [Reply; 2]) -> bool {
-    accepted.number == number && accepted.replies.as_slice() == &replies[..]
-}
-
 /// Whether all was found as it is to be, whatever was refused.
 fn is_right(found: &Found) -> bool {
     let (first, second, audits, counts) = found;
-    is_told(first, 1, [Reply::Inserted, Reply::Upserted])
-        && is_told(second, 2, [Reply::Duplicate, Reply::Upserted])
+    is_accepted(first, 1, &[Reply::Inserted, Reply::Upserted])
+        && is_accepted(second, 2, &[Reply::Duplicate, Reply::Upserted])
         && *audits == [Audit::Yes, Audit::Yes]
         && *counts == (2, 1, 2)
 }
