@@ -118,7 +118,7 @@ fn lines_at_fault_are_told_and_counted(rt: HostRuntime) {
     write_what_is_wanted(&rt, rt.alloc(), FAULTS);
 }
 
-const EACH_FAULT: &[Fault] = &[
+const EACH_FAULT: [Fault; 8] = [
     Fault::Long,
     Fault::Text,
     Fault::Command,
@@ -134,7 +134,7 @@ fn the_longest_reply_to_a_line_at_fault_has_35_bytes(rt: HostRuntime) -> Result<
     let mut longest = 0;
     for fault in EACH_FAULT {
         let mut text = String::new(rt.alloc());
-        write_fault(&mut text, u64::MAX, *fault)?;
+        write_fault(&mut text, u64::MAX, fault)?;
         longest = longest.max(text.len());
     }
     assert_eq!(rt; (longest, LONGEST_FAULT), (35, 35));
@@ -210,27 +210,27 @@ fn lines_at_fault_are_answered_in_the_memory_that_is_there(rt: HostRuntime) -> R
     Ok(())
 }
 
-const NUMBERED: &[Row] = &[(
+const NUMBERED: [Row; 1] = [(
     b"x\n\ncommit -\nopen 1\nopen 1\nget 2 1\nclose 2",
     "line 1: command\nline 2: command\nok 1\nopen 1 at 1\nline 5: busy\nline 6: session\nline 7: session\n",
 )];
 
 #[test]
 fn lines_are_numbered_bad_ones_too(rt: HostRuntime) {
-    write_what_is_wanted(&rt, rt.alloc(), NUMBERED);
+    write_what_is_wanted(&rt, rt.alloc(), &NUMBERED);
 }
 
-const AT_ITS_OPENING: &[Row] = &[(
+const AT_ITS_OPENING: [Row; 1] = [(
     b"open 1\ninsert 5 \xc3\xa9 x\ncommit 1\nget 1 5\nopen 2\nget 2 5\nopen 3\nopen 1\nclose 1\nopen 3\n",
     "open 1 at 0\nstaged 1\nok 1 inserted\nnone\nopen 2 at 1\nsome \u{e9} x\nnoplace\nline 8: busy\nclosed 1\nopen 3 at 1\n",
 )];
 
 #[test]
 fn a_session_reads_the_list_at_its_opening(rt: HostRuntime) {
-    write_what_is_wanted(&rt, rt.alloc(), AT_ITS_OPENING);
+    write_what_is_wanted(&rt, rt.alloc(), &AT_ITS_OPENING);
 }
 
-const RECLAIMED: &[Row] = &[
+const RECLAIMED: [Row; 2] = [
     (
         b"slots\ncommit -\nreclaim\nslots\n",
         "slots 1\nok 1\nreclaimed\nslots 1\n",
@@ -243,37 +243,37 @@ const RECLAIMED: &[Row] = &[
 
 #[test]
 fn slots_of_former_lists_are_reclaimed(rt: HostRuntime) {
-    write_what_is_wanted(&rt, rt.alloc(), RECLAIMED);
+    write_what_is_wanted(&rt, rt.alloc(), &RECLAIMED);
 }
 
-const NUMBER_AND_LENGTH: &[Row] = &[(
+const NUMBER_AND_LENGTH: [Row; 1] = [(
     b"insert 1 a\ninsert 2 b\ncommit -\nopen 7\nclear\ncommit 7\nopen 8\nlen 7\nnumber 7\nlen 8\nnumber 8\nlen 9\nnumber 9\n",
     "staged 1\nstaged 2\nok 1 inserted inserted\nopen 7 at 1\nstaged 1\nok 2 cleared\nopen 8 at 2\nlen 2\nnumber 1\nlen 0\nnumber 2\nline 12: session\nline 13: session\n",
 )];
 
 #[test]
 fn a_session_tells_its_number_and_its_length(rt: HostRuntime) {
-    write_what_is_wanted(&rt, rt.alloc(), NUMBER_AND_LENGTH);
+    write_what_is_wanted(&rt, rt.alloc(), &NUMBER_AND_LENGTH);
 }
 
-const EACH_KIND: &[Row] = &[(
+const EACH_KIND: [Row; 1] = [(
     b"upsert 2 a b\nupsert 2 c\nremove 4\ncommit -\nopen 1\nget 1 2\nremove 2\ncommit 1\nclear\ncommit -\n",
     "staged 1\nstaged 2\nstaged 3\nok 1 upserted upserted absent\nopen 1 at 1\nsome c\nstaged 1\nok 2 removed\nstaged 1\nok 3 cleared\n",
 )];
 
 #[test]
 fn writes_of_each_kind_are_staged(rt: HostRuntime) {
-    write_what_is_wanted(&rt, rt.alloc(), EACH_KIND);
+    write_what_is_wanted(&rt, rt.alloc(), &EACH_KIND);
 }
 
-const STAGED: &[Row] = &[(
+const STAGED: [Row; 1] = [(
     b"insert 1 a\ncommit 9\ninsert 2 b\ncommit -\ncommit -\ninsert 1 c\ncommit -\n",
     "staged 1\nline 2: session\nstaged 2\nok 1 inserted inserted\nok 2\nstaged 1\nok 3 duplicate\n",
 )];
 
 #[test]
 fn an_accepted_commit_takes_the_staged_writes_and_no_other(rt: HostRuntime) {
-    write_what_is_wanted(&rt, rt.alloc(), STAGED);
+    write_what_is_wanted(&rt, rt.alloc(), &STAGED);
 }
 
 const FIVE: &[u8] =
@@ -282,7 +282,7 @@ const FIVE: &[u8] =
 const FIVE_STAGED: &str = "staged 1\nstaged 2\nstaged 3\nstaged 4\nstaged 5\n";
 
 // Slots, and what is answered then: five pairs take three segments of two pairs at most, and a directory.
-const BY_SLOTS: &[(usize, &str)] = &[
+const BY_SLOTS: [(usize, &str); 2] = [
     (4, "noslot\nnoslot\nopen 1 at 0\n"),
     (
         5,
@@ -295,10 +295,10 @@ fn a_commit_without_slots_keeps_what_is_staged(rt: HostRuntime) {
     for (slots, told) in BY_SLOTS {
         let mut reader = FIVE;
         let mut out = Vec::new(rt.alloc());
-        let ended = run::<2, _, _>(rt.alloc(), &mut reader, &mut out, 1, *slots);
+        let ended = run::<2, _, _>(rt.alloc(), &mut reader, &mut out, 1, slots);
         assert_eq!(rt;
             (ended, text_of(&out).strip_prefix(FIVE_STAGED)),
-            (Ok(()), Some(*told))
+            (Ok(()), Some(told))
         );
     }
 }
@@ -326,7 +326,7 @@ fn each_reply_to_a_write_has_a_word(rt: HostRuntime) -> Result<(), Fail> {
     Ok(())
 }
 
-const CAUSES: &[(Cause, &str)] = &[
+const CAUSES: [(Cause, &str); 3] = [
     (Cause::Conflict(7), "conflict 7\n"),
     (Cause::Exhausted, "exhausted\n"),
     (Cause::NoSlot, "noslot\n"),
@@ -336,13 +336,10 @@ const CAUSES: &[(Cause, &str)] = &[
 fn each_cause_of_a_refusal_has_a_word(rt: HostRuntime) -> Result<(), Fail> {
     for (cause, told) in CAUSES {
         let writes = Vec::new(rt.alloc());
-        let refused = DeskReply::Refused(Refused {
-            cause: *cause,
-            writes,
-        });
+        let refused = DeskReply::Refused(Refused { cause, writes });
         let mut text = String::new(rt.alloc());
         write_reply(&mut text, 1, 0, &refused)?;
-        assert_eq!(rt; text.as_str(), *told);
+        assert_eq!(rt; text.as_str(), told);
     }
     Ok(())
 }
@@ -365,7 +362,7 @@ fn long_line(alloc: Global, value: usize) -> Result<Vec<u8>, RunError> {
 }
 
 // How many bytes a value has, and what is answered then: with ten bytes more, the line is too long from the second one on.
-const LONG: &[(usize, &str)] = &[
+const LONG: [(usize, &str); 3] = [
     (65_527, "staged 1\nok 1 inserted\n"),
     (65_528, "line 1: long\nok 1\n"),
     (300_000, "line 1: long\nok 1\n"),
@@ -374,8 +371,8 @@ const LONG: &[(usize, &str)] = &[
 #[test]
 fn a_line_has_at_most_65_536_bytes(rt: HostRuntime) {
     for (value, told) in LONG {
-        let out = long_line(rt.alloc(), *value).expect(&rt, "a run to its end");
-        assert_eq!(rt; text_of(&out), *told, "{value} bytes");
+        let out = long_line(rt.alloc(), value).expect(&rt, "a run to its end");
+        assert_eq!(rt; text_of(&out), told, "{value} bytes");
     }
     assert_eq!(rt; LONGEST, 65_536);
 }
@@ -404,7 +401,7 @@ fn a_failed_write_leaves_a_beginning_of_the_output(rt: HostRuntime) {
 }
 
 // How a run ended, its status, and its complaint.
-const OUTCOMES: &[(Result<(), RunError>, (u8, &str))] = &[
+const OUTCOMES: [(Result<(), RunError>, (u8, &str)); 4] = [
     (Ok(()), (0, "")),
     (Err(RunError::Read), (1, "index_run: read\n")),
     (Err(RunError::Write), (1, "index_run: write\n")),
@@ -414,11 +411,11 @@ const OUTCOMES: &[(Result<(), RunError>, (u8, &str))] = &[
 #[test]
 fn a_run_has_a_status_and_a_complaint(rt: HostRuntime) {
     for (ended, told) in OUTCOMES {
-        assert_eq!(rt; outcome(ended), *told);
+        assert_eq!(rt; outcome(&ended), told);
     }
 }
 
-const WORDS: &[(RunError, &str)] = &[
+const WORDS: [(RunError, &str); 3] = [
     (RunError::Read, "read"),
     (RunError::Write, "write"),
     (RunError::Memory, "memory"),
@@ -427,7 +424,7 @@ const WORDS: &[(RunError, &str)] = &[
 #[test]
 fn errors_are_told_by_one_word(rt: HostRuntime) -> Result<(), Fail> {
     for (error, word) in WORDS {
-        assert_eq!(rt; error.to_string(rt.alloc())?.as_str(), *word);
+        assert_eq!(rt; error.to_string(rt.alloc())?.as_str(), word);
     }
     Ok(())
 }

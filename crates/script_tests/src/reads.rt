@@ -59,24 +59,24 @@ fn a_failed_write_leaves_a_beginning_of_a_longer_output(rt: HostRuntime) {
     falters_anywhere(&rt, rt.alloc(), (READS, READS_OUTPUT), true);
 }
 
-const HAS: &[Row] = &[(
+const HAS: [Row; 1] = [(
     b"insert 1 a\ncommit -\nopen 7\nhas 7 1\nhas 7 2\nhas 9 1\n",
     "staged 1\nok 1 inserted\nopen 7 at 1\nyes\nno\nline 6: session\n",
 )];
 
 #[test]
 fn a_key_is_there_or_not(rt: HostRuntime) {
-    write_what_is_wanted(&rt, rt.alloc(), HAS);
+    write_what_is_wanted(&rt, rt.alloc(), &HAS);
 }
 
-const NEAR: &[Row] = &[(
+const NEAR: [Row; 1] = [(
     b"open 0\nnear 0 4\nupsert 3 x\nupsert 5 y z\ncommit -\nopen 1\nnear 1 3\nnear 1 4\nnear 1 9\nnear 1 0\nnear 0 3\n",
     "open 0 at 0\nempty\nstaged 1\nstaged 2\nok 1 upserted upserted\nopen 1 at 1\nexact\n3 x\nbetween\n3 x\n5 y z\nsmaller\n5 y z\nlarger\n3 x\nempty\n",
 )];
 
 #[test]
 fn the_nearest_pairs_are_told_by_rising_keys(rt: HostRuntime) {
-    write_what_is_wanted(&rt, rt.alloc(), NEAR);
+    write_what_is_wanted(&rt, rt.alloc(), &NEAR);
 }
 
 // Inserts three pairs, and asks for a range of them.
@@ -85,7 +85,7 @@ const ASKS: &[u8] = b"insert 2 b\ninsert 1 a\ninsert 3 c\ncommit -\nopen 7\nrang
 const BEFORE: &str = "staged 1\nstaged 2\nstaged 3\nok 1 inserted inserted inserted\nopen 7 at 1\n";
 
 // Bounds, and what is answered of the range.
-const RANGES: &[Row] = &[
+const RANGES: [Row; 8] = [
     (b"* *", "pairs 3\n1 a\n2 b\n3 c\n"),
     (b"=2 =2", "pairs 1\n2 b\n"),
     (b"!1 !3", "pairs 1\n2 b\n"),
@@ -113,23 +113,23 @@ fn a_range_has_the_pairs_within_its_bounds(rt: HostRuntime) {
         let out = range_of(rt.alloc(), bounds).expect(&rt, "a run to its end");
         assert_eq!(rt;
             text_of(&out).strip_prefix(BEFORE),
-            Some(*told),
+            Some(told),
             "{bounds:?}"
         );
     }
 }
 
-const DELETED: &[Row] = &[(
+const DELETED: [Row; 1] = [(
     b"insert 1 a\ninsert 2 b\ninsert 3 c\ninsert 4 d\ncommit -\ndelete =2 !4\ndelete =4 =1\ncommit -\nopen 7\nrange 7 * *\ndelete * *\ncommit -\nopen 8\nlen 8\n",
     "staged 1\nstaged 2\nstaged 3\nstaged 4\nok 1 inserted inserted inserted inserted\nstaged 1\nstaged 2\nok 2 deleted deleted\nopen 7 at 2\npairs 2\n1 a\n4 d\nstaged 1\nok 3 deleted\nopen 8 at 3\nlen 0\n",
 )];
 
 #[test]
 fn a_deletion_leaves_the_pairs_outside_its_bounds(rt: HostRuntime) {
-    write_what_is_wanted(&rt, rt.alloc(), DELETED);
+    write_what_is_wanted(&rt, rt.alloc(), &DELETED);
 }
 
-const CONFLICTS: &[Row] = &[
+const CONFLICTS: [Row; 2] = [
     (
         b"open 1\nget 1 5\nhas 1 6\nrange 1 =6 *\nnear 1 6\nupsert 5 a\ncommit 1\nget 1 5\ncommit 1\n",
         "open 1 at 0\nnone\nno\npairs 0\nempty\nstaged 1\nok 1 upserted\nnone\nconflict 0\n",
@@ -142,41 +142,41 @@ const CONFLICTS: &[Row] = &[
 
 #[test]
 fn a_commit_conflicts_with_the_first_read_that_no_longer_holds(rt: HostRuntime) {
-    write_what_is_wanted(&rt, rt.alloc(), CONFLICTS);
+    write_what_is_wanted(&rt, rt.alloc(), &CONFLICTS);
 }
 
-const HOLDS_AGAIN: &[Row] = &[(
+const HOLDS_AGAIN: [Row; 1] = [(
     b"upsert 1 a\ncommit -\nopen 7\nget 7 1\nget 9 2\nupsert 1 b\ncommit -\nupsert 1 a\ncommit -\nupsert 2 c\ncommit 7\n",
     "staged 1\nok 1 upserted\nopen 7 at 1\nsome a\nline 5: session\nstaged 1\nok 2 upserted\nstaged 1\nok 3 upserted\nstaged 1\nok 4 upserted\n",
 )];
 
 #[test]
 fn a_read_that_holds_again_is_no_conflict(rt: HostRuntime) {
-    write_what_is_wanted(&rt, rt.alloc(), HOLDS_AGAIN);
+    write_what_is_wanted(&rt, rt.alloc(), &HOLDS_AGAIN);
 }
 
-const DISCARDED: &[Row] = &[(
+const DISCARDED: [Row; 1] = [(
     b"discard\ninsert 1 a\ndelete * *\ndiscard\ncommit -\ninsert 1 b\ncommit -\ndiscard\n",
     "discarded 0\nstaged 1\nstaged 2\ndiscarded 2\nok 1\nstaged 1\nok 2 inserted\ndiscarded 0\n",
 )];
 
 #[test]
 fn what_is_discarded_is_not_committed(rt: HostRuntime) {
-    write_what_is_wanted(&rt, rt.alloc(), DISCARDED);
+    write_what_is_wanted(&rt, rt.alloc(), &DISCARDED);
 }
 
-const AUDITED: &[Row] = &[(
+const AUDITED: [Row; 1] = [(
     b"open 7\naudit 7\nget 7 1\nhas 7 1\nrange 7 * *\nnear 7 1\ninsert 1 a\ncommit 7\naudit 7\naudit 9\nclose 7\naudit 7\n",
     "open 7 at 0\naudit yes\nnone\nno\npairs 0\nempty\nstaged 1\nok 1 inserted\naudit yes\nline 10: session\nclosed 7\nline 12: session\n",
 )];
 
 #[test]
 fn a_session_audits_what_it_read(rt: HostRuntime) {
-    write_what_is_wanted(&rt, rt.alloc(), AUDITED);
+    write_what_is_wanted(&rt, rt.alloc(), &AUDITED);
 }
 
 // No script meets the second and the third of them.
-const FINDINGS: &[(Audit, &str)] = &[
+const FINDINGS: [(Audit, &str); 3] = [
     (Audit::Yes, "audit yes\n"),
     (Audit::No(12), "audit no 12\n"),
     (Audit::Unknown, "audit unknown\n"),
@@ -185,10 +185,10 @@ const FINDINGS: &[(Audit, &str)] = &[
 #[test]
 fn each_finding_of_an_audit_has_a_text(rt: HostRuntime) -> Result<(), Fail> {
     for (found, told) in FINDINGS {
-        let reply = DeskReply::Audit(*found);
+        let reply = DeskReply::Audit(found);
         let mut text = String::new(rt.alloc());
         write_reply(&mut text, 1, 7, &reply)?;
-        assert_eq!(rt; text.as_str(), *told);
+        assert_eq!(rt; text.as_str(), told);
     }
     Ok(())
 }

@@ -53,8 +53,16 @@ pub(crate) fn got<R: Abort>(
 }
 
 /// An answer with these pairs.
-pub(crate) fn range<R: Abort>(rt: &R, alloc: Global, pairs: &[(u64, u64)]) -> Answer<u64, u64> {
-    Answer::Range(Seq::from_vec(Vec::from_clones(alloc, pairs).expect(rt, ROOM)))
+pub(crate) fn range<R: Abort, const N: usize>(
+    rt: &R,
+    alloc: Global,
+    pairs: [(u64, u64); N],
+) -> Answer<u64, u64> {
+    let mut told = Vec::new(alloc);
+    for pair in pairs {
+        told.push(pair).expect(rt, ROOM);
+    }
+    Answer::Range(Seq::from_vec(told))
 }
 
 /// One write.

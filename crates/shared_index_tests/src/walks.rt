@@ -26,7 +26,7 @@ use std::thread::{self, Threads};
 use version_views::Write;
 
 /// The first list of a session that is kept over a thousand commits: it takes five segments of two pairs at least.
-const TEN: &[(u64, u64)] = &[
+const TEN: [(u64, u64); 10] = [
     (1, 10),
     (2, 20),
     (3, 30),
@@ -40,10 +40,10 @@ const TEN: &[(u64, u64)] = &[
 ];
 
 /// That of a session whose walk waits.
-const THREE: &[(u64, u64)] = &[(1, 10), (2, 20), (3, 30)];
+const THREE: [(u64, u64); 3] = [(1, 10), (2, 20), (3, 30)];
 
 /// What that has behind its first pair.
-const TWO: &[(u64, u64)] = &[(2, 20), (3, 30)];
+const TWO: [(u64, u64); 2] = [(2, 20), (3, 30)];
 
 /// Puts these pairs in.
 fn inserts<R: Abort>(rt: &R, alloc: Global, pairs: &[(u64, u64)]) -> Vec<Write<u64, u64>> {
@@ -220,11 +220,11 @@ fn kept_on<L: Naming + Send + Sync, R: Threads + Wait + Abort + Sync>(
     let mut reader = member(rt, domain);
     let (receipt, is_first) = match how {
         Meanwhile::Waits => {
-            write(rt, alloc, &index, &mut share, inserts(rt, alloc, THREE));
+            write(rt, alloc, &index, &mut share, inserts(rt, alloc, &THREE));
             walk_and_wait(rt, alloc, &index, &mut reader, &mut share)
         }
         Meanwhile::Reads => {
-            write(rt, alloc, &index, &mut share, inserts(rt, alloc, TEN));
+            write(rt, alloc, &index, &mut share, inserts(rt, alloc, &TEN));
             kept_open(rt, alloc, &index, &mut reader, &mut share)
         }
     };
@@ -254,7 +254,7 @@ fn in_a_place<R: Threads + Wait + Abort + Sync>(
 }
 
 /// Ten keys were raised in turn, last by the commits 93 to 102, which wrote 90 to 99.
-const AFTER_THE_WALK: &[(u64, u64)] = &[
+const AFTER_THE_WALK: [(u64, u64); 11] = [
     (1, 90),
     (2, 91),
     (3, 92),
@@ -279,7 +279,7 @@ fn a_walk_that_waits_for_a_commit_goes_on_in_its_list(rt: HostRuntime) {
 }
 
 /// The last ten commits wrote 990 to 999.
-const AFTER_A_THOUSAND: &[(u64, u64)] = &[
+const AFTER_A_THOUSAND: [(u64, u64); 10] = [
     (1, 990),
     (2, 991),
     (3, 992),
