@@ -11,6 +11,7 @@ pub use shared_versions::{
     Draft, Node, Present, Reader, Rest, Session, Version, build, build_list, publish, reclaim,
     reclaim_once, rising_until, version_at, view_of,
 };
+pub use version_drafts::plans::OwnersRoom;
 pub use version_views::{
     Directory, Nearby, Reply, Segment, Trees, VersionView, Walk, Write, WriteRefused, plain,
 };
