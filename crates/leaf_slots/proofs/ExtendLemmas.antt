@@ -1,5 +1,5 @@
 -- Clones that are put into empty places.
-use Rattle.std.proofs.Common.{arith, append-nil, ◌≡◌, ℕ, zero, suc, ◌+◌, ◌-◌, ◌<◌, ◌++◌, ◌∷◌, [], List, length, take, drop, slice_index_or, Option, Some, None, refl, ap, ◌∙◌, sym, subst}
+use Rattle.std.proofs.Common.{arith, append-nil, ◌≡◌, ℕ, zero, suc, ◌+◌, ◌-◌, ◌<◌, ◌≤◌, ◌++◌, ◌∷◌, [], List, length, take, drop, slice_index_or, Some, None, refl, ap, ◌∙◌, sym, subst}
 use Rattle.std.proofs.lemmas.List.{take-append-drop}
 use Rattle.std.specs.Prelude.{slice_get}
 use Rattle.leaf_slots.specs.declared.place.Place.{Place}
@@ -41,6 +41,13 @@ module _ {K V : Type 0} where
   there n [] h e = omega (arith, h)
   there zero (p ∷ ps) h e = cc
   there (suc n) (p ∷ ps) h e = there n ps (omega (arith, h)) e
+
+  -- those behind the first place, if it is passed
+  pub past_head : (p : Place K V) (ps : List (Place K V)) (n : ℕ) → 0 < n → n ≤ length (live_pairs (p ∷ ps)) → drop (n - 1) (live_pairs ps) ≡ drop n (live_pairs (p ∷ ps))
+  past_head p ps zero h w = absurd (omega (arith, h))
+  past_head Empty ps (suc n) h w = absurd (omega (arith, w))
+  past_head (Dead s k v) ps (suc n) h w = absurd (omega (arith, w))
+  past_head (Live s g k v) ps (suc n) h w = let one : suc n - 1 ≡ n = omega arith in ap (λ (m : ℕ). drop m (live_pairs ps)) one
 
   -- ---- what is left where n places are passed, and then some filled
 

@@ -23,7 +23,7 @@ mod search;
 pub(crate) use bury::Bury;
 pub(crate) use enter::Enter;
 pub(crate) use exchange::Exchange;
-pub(crate) use extend::Extend;
+pub(crate) use extend::{Extend, ExtendAligned};
 pub(crate) use labels::Labels;
 pub(crate) use lend::Lend;
 pub(crate) use ranks::{Ranks, Top};

@@ -8,8 +8,8 @@ ghost use Rattle.leaf_slots.specs.Places.{live_pair, live_pairs, dead_pairs, lab
 
 use crate::place::{Place, precedes};
 use crate::row::{
-    Blank, Bury, Enter, Exchange, Extend, Labels, Last, Lend, Link, Overwrite, Put, Ranks,
-    Renumber, Search, Top,
+    Blank, Bury, Enter, Exchange, Extend, ExtendAligned, Labels, Last, Lend, Link, Overwrite, Put,
+    Ranks, Renumber, Search, Top,
 };
 use crate::steps::Steps;
 use std::cmp::Ordering;
@@ -196,7 +196,11 @@ impl<K, V> Slots<K, V> {
         ensures most { result ≤ count }
         ensures places { self.new ≡ take at self.old ++ (lined at (take result (drop from (live_pairs source.now))) ++ drop (at + result) self.old) }
     {
-        self.all.extend(at, 0, source, from, count)
+        if from == at {
+            self.all.extend_aligned(at, 0, &source.all, count)
+        } else {
+            self.all.extend(at, 0, source, from, count)
+        }
     }
 
     /// Buries the live place `at`: its pair is dead, and is put behind the live ones.

@@ -1,5 +1,5 @@
-use Rattle.std.proofs.Common.{◌≡◌, Some, sym, ◌∙◌}
-use Rattle.std.specs.Prelude.{slice_get}
+use Rattle.std.proofs.Common.{◌≡◌, ◌∷◌, [], Some, sym, ◌∙◌, subst}
+use Rattle.std.specs.Prelude.{slice_get, IfSome}
 use Rattle.leaf_slots.specs.Places.{live_pairs}
 use Rattle.leaf_slots.proofs.ExtendLemmas.{front_get, lined_one, there}
 use Rattle.leaf_slots.proofs.row.extend.cloned.Goals as goal
@@ -11,6 +11,4 @@ pub returns : goal.returns
 returns g c =
     let ps = live_pairs c.args.source.now in
     let here : slice_get ps c.args.at ≡ Some (c.in-Some.stored.now, c.in-Some.held.now) = sym (front_get c.args.at c.args.source.now c.requires.live) ∙ c.in-Some.ensures in
-    let key = c.requires.keys _ _ c.in-Ok.ensures.cases in
-    let value = c.requires.values _ _ c.in-Ok-clone.ensures.cases in
-    rw (c.slot_of.ensures.slot, key, value) (sym (lined_one c.args.bitmap c.args.at ps _ here))
+    subst (λ qs. IfSome c.standing.result (λ p. p ∷ [] ≡ qs)) (sym (lined_one c.args.bitmap c.args.at ps _ here)) c.standing.ensures

@@ -1,6 +1,6 @@
 use Rattle.std.proofs.Common.{◌≡◌, ℕ, ◌<◌, ◌∷◌, [], drop, length, take, ap, ◌∙◌, subst, arith}
 use Rattle.leaf_slots.specs.Places.{live_pairs, IsEmptied}
-use Rattle.leaf_slots.proofs.ExtendLemmas.{behind_head, empty_behind, filled_front, first_empty, kept, rest_empty}
+use Rattle.leaf_slots.proofs.ExtendLemmas.{behind_head, filled_front, first_empty}
 use Rattle.leaf_slots.proofs.row.extend.LinkExtend.extend.Goals as goal
 
 pub fill-requires : goal.fill-requires
