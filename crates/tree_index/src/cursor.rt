@@ -96,8 +96,7 @@ impl<'t, K: Ord, V> Ends<'t, K, V> {
         }
     }
 
-    /// How many pairs, from that of the forward end on and in its leaf, have keys below this one; all of them, where none is
-    /// named.
+    /// How many pairs, from that of the forward end on, have keys below this one; all of them, where none is named.
     #[inline(always)]
     pub(crate) fn run(&self, upto: Option<&K>) -> usize
         requires { IsReady K.cmp self.now }

@@ -47,8 +47,7 @@ impl<'t, K: Ord, V> Iter<'t, K, V> {
         self.ends.get(Bound::Unbounded)
     }
 
-    /// How many pairs, from that of the forward end on and in its leaf, have keys below this one; all of them, where none is
-    /// named.
+    /// How many pairs, from that of the forward end on, have keys below this one; all of them, where none is named.
     #[inline(always)]
     pub fn run(&self, upto: Option<&K>) -> usize
         ensures within { result ≤ length (unread self.now) }

@@ -1,7 +1,9 @@
 -- The pairs of a leaf from a place on.
-use Rattle.std.proofs.Common.{◌≡◌, ◌≤◌, ◌<◌, inl, inr, ℕ, zero, suc, ◌+◌, ◌-◌, true, false, cond, List, [], ◌∷◌, ◌++◌, drop, length, take, refl, sym, ap, ◌∙◌, subst, arith}
+use Rattle.std.proofs.Common.{◌≡◌, ◌≤◌, ◌<◌, inl, inr, ℕ, zero, suc, ◌+◌, ◌-◌, true, false, cond, List, [], ◌∷◌, ◌++◌, drop, length, take, Option, Some, None, refl, sym, ap, ◌∙◌, subst, arith}
+use Rattle.std.proofs.Math.Seq.{take-add}
 use Rattle.std.proofs.lemmas.Bool.{cases_lt, false≢true}
-use Rattle.std.proofs.lemmas.List.{length-append, length-drop}
+use Rattle.std.proofs.lemmas.List.{drop-drop, length-append, length-drop}
+use Rattle.std.specs.Prelude.{IfSome}
 use Rattle.std.specs.Cmp.{IsTotalOrder}
 use Rattle.std.specs.BTreeMap.Range.{is_from_start}
 use Rattle.std.specs.Ordering.{is_le}
@@ -15,6 +17,7 @@ use Rattle.tree_nodes.specs.Content.{pairs_of, leaves_of, IsSound}
 use Rattle.tree_nodes.specs.Shape.{AllKeys, joined_over}
 use Rattle.tree_nodes.specs.Walk.{pairs_in_leaf, position, IsPosition}
 use Rattle.tree_nodes.proofs.RowLemmas.{parting, before_parted, joined_over_parted}
+use Rattle.tree_nodes.proofs.ShapeLemmas.{all_append}
 use Rattle.tree_nodes.proofs.WalkLemmas.{once, all_held, held_is}
 
 module _ {X : Type 0} where
@@ -47,6 +50,16 @@ module _ {K V : Type 0} (P : K → Type 0) where
   all_part m (suc n) (suc k) [] h a = tt
   all_part zero (suc n) k (p ∷ ps) h a = absurd (omega (arith, h))
   all_part (suc m) (suc n) k (p ∷ ps) h a = all_part m n k ps (omega (arith, h)) a.1
+
+  -- what holds of a run, and of one behind it, holds of both
+  runs_both : (m n start : ℕ) (ps : List (K × V)) → AllKeys P (take m (drop start ps)) → AllKeys P (take n (drop (start + m) ps)) → AllKeys P (take (m + n) (drop start ps))
+  runs_both m n start ps a b =
+      subst (AllKeys P) (sym (take-add m n (drop start ps)))
+      (all_append P (take m (drop start ps)) (take n (drop m (drop start ps))) a (subst (λ qs. AllKeys P (take n qs)) (sym (drop-drop m start ps)) b))
+
+pub bounded_both : {X K V : Type 0} (P : X → K → Type 0) (x : Option X) (m n start : ℕ) (ps : List (K × V)) → IfSome x (λ y. AllKeys (P y) (take m (drop start ps))) → IfSome x (λ y. AllKeys (P y) (take n (drop (start + m) ps))) → IfSome x (λ y. AllKeys (P y) (take (m + n) (drop start ps)))
+bounded_both P None m n start ps a b = tt
+bounded_both P (Some y) m n start ps a b = runs_both (P y) m n start ps a b
 
 module _ {K : Type 0} {cmp : K → K → Ordering} (o : IsTotalOrder cmp) (key : K) where
   not_le : (k : K) → is_le (cmp key k) ≡ false → cmp k key ≡ Less

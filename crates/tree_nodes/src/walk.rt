@@ -204,11 +204,33 @@ impl<K: Ord, V> Arenas<K, V> {
         }
     }
 
-    /// How many pairs of its leaf, from a place on, have keys below this one; all of them, where none is named.
-    #[inline(always)]
+    /// How many pairs from a place on have keys below this one; all of them, where none is named. Each leaf on the way is searched
+    /// once.
     pub fn run_at(&self, spot: Position<'_, K, V>, upto: Option<&K>) -> usize
         requires sound { IsSound K.cmp self.now }
         requires spot { IsPosition self.now spot }
+        ensures within { position self.now spot.entry + result ≤ length (pairs_of self.now) }
+        ensures below { IfSome upto.entry (λ key. AllKeys (λ k. K.cmp k key.now ≡ Less) (take result (drop (position self.now spot.entry) (pairs_of self.now)))) }
+    {
+        let mut count = 0;
+        let mut next = Some(spot);
+        while let Some(at) = next {
+            let run = self.run_in(at, upto);
+            count += run;
+            if at.place + run < at.leaf.len() {
+                return count;
+            }
+            next = self.first_at(at.moved(run));
+        }
+        count
+    }
+
+    /// How many pairs of its leaf, from a place on, have keys below this one; all of them, where none is named.
+    #[inline(always)]
+    fn run_in(&self, spot: Position<'_, K, V>, upto: Option<&K>) -> usize
+        requires sound { IsSound K.cmp self.now }
+        requires spot { IsPosition self.now spot }
+        ensures own { spot.entry.place + result ≤ length spot.entry.leaf.now.array.pairs }
         ensures within { position self.now spot.entry + result ≤ length (pairs_of self.now) }
         ensures below { IfSome upto.entry (λ key. AllKeys (λ k. K.cmp k key.now ≡ Less) (take result (drop (position self.now spot.entry) (pairs_of self.now)))) }
     {

@@ -318,8 +318,7 @@ fn merge_segment<K: Clone + Ord + Drop, V: Clone + Drop, W: Trees<K, V>, const S
     Ok(())
 }
 
-/// Takes the pairs that come before the next change, a leaf at a time, or where there is none what is first, and says whether
-/// there was a pair.
+/// Takes the pairs that come before the next change, or where there is none what is first, and says whether there was a pair.
 fn merge_more<K: Clone + Ord + Drop, V: Clone + Drop, W: Trees<K, V>, const S: usize>(
     out: &mut SegmentBuilder<K, V>,
     changes: &mut ChangeScan<'_, '_, K, V>,
@@ -349,8 +348,8 @@ fn merge_more<K: Clone + Ord + Drop, V: Clone + Drop, W: Trees<K, V>, const S: u
     merge_next::<K, V, W, S>(out, changes, pairs, gone, old, place)
 }
 
-/// Gives clones of the first pairs that come before the next change, those of one leaf, as far as the open tree has room, and
-/// says whether there were any.
+/// Gives clones of the first pairs that come before the next change, as far as the open tree has room, and says whether there
+/// were any.
 fn copy_run<K: Clone + Ord + Drop, V: Clone + Drop, W: Trees<K, V>, const S: usize>(
     out: &mut SegmentBuilder<K, V>,
     changes: &ChangeScan<'_, '_, K, V>,

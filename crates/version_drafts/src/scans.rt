@@ -43,7 +43,7 @@ impl<'t, K: Ord, V> PairScan<'t, K, V> {
         PairScan { cursor }
     }
 
-    /// How many of the first pairs that are left, in one leaf, have keys below this one; all of them, where none is named.
+    /// How many of the first pairs that are left have keys below this one; all of them, where none is named.
     #[inline(always)]
     pub(crate) fn run(&self, upto: Option<&K>) -> usize
         ensures within { result ≤ length self.now }
@@ -140,8 +140,8 @@ impl<'t, 'g, K: Ord, V> Sieve<'t, 'g, K, V> {
     }
 
     /// Puts clones of the first pairs that are left and have keys below this one, if one is named, behind those of a segment,
-    /// passes them, and tells how many: those of one leaf, up to a number, and none where ranges are gone, which have to be
-    /// looked for pair by pair.
+    /// passes them, and tells how many: up to a number, and none where ranges are gone, which have to be looked for pair by
+    /// pair.
     #[inline(always)]
     pub(crate) fn push_run(
         &mut self,
@@ -162,6 +162,9 @@ impl<'t, 'g, K: Ord, V> Sieve<'t, 'g, K, V> {
         ensures pushed { IfOk result (λ n. into.new.pairs ≡ into.old.pairs ++ take n self.old) }
         ensures passed { IfOk result (λ n. self.new ≡ drop n self.old) }
     {
+        if most == 0 {
+            return Ok(0);
+        }
         if !self.gone.is_empty() {
             return Ok(0);
         }
