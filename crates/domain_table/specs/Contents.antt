@@ -6,6 +6,7 @@ use Rattle.parted.specs.declared.part.Part as parted
 use Rattle.sdd_plain.specs.declared.sizes.Sizes.{Sizes}
 use Rattle.sdd_steps.specs.State.{At}
 use Rattle.sdd_homes.specs.declared.Garbage.{Garbage}
+use Rattle.sdd_homes.specs.declared.Owner.{Owner}
 use Rattle.sdd_homes.specs.Book.{Content, away, blank, room, deed, part}
 use Rattle.domain_table.specs.Owners.{told}
 use Rattle.domain_table.specs.Layout.{all_homes, own_homes, all_spares}
@@ -29,6 +30,10 @@ module _ {T : Type 0} (holds : T → List (ℕ × ℕ)) where
   IsIn (deed r hs) y = (d : _) × (y ≡ Deed d) × (d.life ≡ r) × IsSomeAnd d.value (λ m. holds (manually_drop_value m) ≡ map told hs)
   IsIn (part r c) y = (p : _) × (y ≡ Part p c) × (p.life.id ≡ r) × (p.life.count ≡ c) × (0 < c) × IsSome p.seen.value
 
+  -- a deed has this life and this item: there is just one content by which it lies in this home
+  abbrev pub IsDeedOf : Home T → ℕ → Option (ManuallyDrop T) → Type 0
+  IsDeedOf y life item = (r : ℕ) (hs : List Owner) → IsIn (deed r hs) y → (life ≡ r) × IsSomeAnd item (λ m. holds (manually_drop_value m) ≡ map told hs)
+
   -- these are the homes of free slots, where those from `deeds` on are of deeds
   abbrev pub AreResting : ℕ → List (Home T) → Type 0
   AreResting deeds homes = (i : ℕ) (y : Home T) → At homes i y → IsIn (first_in_home deeds i) y
@@ -41,6 +46,10 @@ module _ {T : Type 0} where
   -- these parts lie there, this many of them
   abbrev pub AreIn : parted.Part (Option (ManuallyDrop T)) → ℕ → Home T → Type 0
   AreIn p c y = y ≡ Part p c
+
+  -- they are the parts, this many of them, that lie there by its content
+  abbrev pub ArePartsOf : (T → List (ℕ × ℕ)) → Home T → parted.Part (Option (ManuallyDrop T)) → ℕ → Type 0
+  ArePartsOf holds y p n = (r c : ℕ) → IsIn holds (part r c) y → (p.life.id ≡ r) × (p.life.count ≡ c) × (n ≡ c) × (0 < c) × IsSome p.seen.value × AreIn p c y
 
   -- whether it is empty
   abbrev pub is_blank : Home T → Bool

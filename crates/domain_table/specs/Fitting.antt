@@ -27,6 +27,10 @@ module _ (table : TableId) (sizes : Sizes) (seat : TableId) where
   abbrev pub FitsNumber : Sizes → Sizes → ℕ → Type 0
   FitsNumber known told number = (seat ≡ table) × (sizes ≡ told) × (known ≡ told) × IsSized told × (all_words told ≤ table.words) × (number < told.participants)
 
+  -- or so are this participant and this cell
+  abbrev pub FitsBoth : Sizes → Sizes → ℕ → ℕ → Type 0
+  FitsBoth known told number cell = FitsSizes known told × (number < told.participants) × (cell < told.cells)
+
   -- the table has the words of a place of these sizes, and this slot is one of it
   abbrev pub HasSlotWord : Sizes → ℕ → Type 0
   HasSlotWord told slot = (seat ≡ table) × (sizes ≡ told) × IsSized told × (slot < told.slots) × (all_words told ≤ table.words)
@@ -42,6 +46,11 @@ module _ (table : TableId) (sizes : Sizes) (seat : TableId) where
   -- and the cells are few enough
   abbrev pub HasClaimOf : ℕ → Type 0
   HasClaimOf number = (seat ≡ table) × (number < sizes.participants) × (epoch_words sizes.participants ≤ table.words) × (sizes.participants ≤ 2 ^ 30) × (sizes.cells ≤ 2 ^ 30)
+
+module _ (table : TableId) (sizes : Sizes) where
+  -- the table has the words of this participant
+  abbrev pub HasWordsOf : ℕ → Type 0
+  HasWordsOf number = (number < sizes.participants) × (epoch_words sizes.participants ≤ table.words) × (sizes.participants ≤ 2 ^ 30)
 
 module _ (table seat : TableId) (d : Acting) where
   -- the seat is at the table of a place of these sizes, and acts for a participant that has taken this slot

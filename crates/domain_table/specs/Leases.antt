@@ -12,7 +12,7 @@ use Rattle.sdd_homes.specs.declared.Owner.{Owner}
 use Rattle.sdd_homes.specs.declared.Garbage.{Garbage}
 use Rattle.sdd_homes.specs.Book.{Apart}
 use Rattle.domain_table.specs.Contents.{IsIn, blanks}
-use Rattle.domain_table.specs.Plays.{HasLeasedAt, HasLoaded, own_home, HasRoom, releasing_one}
+use Rattle.domain_table.specs.Plays.{with_step, HasLeasedAt, HasLoaded, own_home, HasRoom, releasing_one}
 use Rattle.domain_table.specs.Layout.{packed}
 use Rattle.domain_table.specs.declared.board.Acting.{Acting}
 use Rattle.domain_table.specs.declared.board.Home.{Home}
@@ -61,6 +61,26 @@ HasRows life slots ls rows room = (map row_told rows ≡ map (lease_told life) l
 abbrev pub KeepsRows : {T : Type 0} → ℕ → ℕ → List Lease → List (Row T) → ℕ → ℕ → Type 0
 KeepsRows life slots ls rows before after = (map row_told rows ≡ map (lease_told life) ls) × (all_below slots (row_slots rows) ≡ true) × (after ≡ before)
 
+-- the rows are those of the leases, under some life, all in slots of the place
+abbrev pub AreRowsOf : {T : Type 0} → ℕ → List Lease → List (Row T) → Type 0
+AreRowsOf slots ls rows = ((life : ℕ) × (map row_told rows ≡ map (lease_told life) ls)) × (all_below slots (row_slots rows) ≡ true)
+
+-- if the rows were those of the leases, under whatever life, these are those of these
+abbrev pub StayRowsOf : {T : Type 0} → List Lease → List (Row T) → List Lease → List (Row T) → Type 0
+StayRowsOf ls rows ls' rows' = (life : ℕ) → map row_told rows ≡ map (lease_told life) ls → map row_told rows' ≡ map (lease_told life) ls'
+
+-- and they are in the slots that they were in, with as much room
+abbrev pub StayInPlace : {T : Type 0} → List Lease → List (Row T) → ℕ → List Lease → List (Row T) → ℕ → Type 0
+StayInPlace ls rows room ls' rows' room' = StayRowsOf ls rows ls' rows' × (room' ≡ room) × (row_slots rows' ≡ row_slots rows)
+
+-- this is the life of the leases whose rows these are
+abbrev pub IsLifeOf : {T : Type 0} → List (Row T) → ℕ → Type 0
+IsLifeOf rows n = (life : ℕ) (ls : List Lease) → map row_told rows ≡ map (lease_told life) ls → n ≡ life
+
+-- the leases are in the slots that they were in
+abbrev pub AreAt : List Lease → List Lease → Type 0
+AreAt ls ls' = map (λ (l : Lease). l.slot) ls' ≡ map (λ (l : Lease). l.slot) ls
+
 -- the lease of the first owner's slot has few parts, of the owner's round, and both bags have room for one more item
 abbrev pub HasFew : Acting → Type 0
 HasFew d = (l : Lease) (o : Owner) (os : List Owner) → Has d.leases l → o.slot ≡ l.slot → d.hand ≡ o ∷ os → (l.count < 2 ^ 63) × HasRoom d × Apart d.leases × (o.round ≡ l.round)
@@ -87,6 +107,10 @@ abbrev pub HasReleased : {S : Type 0} → (Participant → Option ℕ) → ℕ �
 HasReleased to k left m ls m' = (o : Owner) (os : List Owner) → m.0.hand ≡ o ∷ os
     → (0 < left → m' ≡ (record m.0 { hand = os; leases = ls }, m.1)) × (left ≡ 0 → (w : Garbage) × (w.slot ≡ k) × (w.age ≡ first_age (to m.0.known)) × (m' ≡ (gone_to (to m.0.known) w (record m.0 { hand = os; leases = ls }), m.1)))
 
+-- the same, where the leases are in the slots that they were in
+abbrev pub HasReleasedOne : {S : Type 0} → (Participant → Option ℕ) → ℕ → ℕ → Me S Acting → Me S Acting → Type 0
+HasReleasedOne to k left m m' = (ls : List Lease) × AreAt m.0.leases ls × HasReleased to k left m ls m'
+
 -- something may have been loaded under the open guard, and leased
 abbrev pub HasLeased : {S : Type 0} → Me S Acting → Me S Acting → Type 0
 HasLeased m m' = (hs : List Loaded) × (ls : List Lease) × (m'.0 ≡ record m.0 { known = record m.0.known { loaded = hs }; leases = ls })
@@ -103,6 +127,13 @@ WasLeased holds k number sizes life rows m' = (m : Me (Home _) Acting) × HasLea
 abbrev pub WasLoaded : {T : Type 0} → (T → List (ℕ × ℕ)) → ℕ → ℕ → Sizes → ℕ → List (Row T) → Me (Home T) Acting → Type 0
 WasLoaded holds word number sizes life rows m' = (m : Me (Home _) Acting) × HasLoaded (IsIn holds) m word m' × (m.0.number ≡ number) × (m.0.sizes ≡ sizes) × (map row_told rows ≡ map (lease_told life) m.0.leases)
 
+-- what was loaded is noted: the item in slot k, or the one that the cell's word names, if until then the rows were those of the leases
+abbrev pub NotesLeased : {T : Type 0} → (T → List (ℕ × ℕ)) → ℕ → ℕ → List (Row T) → Me (Home T) Acting → Me (Home T) Acting → Type 0
+NotesLeased holds k life rows m' m'' = (m : Me (Home _) Acting) → HasLeasedAt (IsIn holds) m k m' → map row_told rows ≡ map (lease_told life) m.0.leases → HasNoted m m''
+
+abbrev pub NotesLoaded : {T : Type 0} → (T → List (ℕ × ℕ)) → ℕ → ℕ → List (Row T) → Me (Home T) Acting → Me (Home T) Acting → Type 0
+NotesLoaded holds word life rows m' m'' = (m : Me (Home _) Acting) → HasLoaded (IsIn holds) m word m' → map row_told rows ≡ map (lease_told life) m.0.leases → HasNoted m m''
+
 -- the home of an item that is cloned, where its lease is the last one, is in front of what is out with the seat, and is empty
 abbrev pub HasEmptied : {T : Type 0} → Me (Home T) Acting → ℕ → Lease → List Lease → List (ℕ × Home T) → Type 0
 HasEmptied m at l ls tail = (m.0.leases ≡ ls ++ l ∷ []) × (m.0.releasing ≡ suc l.item) × (at ≡ own_home m.0 l.slot) × (m.1 ≡ (at, Blank) ∷ tail)
@@ -113,11 +144,11 @@ HasCloned m r ls m' = (o : Owner) (os : List Owner) → m.0.hand ≡ o ∷ os �
 
 -- the same, where the leases are in the slots that they were in
 abbrev pub HasClonedOne : {S : Type 0} → Me S Acting → ℕ → Me S Acting → Type 0
-HasClonedOne m r m' = (ls : List Lease) × (map (λ (l : Lease). l.slot) ls ≡ map (λ (l : Lease). l.slot) m.0.leases) × HasCloned m r ls m'
+HasClonedOne m r m' = (ls : List Lease) × AreAt m.0.leases ls × HasCloned m r ls m'
 
 -- one more owner, of the item of the round r in slot k, is first in hand: the one that was first, if that is of the slot; the leases are in the slots that they were in
 abbrev pub HasOwned : {S : Type 0} → ℕ → ℕ → Me S Acting → Me S Acting → Type 0
-HasOwned k r m m' = (o : Owner) × (ls : List Lease) × (o.slot ≡ k) × (o.round ≡ r) × (map (λ (l : Lease). l.slot) ls ≡ map (λ (l : Lease). l.slot) m.0.leases) × (m' ≡ (record m.0 { hand = o ∷ m.0.hand; leases = ls }, m.1))
+HasOwned k r m m' = (o : Owner) × (ls : List Lease) × (o.slot ≡ k) × (o.round ≡ r) × AreAt m.0.leases ls × (m' ≡ (record m.0 { hand = o ∷ m.0.hand; leases = ls }, m.1))
     × ((first : Owner) (os : List Owner) → m.0.hand ≡ first ∷ os → first.slot ≡ k → o ≡ first)
 
 -- the seat acts for p under an open guard, has this spare slot, and releases nothing
@@ -136,6 +167,14 @@ HasCode {T} rows (Some at) k = (d : Row T) → (slice_index_or rows at d).slot +
 -- the word was found with this tag, and names what this row is of
 abbrev pub IsFoundAs : {T : Type 0} → ℕ → ℕ → List (Row T) → Option ℕ → Type 0
 IsFoundAs w t rows at = (y : ℕ) × (c : ℕ) × (y < 2 ^ 31) × (t < 4) × (w ≡ packed y t c) × HasCode rows at c
+
+-- the cell with this word was loaded in one step: it had this tag, and what it names is leased, with this row
+abbrev pub HasLeasedFound : {T : Type 0} → ℕ → ℕ → List (Row T) → Option ℕ → Me (Home T) Acting → Me (Home T) Acting → Type 0
+HasLeasedFound i t rows at m m' = (w : ℕ) × HasLeased (with_step i w w m) m' × IsFoundAs w t rows at
+
+-- this row is of the round of the first owner in hand
+abbrev pub IsRowOfFirst : {T : Type 0} → Acting → List (Row T) → ℕ → Type 0
+IsRowOfFirst {T} d rows at = (o : Owner) (os : List Owner) → d.hand ≡ o ∷ os → (r : Row T) → (slice_index_or rows at r).lent.pledge.id ≡ o.round
 
 -- the code of a slot, if there is one
 abbrev pub code_told : {X : Type 0} → Option (ℕ × X) → ℕ

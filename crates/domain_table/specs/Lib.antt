@@ -11,3 +11,5 @@ pub mod Rule
 pub mod Plays
 pub mod Leases
 pub mod Outcomes
+pub mod Readiness
+pub mod Scanning

@@ -3,6 +3,7 @@ use Rattle.std.specs.Prelude.{◌≡◌, ◌⊎◌, ℕ, ◌+◌, ◌-◌, ◌^�
 use Rattle.std.specs.Mem.{manually_drop_value}
 use Rattle.core.specs.declared.mem.manually_drop.ManuallyDrop.{ManuallyDrop}
 use Rattle.atomic_table.specs.Table.{Me}
+use Rattle.parted.specs.declared.one.One.{One}
 use Rattle.sdd_steps.specs.declared.participant.Participant.{Participant}
 use Rattle.sdd_steps.specs.State.{Has}
 use Rattle.sdd_steps.specs.Steps.{is_ready}
@@ -14,7 +15,8 @@ use Rattle.sdd_homes.specs.Book.{Content, part, home, deed}
 use Rattle.domain_table.specs.Contents.{blanks, is_blank}
 use Rattle.domain_table.specs.Owners.{told, besides}
 use Rattle.domain_table.specs.Leases.{leased_homes, has_all, HasEmptied}
-use Rattle.domain_table.specs.Plays.{with_step, owning, own_spare, Brings, GetsBack, CanKeep, CanEnd, ended_release, Refilled, CanFill, CanEmpty, filling_at, next_filled, gathered, emptying, reclaiming, deed_home}
+use Rattle.domain_table.specs.Layout.{Tells}
+use Rattle.domain_table.specs.Plays.{with_step, owning, own_spare, HasLoaded, HasLeasedAt, HasRound, Brings, GetsBack, cloning, CanKeep, CanEnd, ended_release, Refilled, CanFill, CanPlace, placing, CanEmpty, filling_at, next_filled, gathered, emptying, reclaiming, deed_home}
 use Rattle.domain_table.specs.Views.{of_participant, publishing, rotated}
 use Rattle.domain_table.specs.declared.board.Acting.{Acting}
 use Rattle.domain_table.specs.declared.board.Home.{Home}
@@ -37,6 +39,10 @@ CanPlaceItem holds item d = (d.kind ≡ of_participant) × (is_ready d.known ≡
 abbrev pub HasPlacedItem : {T S : Type 0} → T → ℕ → ℕ → ℕ → Option (ManuallyDrop T) → Me S Acting → Me S Acting → Type 0
 HasPlacedItem item slots slot round seen m m' = (o : Owner) × (o.slot ≡ slot) × (o.round ≡ round) × (slot < slots) × (m' ≡ (owning o m.0, m.1)) × IsSomeAnd seen (λ x. manually_drop_value x ≡ item)
 
+-- the same of a slot and a part
+abbrev pub HasPlacedOne : {T S : Type 0} → T → ℕ → ℕ × One (Option (ManuallyDrop T)) → Me S Acting → Me S Acting → Type 0
+HasPlacedOne item slots placed m m' = HasPlacedItem item slots placed.0 placed.1.part.life.id placed.1.part.seen.value m m'
+
 -- the owners that an item holds, which are first in hand, are released; an item that has lost its last owner waits
 abbrev pub HasGivenUp : {T S : Type 0} → (T → List (ℕ × ℕ)) → T → Me S Acting → Me S Acting → Type 0
 HasGivenUp holds item m m' = (hs os : List Owner) → holds item ≡ map told hs → m.0.hand ≡ hs ++ os → (ws : List Garbage) × (m' ≡ (record m.0 { hand = os; waits = ws }, m.1))
@@ -49,6 +55,14 @@ module _ {T : Type 0} (IsIn : Content → Home T → Type 0) where
   -- what the seat brought for this word is exchanged for what the found word names, and the step is recorded
   abbrev pub Exchanges : ℕ → Me (Home T) Acting → ℕ → ℕ → Me (Home T) Acting → Type 0
   Exchanges at m word found after = (new : Option Owner) (os : List Owner) (tail : List (ℕ × Home T)) → Brings IsIn m new os word tail → GetsBack IsIn (with_step at found word m) os found tail after
+
+  -- the cell with this word is loaded, and the step is recorded
+  abbrev pub LoadsCell : ℕ → Me (Home T) Acting → ℕ → Me (Home T) Acting → Type 0
+  LoadsCell at m found after = HasLoaded IsIn (with_step at found found m) found after
+
+  -- the item of the first owner in hand is leased, in the owner's round
+  abbrev pub LeasesFirst : Me (Home T) Acting → Me (Home T) Acting → Type 0
+  LeasesFirst m after = (o : Owner) (os : List Owner) → m.0.hand ≡ o ∷ os → HasLeasedAt IsIn m o.slot after × HasRound after.0.leases o
 
   -- the parts of what is cloned go home, and no release is under way
   abbrev pub KeepsLease : Me (Home T) Acting → Me (Home T) Acting → Type 0
@@ -78,6 +92,10 @@ module _ {T : Type 0} (IsIn : Content → Home T → Type 0) where
   abbrev pub Fills : Me (Home T) Acting → Me (Home T) Acting → Type 0
   Fills m after = (f : Filling) (c a : ℕ) (tail : List (ℕ × Home T)) → CanFill IsIn m f c a tail → after ≡ (filling_at m.0.slot (next_filled m.0 c a f) m.0, tail)
 
+  -- the slot that was filled has an item now, whose one owner is in hand
+  abbrev pub Places : Me (Home T) Acting → Me (Home T) Acting → Type 0
+  Places m after = (f : Filling) (tail : List (ℕ × Home T)) → CanPlace IsIn m f tail → (i : ℕ) × (after ≡ (placing i f m.0, tail))
+
   -- the last item that waits is being reclaimed: its deed is out with the seat
   abbrev pub TakesDeed : Me (Home T) Acting → Me (Home T) Acting → Type 0
   TakesDeed m after = (w : Garbage) (ws : List Garbage) → m.0.waits ≡ ws ++ w ∷ [] → (hs : List Owner) × (u : Home T) × IsIn (deed w.round hs) u × (after ≡ (reclaiming w hs ws m.0, (deed_home m.0 w.slot, u) ∷ m.1))
@@ -91,6 +109,18 @@ module _ {T : Type 0} (IsIn : Content → Home T → Type 0) where
   GivesHome m after = (f : Filling) (tail : List (ℕ × Home T)) → CanEmpty IsIn m f tail → after ≡ (filling_at m.0.slot (record f { out = m.0.sizes.participants }) m.0, tail)
 
 module _ {T : Type 0} where
+  -- the word of a cell is read, and has some spare slot and item, and the step is recorded
+  abbrev pub ReadsCell : ℕ → Me (Home T) Acting → ℕ → Me (Home T) Acting → Type 0
+  ReadsCell at m found after = (y : ℕ) × (k : ℕ) × (y < 2 ^ 31) × Tells found y k × (after ≡ with_step at found found m)
+
+  -- one part of what is leased in this slot is an owner's, which is in hand
+  abbrev pub ClonesAt : ℕ → Me (Home T) Acting → Me (Home T) Acting → Type 0
+  ClonesAt k m after = (l : Lease) → Has m.0.leases l → l.slot ≡ k → after ≡ (cloning l m.0, m.1)
+
+  -- the home that is the next one to fill has this many parts of this round
+  abbrev pub FillsNext : ℕ → ℕ → ℕ → Me (Home T) Acting → Me (Home T) Acting → Type 0
+  FillsNext slot round count m after = (f : Filling) → m.0.filling ≡ Some f → after ≡ (filling_at slot (next_filled m.0 round count f) m.0, m.1)
+
   -- the spare slot is another one, empty, and all else with the seat is as it was
   abbrev pub HasSwapped : Me (Home T) Acting → ℕ → ℕ → Me (Home T) Acting → Type 0
   HasSwapped m spare y after = (tail : List (ℕ × Home T)) → m.1 ≡ (own_spare m.0 spare, Blank) ∷ tail → after ≡ (record m.0 { spare = y }, (own_spare m.0 y, Blank) ∷ tail)

@@ -25,6 +25,24 @@ abbrev pub with_step : {S : Type 0} → ℕ → ℕ → ℕ → Me S Acting → 
 with_step i found left m = (record m.0 { cell_steps = m.0.cell_steps ++ record { word = i; found = found; left = left } ∷ [] }, m.1)
 
 module _ {S : Type 0} where
+  -- all stays with the seat but what it knows of the participant; or but whom that has looked at
+  abbrev pub with_known : Participant → Me S Acting → Me S Acting
+  with_known x m = (record m.0 { known = x }, m.1)
+
+  abbrev pub with_looks : List ℕ → Me S Acting → Me S Acting
+  with_looks ls m = (record m.0 { known = record m.0.known { looked = ls } }, m.1)
+
+  -- or but the owners in hand; what waits in the participant's bags; what is in the private bag
+  abbrev pub with_hand : List Owner → Me S Acting → Me S Acting
+  with_hand os m = (record m.0 { hand = os }, m.1)
+
+  abbrev pub with_waits : List Garbage → Me S Acting → Me S Acting
+  with_waits ws m = (record m.0 { waits = ws }, m.1)
+
+  abbrev pub with_collected : List Garbage → Me S Acting → Me S Acting
+  with_collected ws m = (record m.0 { collected = ws }, m.1)
+
+module _ {S : Type 0} where
   -- the count is read
   abbrev pub read_then : Step S → Me S Acting → ℕ → Me S Acting → Type 0
   read_then t m n m' = m' ≡ (record m.0 { known = reading n m.0.known }, m.1)

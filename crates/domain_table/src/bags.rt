@@ -5,14 +5,14 @@
 //! of them and to take the oldest item out takes one step on one link word at most, whatever the bags hold, and no bag can
 //! be full.
 
-ghost use Rattle.std.specs.Prelude.{◌≡◌, ◌∷◌, ◌++◌, ◌<◌, [], List, ℕ, None, IfSome, IfNone, length, nat_lt};
+ghost use Rattle.std.specs.Prelude.{◌≡◌, ◌<◌, [], List, ℕ, None, IfSome, IfNone, length, nat_lt};
 ghost use Rattle.sdd_homes.specs.declared.Garbage.{Garbage};
-ghost use Rattle.domain_table.specs.Bags.{IsBag, AreAlike, aged};
+ghost use Rattle.domain_table.specs.Bags.{aged, IsJoined, LieInFront, LiesBehind, LosesOldest};
 ghost use Rattle.domain_table.specs.Chains.{AllBelow};
 ghost use Rattle.domain_table.specs.Fitting.{FitsSizes};
-ghost use Rattle.domain_table.specs.Ledgers.{WaitsIn, Rearranges};
-ghost use Rattle.domain_table.specs.Plays.{taken_all};
+ghost use Rattle.domain_table.specs.Ledgers.{WaitsIn, Rearranges, HasDue, HasRetired, HasTakenOver, WaitsInOne};
 ghost use Rattle.domain_table.specs.Views.{of_participant, older_waits};
+ghost use Rattle.domain_table.specs.Plays.{with_waits};
 
 use crate::board::{Seat, Words};
 use crate::holding::Holding;
@@ -36,10 +36,9 @@ fn join<T, H: Holding<T>>(
 ) -> Option<Ends>
     requires table { FitsSizes words.now.table_id words.now.key.sizes seat.old.table_id seat.old.me.0.sizes sizes.now }
     requires acts { (seat.old.me.0.kind ≡ of_participant) × AllBelow sizes.now.slots seat.old.me.0.waits }
-    requires bags { (fs : List Garbage) × (bs : List Garbage) × (rest : List Garbage) × (seat.old.me.0.waits ≡ fs ++ (bs ++ rest)) × IsBag fs newer × IsBag bs older }
+    requires bags { LieInFront seat.old.me.0.waits newer older }
     ensures seat { (seat.new.table_id ≡ seat.old.table_id) × (seat.new.id ≡ seat.old.id) }
-    ensures joined { (fs bs rest : List Garbage) → seat.old.me.0.waits ≡ fs ++ (bs ++ rest) → IsBag fs newer → IsBag bs older
-        → (cs : List Garbage) × AreAlike bs cs × IsBag (fs ++ cs) result × (seat.new.me ≡ (record seat.old.me.0 { waits = fs ++ (cs ++ rest) }, seat.old.me.1)) }
+    ensures joined { IsJoined seat.old.me.0.waits newer older result (λ ws. seat.new.me ≡ with_waits ws seat.old.me) }
 {
     let Some(behind) = newer else {
         return older;
@@ -63,10 +62,10 @@ fn take_first<T, H: Holding<T>>(
 ) -> (Option<usize>, Option<Ends>)
     requires table { FitsSizes words.now.table_id words.now.key.sizes seat.old.table_id seat.old.me.0.sizes sizes.now }
     requires acts { (seat.old.me.0.kind ≡ of_participant) × AllBelow sizes.now.slots seat.old.me.0.waits }
-    requires bag { (ps : List Garbage) × (cs : List Garbage) × (seat.old.me.0.waits ≡ ps ++ cs) × IsBag cs bag }
+    requires bag { LiesBehind seat.old.me.0.waits bag }
     ensures seat { (seat.new.table_id ≡ seat.old.table_id) × (seat.new.id ≡ seat.old.id) × (seat.new.me ≡ seat.old.me) }
     ensures none { IfNone result.0 ((bag ≡ None) × (result.1 ≡ None)) }
-    ensures taken { IfSome result.0 (λ slot. (ps cs : List Garbage) → seat.old.me.0.waits ≡ ps ++ cs → IsBag cs bag → (ds : List Garbage) × (w : Garbage) × (cs ≡ ds ++ w ∷ []) × (w.slot ≡ slot) × IsBag ds result.1) }
+    ensures taken { IfSome result.0 (λ slot. LosesOldest seat.old.me.0.waits bag slot result.1) }
 {
     let Some(ends) = bag else {
         return (None, None);
@@ -117,7 +116,7 @@ impl Bags {
     )
         requires table { FitsSizes words.now.table_id words.now.key.sizes seat.old.table_id seat.old.me.0.sizes sizes.now × (slot < sizes.now.slots) }
         requires acts { seat.old.me.0.kind ≡ of_participant }
-        requires retired { (w : Garbage) × (ws : List Garbage) × (seat.old.me.0.waits ≡ w ∷ ws) × (w.slot ≡ slot) × (w.age ≡ 0) × WaitsIn sizes.now.slots ws self.old }
+        requires retired { HasRetired sizes.now.slots slot seat.old.me.0.waits self.old }
         ensures seat { (seat.new.table_id ≡ seat.old.table_id) × (seat.new.id ≡ seat.old.id) }
         ensures waits { Rearranges sizes.now.slots seat.old.me self.new seat.new.me }
         ensures due { (self.new.due ≡ self.old.due) × (aged 3 seat.new.me.0.waits ≡ aged 3 seat.old.me.0.waits) }
@@ -139,7 +138,7 @@ impl Bags {
     )
         requires table { FitsSizes words.now.table_id words.now.key.sizes seat.old.table_id seat.old.me.0.sizes sizes.now }
         requires acts { seat.old.me.0.kind ≡ of_participant }
-        requires taken { (ts : List Garbage) × (ws : List Garbage) × (seat.old.me.0.waits ≡ taken_all ts ws) × IsBag ts chain × AllBelow sizes.now.slots ts × WaitsIn sizes.now.slots ws self.old }
+        requires taken { HasTakenOver sizes.now.slots chain seat.old.me.0.waits self.old }
         ensures seat { (seat.new.table_id ≡ seat.old.table_id) × (seat.new.id ≡ seat.old.id) }
         ensures waits { Rearranges sizes.now.slots seat.old.me self.new seat.new.me }
         ensures due { self.new.due ≡ self.old.due }
@@ -186,7 +185,7 @@ impl Bags {
         requires waits { WaitsIn sizes.now.slots seat.old.me.0.waits self.old }
         ensures seat { (seat.new.table_id ≡ seat.old.table_id) × (seat.new.id ≡ seat.old.id) × (seat.new.me ≡ seat.old.me) }
         ensures none { IfNone result (WaitsIn sizes.now.slots seat.old.me.0.waits self.new × (self.new.due ≡ None)) }
-        ensures taken { IfSome result (λ slot. (vs : List Garbage) × (w : Garbage) × (seat.old.me.0.waits ≡ vs ++ w ∷ []) × (w.slot ≡ slot) × (w.age ≡ 3) × WaitsIn sizes.now.slots vs self.new) }
+        ensures taken { IfSome result (λ slot. HasDue sizes.now.slots slot seat.old.me.0.waits self.new) }
     {
         let (slot, due) = take_first(words, seat, sizes, self.due);
         self.due = due;
@@ -204,7 +203,7 @@ impl Bags {
         requires acts { seat.old.me.0.kind ≡ of_participant }
         requires waits { WaitsIn sizes.now.slots seat.old.me.0.waits self × (self.due ≡ None) }
         ensures seat { (seat.new.table_id ≡ seat.old.table_id) × (seat.new.id ≡ seat.old.id) }
-        ensures joined { (ws : List Garbage) × IsBag ws result × AllBelow sizes.now.slots ws × (seat.new.me ≡ (record seat.old.me.0 { waits = ws }, seat.old.me.1)) }
+        ensures joined { WaitsInOne sizes.now.slots result seat.old.me seat.new.me }
     {
         let newer = join(words, seat, sizes, self.current, self.previous);
         join(words, seat, sizes, newer, self.next)

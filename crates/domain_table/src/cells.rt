@@ -6,14 +6,15 @@ ghost use Rattle.sdd_homes.specs.declared.Lease.{Lease};
 ghost use Rattle.sdd_homes.specs.Book.{Lends, Apart};
 ghost use Rattle.sdd_homes.specs.declared.Owner.{Owner};
 ghost use Rattle.sdd_steps.specs.State.{Has};
-ghost use Rattle.domain_table.specs.Outcomes.{Exchanges, KeepsLease, EndsRelease};
+ghost use Rattle.domain_table.specs.Outcomes.{Exchanges, KeepsLease, EndsRelease, ClonesAt, LeasesFirst, LoadsCell, ReadsCell};
 ghost use Rattle.domain_table.specs.Leases.{HasFew, ReleasesOne};
 ghost use Rattle.domain_table.specs.Fitting.{FitsFree, FitsCell, HasSlotWord};
 ghost use Rattle.domain_table.specs.Contents.{IsIn};
-ghost use Rattle.domain_table.specs.Layout.{cell_word, Tells, claim_word, all_words, IsSized, AreAlike};
-ghost use Rattle.domain_table.specs.Plays.{Scans, load_then, read_cell_then, with_step, HasLoaded, load_own_then, HasLeasedAt, HasRound, CanClose, ending, end_all_then, Brings, swap_then, cloning, IsAlike, clone_then, MayNote, HasRoom, release_then, HasBegun, begin_then, CanEnd, end_release_then, CanKeep, keep_then, exchange_then, retag_then};
+ghost use Rattle.domain_table.specs.Layout.{cell_word, claim_word, all_words, IsSized, AreAlike};
+ghost use Rattle.domain_table.specs.Plays.{Scans, load_then, read_cell_then, with_step, load_own_then, CanClose, ending, end_all_then, Brings, swap_then, IsAlike, clone_then, MayNote, HasRoom, release_then, HasBegun, begin_then, end_release_then, keep_then, exchange_then, retag_then};
 ghost use Rattle.domain_table.specs.declared.board.Home.{Home};
 ghost use Rattle.domain_table.specs.Views.{of_participant};
+ghost use Rattle.domain_table.specs.Readiness.{CanEndAt, CanKeepHome, CanStep, CanStepInside, IsFirstLeased};
 
 use crate::aim::Aim;
 use crate::board::{Acting, Home, Seat, Words};
@@ -112,7 +113,7 @@ pub fn read_cell<T, H: Holding<T>>(
     requires table { FitsCell words.now.table_id words.now.key.sizes seat.old.table_id participants cell }
     requires acts { seat.old.me.0.kind ≡ of_participant }
     ensures seat { (seat.new.table_id ≡ seat.old.table_id) × (seat.new.id ≡ seat.old.id) }
-    ensures read { (y : ℕ) × (k : ℕ) × (y < 2 ^ 31) × Tells result y k × (seat.new.me ≡ with_step (cell_word words.now.key.sizes cell) result result seat.old.me) }
+    ensures read { ReadsCell (cell_word words.now.key.sizes cell) seat.old.me result seat.new.me }
 {
     words.load::<OnRead>(seat, cell_word(participants, cell))
 }
@@ -128,7 +129,7 @@ pub(crate) fn load<T, H: Holding<T>>(
     requires table { FitsCell words.now.table_id words.now.key.sizes seat.old.table_id participants cell }
     requires open { (seat.old.me.0.kind ≡ of_participant) × (is_inside seat.old.me.0.known ≡ true) }
     ensures seat { (seat.new.table_id ≡ seat.old.table_id) × (seat.new.id ≡ seat.old.id) }
-    ensures loaded { HasLoaded (IsIn H.holds) (with_step (cell_word words.now.key.sizes cell) result result seat.old.me) result seat.new.me }
+    ensures loaded { LoadsCell (IsIn H.holds) (cell_word words.now.key.sizes cell) seat.old.me result seat.new.me }
 {
     words.load::<OnLoad<H>>(seat, cell_word(participants, cell))
 }
@@ -140,7 +141,7 @@ pub(crate) fn load_own<T, H: Holding<T>>(words: &Words<T, H>, seat: &mut Seat<T>
     requires open { (seat.old.me.0.kind ≡ of_participant) × (is_inside seat.old.me.0.known ≡ true) }
     requires owner { (o : Owner) × (os : List Owner) × (seat.old.me.0.hand ≡ o ∷ os) }
     ensures seat { (seat.new.table_id ≡ seat.old.table_id) × (seat.new.id ≡ seat.old.id) }
-    ensures loaded { (o : Owner) (os : List Owner) → seat.old.me.0.hand ≡ o ∷ os → HasLeasedAt (IsIn H.holds) seat.old.me o.slot seat.new.me × HasRound seat.new.me.0.leases o }
+    ensures loaded { LeasesFirst (IsIn H.holds) seat.old.me seat.new.me }
 {
     // A home comes out only in a step on a word, and this step needs none: the count is read, and its value isn't used.
     // The home has the round of the owner, which the proof gets here.
@@ -158,7 +159,7 @@ pub fn swap<T, H: Holding<T>>(
     word: u64,
 ) -> u64
     requires table { FitsCell words.now.table_id words.now.key.sizes seat.old.table_id participants cell }
-    requires ready { (seat.old.me.0.kind ≡ of_participant) × (is_ready seat.old.me.0.known ≡ true) × (seat.old.me.0.releasing ≡ 0) }
+    requires ready { CanStep seat.old.me.0 }
     requires brings { (new : Option Owner) × (os : List Owner) × (tail : List (ℕ × Home T)) × Brings (IsIn H.holds) seat.old.me new os word tail }
     ensures seat { (seat.new.table_id ≡ seat.old.table_id) × (seat.new.id ≡ seat.old.id) }
     ensures swapped { Exchanges (IsIn H.holds) (cell_word words.now.key.sizes cell) seat.old.me word result seat.new.me }
@@ -176,11 +177,11 @@ pub fn compare_exchange<T, H: Holding<T>>(
     word: u64,
 ) -> u64
     requires table { FitsCell words.now.table_id words.now.key.sizes seat.old.table_id participants cell }
-    requires ready { (seat.old.me.0.kind ≡ of_participant) × (is_ready seat.old.me.0.known ≡ true) × (is_inside seat.old.me.0.known ≡ true) × (seat.old.me.0.releasing ≡ 0) }
+    requires ready { CanStepInside seat.old.me.0 }
     requires brings { (new : Option Owner) × (os : List Owner) × (tail : List (ℕ × Home T)) × Brings (IsIn H.holds) seat.old.me new os word tail }
     ensures seat { (seat.new.table_id ≡ seat.old.table_id) × (seat.new.id ≡ seat.old.id) }
     ensures hit { result ≡ expected → Exchanges (IsIn H.holds) (cell_word words.now.key.sizes cell) seat.old.me word result seat.new.me }
-    ensures miss { result ≢ expected → HasLoaded (IsIn H.holds) (with_step (cell_word words.now.key.sizes cell) result result seat.old.me) result seat.new.me }
+    ensures miss { result ≢ expected → LoadsCell (IsIn H.holds) (cell_word words.now.key.sizes cell) seat.old.me result seat.new.me }
 {
     words.compare_exchange::<OnExchange<H>>(seat, cell_word(participants, cell), expected, word)
 }
@@ -218,7 +219,7 @@ pub(crate) fn clone_owner<T, H: Holding<T>>(
     requires leased { (l : Lease) × Has seat.old.me.0.leases l × (l.slot ≡ slot) × (0 < l.count) }
     requires counted { (0 < owners) × (owners < 2 ^ 32 - 1) }
     ensures seat { (seat.new.table_id ≡ seat.old.table_id) × (seat.new.id ≡ seat.old.id) }
-    ensures cloned { IsTrue result → (l : Lease) → Has seat.old.me.0.leases l → l.slot ≡ slot → seat.new.me ≡ (cloning l seat.old.me.0, seat.old.me.1) }
+    ensures cloned { IsTrue result → ClonesAt slot seat.old.me seat.new.me }
     ensures refused { IsFalse result → seat.new.me ≡ seat.old.me }
     ensures alike { (l : Lease) → Has seat.old.me.0.leases l → l.slot ≡ slot → Apart seat.old.me.0.leases × IsAlike l seat.old.me.0 }
 {
@@ -244,7 +245,7 @@ pub(crate) fn begin_release<T, H: Holding<T>>(words: &Words<T, H>, seat: &mut Se
 /// its lease. The owners in hand stay.
 pub(crate) fn keep_home<T, H: Holding<T>>(words: &Words<T, H>, seat: &mut Seat<T>)
     requires table { (seat.old.table_id ≡ words.now.table_id) × (0 < words.now.table_id.words) }
-    requires out { (seat.old.me.0.kind ≡ of_participant) × ((l : Lease) × (ls : List Lease) × (tail : List (ℕ × Home T)) × CanKeep (IsIn H.holds) seat.old.me l ls tail) }
+    requires out { CanKeepHome (IsIn H.holds) seat.old.me }
     ensures seat { (seat.new.table_id ≡ seat.old.table_id) × (seat.new.id ≡ seat.old.id) }
     ensures kept { KeepsLease (IsIn H.holds) seat.old.me seat.new.me }
 {
@@ -262,9 +263,9 @@ pub(crate) fn release_owner<T, H: Holding<T>, A: Aim>(
     slot: usize,
 ) -> u64
     requires table { HasSlotWord words.now.table_id words.now.key.sizes seat.old.table_id sizes.now slot }
-    requires ready { (seat.old.me.0.kind ≡ of_participant) × (is_ready seat.old.me.0.known ≡ true) × (seat.old.me.0.releasing ≡ 0) }
+    requires ready { CanStep seat.old.me.0 }
     requires may { MayNote (A.to seat.old.me.0.known) seat.old.me.0.known }
-    requires owner { (l : Lease) × (o : Owner) × (os : List Owner) × Has seat.old.me.0.leases l × (l.slot ≡ slot) × (o.slot ≡ l.slot) × (seat.old.me.0.hand ≡ o ∷ os) }
+    requires owner { IsFirstLeased slot seat.old.me.0 }
     ensures seat { (seat.new.table_id ≡ seat.old.table_id) × (seat.new.id ≡ seat.old.id) }
     ensures few { HasFew seat.old.me.0 }
     ensures released { ReleasesOne A.to seat.old.me (result + 3) seat.new.me }
@@ -285,7 +286,7 @@ pub(crate) fn end_release<T, H: Holding<T>, A: Aim>(
     requires table { HasSlotWord words.now.table_id words.now.key.sizes seat.old.table_id sizes.now slot }
     requires ready { (seat.old.me.0.kind ≡ of_participant) × (is_ready seat.old.me.0.known ≡ true) }
     requires may { MayNote (A.to seat.old.me.0.known) seat.old.me.0.known }
-    requires begun { (l : Lease) × (ls : List Lease) × (o : Owner) × (os : List Owner) × (tail : List (ℕ × Home T)) × (l.slot ≡ slot) × CanEnd (IsIn H.holds) seat.old.me l ls o os tail }
+    requires begun { CanEndAt (IsIn H.holds) slot seat.old.me }
     ensures seat { (seat.new.table_id ≡ seat.old.table_id) × (seat.new.id ≡ seat.old.id) }
     ensures room { HasRoom seat.old.me.0 }
     ensures ended { EndsRelease (IsIn H.holds) A.to seat.old.me (result + 3) seat.new.me }

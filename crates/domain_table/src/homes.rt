@@ -1,14 +1,11 @@
 //! What lies in the slots of a place when it is made, and when it is closed.
 
-ghost use Rattle.std.specs.Prelude.{◌≡◌, ℕ, ◌+◌, ◌*◌, ◌^◌, ◌<◌, ◌≤◌, ◌++◌, ◌∷◌, List, [], replicate, length, map, vec_len, vec_capacity, IsSome, IsSomeAnd, IfOk, OnOk};
-ghost use Rattle.std.specs.Mem.{manually_drop_value};
+ghost use Rattle.std.specs.Prelude.{◌≡◌, ℕ, ◌+◌, ◌*◌, ◌^◌, ◌<◌, ◌≤◌, ◌++◌, ◌∷◌, List, [], replicate, length, vec_len, vec_capacity, IfOk, OnOk};
 ghost use Rattle.core.specs.Mem.Slots.{IsFull};
-ghost use Rattle.sdd_homes.specs.declared.Garbage.{Garbage};
 ghost use Rattle.sdd_homes.specs.declared.Owner.{Owner};
 ghost use Rattle.sdd_homes.specs.Book.{deed, part, room};
 ghost use Rattle.domain_table.specs.Layout.{IsSized};
-ghost use Rattle.domain_table.specs.Contents.{AreIn, IsIn, first_in_home, AreResting, AreNewHomes};
-ghost use Rattle.domain_table.specs.Owners.{told};
+ghost use Rattle.domain_table.specs.Contents.{IsIn, first_in_home, AreResting, AreNewHomes, ArePartsOf, IsDeedOf};
 ghost use Rattle.domain_table.specs.declared.board.Home.{Home};
 ghost use Rattle.domain_table.specs.declared.board.Home.TheVariants.{Blank};
 
@@ -55,7 +52,7 @@ pub(crate) fn room_of<T, H: Holding<T>>(home: Home<T>) -> Box<Stored<T>>
 /// The deed of an item.
 pub fn deed_of<T, H: Holding<T>>(home: Home<T>) -> Deed<Stored<T>, Global>
     requires { (r : ℕ) × (hs : List Owner) × IsIn H.holds (deed r hs) home }
-    ensures { (r : ℕ) (hs : List Owner) → IsIn H.holds (deed r hs) home → (result.life ≡ r) × IsSomeAnd result.value (λ m. H.holds (manually_drop_value m) ≡ map told hs) }
+    ensures { IsDeedOf H.holds home result.life result.value }
 {
     match home {
         Home::Deed(deed) => deed,
@@ -69,7 +66,7 @@ pub fn deed_of<T, H: Holding<T>>(home: Home<T>) -> Deed<Stored<T>, Global>
 /// The parts that lie in a home, and how many they are.
 pub fn parts_of<T, H: Holding<T>>(home: Home<T>) -> (Part<Stored<T>>, u64)
     requires { (r : ℕ) × (c : ℕ) × IsIn H.holds (part r c) home }
-    ensures { (r c : ℕ) → IsIn H.holds (part r c) home → (result.0.life.id ≡ r) × (result.0.life.count ≡ c) × (result.1 ≡ c) × (0 < c) × IsSome result.0.seen.value × AreIn result.0 c home }
+    ensures { ArePartsOf H.holds home result.0 result.1 }
 {
     match home {
         Home::Part(part, count) => (part, count),

@@ -1,13 +1,12 @@
 //! What a participant has leased under its open guards is returned to its home.
 
-ghost use Rattle.std.specs.Prelude.{◌≡◌, ℕ, ◌+◌, ◌*◌, ◌<◌, ◌++◌, ◌∷◌, [], List, map, length, drop, slice_index_or, IfSome, IfNone, IsSome};
+ghost use Rattle.std.specs.Prelude.{◌≡◌, ℕ, ◌+◌, ◌<◌, ◌++◌, ◌∷◌, [], map, length, drop, slice_index_or, IfSome, IfNone, IsSome};
 ghost use Rattle.std.specs.VecDeque.{deque_capacity, deque_len};
 ghost use Rattle.domain_table.specs.Outcomes.{RefillsAll, RefillsBehind};
 ghost use Rattle.domain_table.specs.Fitting.{ActsAmong};
 ghost use Rattle.domain_table.specs.Contents.{IsIn, blanks};
-ghost use Rattle.domain_table.specs.Leases.{row_told, lease_told, leased_homes, HasCode, code_told};
+ghost use Rattle.domain_table.specs.Leases.{row_told, lease_told, leased_homes, HasCode, code_told, IsLifeOf};
 ghost use Rattle.sdd_steps.specs.State.{Has};
-ghost use Rattle.sdd_homes.specs.declared.Lease.{Lease};
 ghost use Rattle.domain_table.specs.declared.row.Row.{Row};
 ghost use Rattle.domain_table.specs.declared.board.Home.{Home};
 
@@ -36,7 +35,7 @@ pub(crate) fn row_of<T>(rows: &VecDeque<Row<T>>, slot: usize) -> Option<usize>
 fn seen_in<T>(rows: &VecDeque<Row<T>>, at: usize) -> Seen<Stored<T>>
     requires { at < deque_len rows.now }
     ensures there { IsSome result.value }
-    ensures under { (life : ℕ) (ls : List Lease) → map row_told rows.now.items ≡ map (lease_told life) ls → result.life ≡ life }
+    ensures under { IsLifeOf rows.now.items result.life }
 {
     rows[at].lent.see()
 }
@@ -46,7 +45,7 @@ pub fn seen_like<T>(rows: &VecDeque<Row<T>>, at: usize, owner: &One<Stored<T>>) 
     requires row { at < deque_len rows.now }
     requires round { (d : Row T) → (slice_index_or rows.now.items at d).lent.pledge.id ≡ owner.now.part.life.id }
     ensures like { result.value ≡ owner.now.part.seen.value }
-    ensures under { (life : ℕ) (ls : List Lease) → map row_told rows.now.items ≡ map (lease_told life) ls → result.life ≡ life }
+    ensures under { IsLifeOf rows.now.items result.life }
 {
     rows[at].lent.see_like(&owner.part)
 }
@@ -56,7 +55,7 @@ pub fn seen_at<T>(rows: &VecDeque<Row<T>>, at: Option<usize>) -> Option<(usize, 
     requires { IfSome at (λ i. i < deque_len rows.now) }
     ensures there { IfSome result (λ t. IsSome t.1.value) }
     ensures code { (k : ℕ) → HasCode rows.now.items at k → code_told result ≡ k }
-    ensures under { IfSome result (λ t. (life : ℕ) (ls : List Lease) → map row_told rows.now.items ≡ map (lease_told life) ls → t.1.life ≡ life) }
+    ensures under { IfSome result (λ t. IsLifeOf rows.now.items t.1.life) }
 {
     let at = at?;
     Some((rows[at].slot, seen_in(rows, at)))

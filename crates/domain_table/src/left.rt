@@ -6,18 +6,17 @@
 //! take it over takes two steps, whatever is left. A participant that ends once more before any scan takes back what it left
 //! before, and leaves it with the rest.
 
-ghost use Rattle.std.specs.Prelude.{◌≡◌, true, None, ℕ, ◌<◌, ◌≤◌, ◌^◌, ◌++◌, ◌∷◌, [], List, IfSome};
+ghost use Rattle.std.specs.Prelude.{◌≡◌, true, None, ◌<◌, ◌^◌, ◌++◌, ◌∷◌, [], List, IfSome};
 ghost use Rattle.sdd_homes.specs.declared.Garbage.{Garbage};
 ghost use Rattle.sdd_steps.specs.Steps.{is_ready};
-ghost use Rattle.sdd_steps.specs.declared.participant.Phase.TheVariants.{Idle};
 ghost use Rattle.domain_table.specs.Bags.{IsBag, ends_of};
 ghost use Rattle.domain_table.specs.Chains.{AllBelow, left_code};
-ghost use Rattle.domain_table.specs.Fitting.{FitsNumber, FitsSizes};
-ghost use Rattle.domain_table.specs.Layout.{epoch_words};
-ghost use Rattle.domain_table.specs.Ledgers.{WaitsIn};
+ghost use Rattle.domain_table.specs.Fitting.{FitsNumber, FitsSizes, HasWordsOf};
+ghost use Rattle.domain_table.specs.Ledgers.{WaitsIn, TakesOver};
 ghost use Rattle.domain_table.specs.Outcomes.{HasLookedAtAll};
-ghost use Rattle.domain_table.specs.Plays.{taken_all, take_left_then, take_own_then, leaving, leave_then};
-ghost use Rattle.domain_table.specs.Views.{of_participant, IsBare};
+ghost use Rattle.domain_table.specs.Plays.{take_left_then, take_own_then, leaving, leave_then, with_waits};
+ghost use Rattle.domain_table.specs.Views.{of_participant};
+ghost use Rattle.domain_table.specs.Readiness.{IsIdleAndBare};
 
 use crate::bags::{Bags, Ends};
 use crate::board::{Acting, Home, Seat, Words};
@@ -84,7 +83,7 @@ fn take_left<T, H: Holding<T>>(
     requires ready { (seat.old.me.0.kind ≡ of_participant) × (is_ready seat.old.me.0.known ≡ true) }
     requires locked { 0 < seat.old.me.0.scan }
     ensures seat { (seat.new.table_id ≡ seat.old.table_id) × (seat.new.id ≡ seat.old.id) }
-    ensures taken { (ws : List Garbage) × IsBag ws result × AllBelow sizes.now.slots ws × (seat.new.me ≡ (record seat.old.me.0 { waits = taken_all ws seat.old.me.0.waits }, seat.old.me.1)) }
+    ensures taken { TakesOver sizes.now.slots result seat.old.me.0.left seat.old.me seat.new.me }
 {
     bag_in(words.swap::<OnTakeLeft>(seat, STRIDE * number + LEFT, 0))
 }
@@ -99,7 +98,7 @@ fn take_own<T, H: Holding<T>>(
     requires table { FitsNumber words.now.table_id words.now.key.sizes seat.old.table_id seat.old.me.0.sizes sizes.now number }
     requires ready { (seat.old.me.0.kind ≡ of_participant) × (is_ready seat.old.me.0.known ≡ true) × (seat.old.me.0.number ≡ number) }
     ensures seat { (seat.new.table_id ≡ seat.old.table_id) × (seat.new.id ≡ seat.old.id) }
-    ensures taken { (ws : List Garbage) × IsBag ws result × AllBelow sizes.now.slots ws × (seat.new.me ≡ (record seat.old.me.0 { waits = taken_all ws seat.old.me.0.waits; left = 1 }, seat.old.me.1)) }
+    ensures taken { TakesOver sizes.now.slots result 1 seat.old.me seat.new.me }
 {
     bag_in(words.swap::<OnTakeOwn>(seat, STRIDE * number + LEFT, 0))
 }
@@ -113,7 +112,7 @@ fn tell<T, H: Holding<T>>(
     bag: Option<Ends>,
 )
     requires table { FitsNumber words.now.table_id words.now.key.sizes seat.old.table_id seat.old.me.0.sizes sizes.now number }
-    requires rests { (seat.old.me.0.kind ≡ of_participant) × (seat.old.me.0.number ≡ number) × (seat.old.me.0.known.phase ≡ Idle) × (seat.old.me.0.scan ≡ 0) × IsBare seat.old.me.0 }
+    requires rests { IsIdleAndBare number seat.old.me.0 }
     requires known { seat.old.me.0.left ≡ 1 }
     requires bag { IsBag seat.old.me.0.waits bag × AllBelow sizes.now.slots seat.old.me.0.waits }
     ensures { (seat.new.table_id ≡ seat.old.table_id) × (seat.new.id ≡ seat.old.id) × (seat.new.me ≡ (leaving seat.old.me.0, seat.old.me.1)) }
@@ -130,7 +129,7 @@ pub fn leave<T, H: Holding<T>>(
     bags: Bags,
 )
     requires table { FitsNumber words.now.table_id words.now.key.sizes seat.old.table_id seat.old.me.0.sizes sizes.now number }
-    requires rests { (seat.old.me.0.kind ≡ of_participant) × (seat.old.me.0.number ≡ number) × (seat.old.me.0.known.phase ≡ Idle) × (seat.old.me.0.scan ≡ 0) × IsBare seat.old.me.0 }
+    requires rests { IsIdleAndBare number seat.old.me.0 }
     requires waits { WaitsIn sizes.now.slots seat.old.me.0.waits bags × (bags.due ≡ None) }
     ensures { (seat.new.table_id ≡ seat.old.table_id) × (seat.new.id ≡ seat.old.id) × (seat.new.me ≡ (leaving seat.old.me.0, seat.old.me.1)) }
 {
@@ -149,7 +148,7 @@ pub(crate) struct Looks {
 
 /// Whether participant `number` left something that nobody has taken over.
 fn has_left<T, H: Holding<T>>(words: &Words<T, H>, number: usize, looks: &mut Looks) -> bool
-    requires { (number < words.now.key.sizes.participants) × (epoch_words words.now.key.sizes.participants ≤ words.now.table_id.words) × (words.now.key.sizes.participants ≤ 2 ^ 30) }
+    requires { HasWordsOf words.now.table_id words.now.key.sizes number }
     ensures { looks.new.numbers.items ≡ looks.old.numbers.items ++ number ∷ [] }
 {
     looks.numbers.push(number as u64);
@@ -170,7 +169,7 @@ fn take_if_left<T, H: Holding<T>>(
     requires locked { 0 < seat.old.me.0.scan }
     requires waits { WaitsIn sizes.now.slots seat.old.me.0.waits bags.old }
     ensures seat { (seat.new.table_id ≡ seat.old.table_id) × (seat.new.id ≡ seat.old.id) }
-    ensures taken { (ws : List Garbage) × WaitsIn sizes.now.slots ws bags.new × (seat.new.me ≡ (record seat.old.me.0 { waits = ws }, seat.old.me.1)) }
+    ensures taken { (ws : List Garbage) × WaitsIn sizes.now.slots ws bags.new × (seat.new.me ≡ with_waits ws seat.old.me) }
     ensures due { bags.new.due ≡ bags.old.due }
     ensures looked { looks.new.numbers.items ≡ looks.old.numbers.items ++ number ∷ [] }
 {
@@ -194,7 +193,7 @@ pub(crate) fn take_all_left<T, H: Holding<T>>(
     requires locked { 0 < seat.old.me.0.scan }
     requires waits { WaitsIn sizes.now.slots seat.old.me.0.waits bags.old }
     ensures seat { (seat.new.table_id ≡ seat.old.table_id) × (seat.new.id ≡ seat.old.id) }
-    ensures taken { (ws : List Garbage) × WaitsIn sizes.now.slots ws bags.new × (seat.new.me ≡ (record seat.old.me.0 { waits = ws }, seat.old.me.1)) }
+    ensures taken { (ws : List Garbage) × WaitsIn sizes.now.slots ws bags.new × (seat.new.me ≡ with_waits ws seat.old.me) }
     ensures due { bags.new.due ≡ bags.old.due }
     ensures looked { HasLookedAtAll sizes.now.participants result }
 {

@@ -4,11 +4,11 @@
 //! next, so that a bag is a chain from its first item to its last one. Only who has the bag reads and writes the link words
 //! of the slots that its items are in: two items that aren't reclaimed are in two slots.
 
-ghost use Rattle.std.specs.Prelude.{◌≡◌, ◌∷◌, ◌++◌, List, ◌+◌, ◌<◌, ◌≤◌, ◌^◌};
-ghost use Rattle.domain_table.specs.Layout.{all_words, IsSized};
-ghost use Rattle.domain_table.specs.Plays.{SlotsApart, TellsLink, load_link_then, follow_then};
-ghost use Rattle.sdd_homes.specs.declared.Garbage.{Garbage};
+ghost use Rattle.std.specs.Prelude.{◌≡◌, ◌+◌, ◌<◌, ◌^◌};
+ghost use Rattle.domain_table.specs.Plays.{SlotsApart, TellsLink, load_link_then, follow_then, with_waits};
 ghost use Rattle.domain_table.specs.Views.{of_participant};
+ghost use Rattle.domain_table.specs.Bags.{IsFollowed, LieTogether};
+ghost use Rattle.domain_table.specs.Fitting.{FitsFree};
 
 use crate::board::{Acting, Home, Seat, Words};
 use crate::holding::Holding;
@@ -35,7 +35,7 @@ pub fn load_link<T, H: Holding<T>>(
     sizes: &Sizes,
     slot: usize,
 ) -> u64
-    requires table { (seat.old.table_id ≡ words.now.table_id) × (words.now.key.sizes ≡ sizes.now) × (seat.old.me.0.sizes ≡ sizes.now) × IsSized sizes.now × (all_words sizes.now ≤ words.now.table_id.words) × (slot < sizes.now.slots) }
+    requires table { FitsFree words.now.table_id words.now.key.sizes seat.old.table_id seat.old.me.0.sizes sizes.now slot }
     requires acts { seat.old.me.0.kind ≡ of_participant }
     ensures seat { (seat.new.table_id ≡ seat.old.table_id) × (seat.new.id ≡ seat.old.id) × (seat.new.me ≡ seat.old.me) }
     ensures apart { SlotsApart seat.old.me.0.waits × SlotsApart seat.old.me.0.collected }
@@ -52,11 +52,11 @@ pub fn follow<T, H: Holding<T>>(
     slot: usize,
     next: usize,
 )
-    requires table { (seat.old.table_id ≡ words.now.table_id) × (words.now.key.sizes ≡ sizes.now) × (seat.old.me.0.sizes ≡ sizes.now) × IsSized sizes.now × (all_words sizes.now ≤ words.now.table_id.words) × (slot < sizes.now.slots) }
+    requires table { FitsFree words.now.table_id words.now.key.sizes seat.old.table_id seat.old.me.0.sizes sizes.now slot }
     requires acts { (seat.old.me.0.kind ≡ of_participant) × (next < 2 ^ 30) }
-    requires held { (xs : List Garbage) × (w : Garbage) × (v : Garbage) × (ys : List Garbage) × (seat.old.me.0.waits ≡ xs ++ (w ∷ v ∷ ys)) × (w.slot ≡ next) × (v.slot ≡ slot) }
+    requires held { LieTogether seat.old.me.0.waits next slot }
     ensures seat { (seat.new.table_id ≡ seat.old.table_id) × (seat.new.id ≡ seat.old.id) }
-    ensures followed { (xs : List Garbage) (w v : Garbage) (ys : List Garbage) → seat.old.me.0.waits ≡ xs ++ (w ∷ v ∷ ys) → w.slot ≡ next → v.slot ≡ slot → seat.new.me ≡ (record seat.old.me.0 { waits = xs ++ (w ∷ record v { next = w.slot + 1 } ∷ ys) }, seat.old.me.1) }
+    ensures followed { IsFollowed seat.old.me.0.waits next slot (λ ws. seat.new.me ≡ with_waits ws seat.old.me) }
 {
     words.store::<OnFollow>(seat, link_word(sizes, slot), next as u64 + 1);
 }

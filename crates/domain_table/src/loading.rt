@@ -1,17 +1,14 @@
 //! Loading a cell under an open guard: the item that it names is leased, so that the guard reads it.
 
-ghost use Rattle.std.specs.Prelude.{◌≡◌, ℕ, ◌+◌, ◌-◌, ◌*◌, ◌^◌, ◌<◌, ◌≤◌, ◌∷◌, List, map, slice_index_or, true, IfSome, IfNone};
+ghost use Rattle.std.specs.Prelude.{◌≡◌, ℕ, ◌+◌, ◌-◌, ◌^◌, ◌<◌, ◌≤◌, ◌∷◌, List, slice_index_or, true, IfSome, IfNone};
 ghost use Rattle.std.specs.VecDeque.{deque_capacity, deque_len};
 ghost use Rattle.sdd_steps.specs.Steps.{is_inside};
-ghost use Rattle.atomic_table.specs.Table.{Me};
 ghost use Rattle.domain_table.specs.Outcomes.{KeepsOut};
-ghost use Rattle.domain_table.specs.Contents.{IsIn, is_blank};
-ghost use Rattle.domain_table.specs.Fitting.{FitsSizes};
+ghost use Rattle.domain_table.specs.Contents.{is_blank};
+ghost use Rattle.domain_table.specs.Fitting.{FitsSizes, FitsBoth};
 ghost use Rattle.domain_table.specs.Layout.{packed, cell_word, IsSized};
-ghost use Rattle.domain_table.specs.Leases.{row_told, lease_told, leased_homes, row_slots, all_below, has_all, HasLeased, HasNoted, HasRows, KeepsRows, WasLeased, WasLoaded, HasCode, IsFoundAs};
-ghost use Rattle.domain_table.specs.Plays.{with_step, HasLeasedAt, HasLoaded};
+ghost use Rattle.domain_table.specs.Leases.{leased_homes, row_slots, all_below, has_all, HasLeased, HasRows, KeepsRows, WasLeased, WasLoaded, HasCode, HasLeasedFound, IsRowOfFirst, NotesLeased, NotesLoaded};
 ghost use Rattle.sdd_homes.specs.declared.Owner.{Owner};
-ghost use Rattle.domain_table.specs.declared.board.Acting.{Acting};
 ghost use Rattle.domain_table.specs.declared.board.Home.{Home};
 ghost use Rattle.domain_table.specs.declared.row.Row.{Row};
 ghost use Rattle.sdd_plain.specs.Epochs.{tag_number};
@@ -63,7 +60,7 @@ fn note_slot<T, H: Holding<T>>(
     ensures view { seat.new.me.0 ≡ seat.old.me.0 }
     ensures row { result < deque_len rows.new }
     ensures slot { (d : Row T) → (slice_index_or rows.new.items result d).slot ≡ slot }
-    ensures noted { (m : Me (Home T) Acting) → HasLeasedAt (IsIn H.holds) m slot seat.old.me → map row_told rows.old.items ≡ map (lease_told life.now.id) m.0.leases → HasNoted m seat.new.me }
+    ensures noted { NotesLeased H.holds slot life.now.id rows.old.items seat.old.me seat.new.me }
     ensures rows { KeepsRows life.now.id sizes.now.slots seat.new.me.0.leases rows.new.items (deque_capacity rows.old) (deque_capacity rows.new) }
 {
     if let Some(at) = row_of(rows, slot) {
@@ -92,7 +89,7 @@ pub fn note_found<T, H: Holding<T>>(
     ensures seat { (seat.new.table_id ≡ seat.old.table_id) × (seat.new.id ≡ seat.old.id) }
     ensures row { IfSome result (λ at. at < deque_len rows.new) }
     ensures code { (y t c : ℕ) → y < 2 ^ 31 → t < 4 → word ≡ packed y t c → HasCode rows.new.items result c }
-    ensures noted { (m : Me (Home T) Acting) → HasLoaded (IsIn H.holds) m word seat.old.me → map row_told rows.old.items ≡ map (lease_told life.now.id) m.0.leases → HasNoted m seat.new.me }
+    ensures noted { NotesLoaded H.holds word life.now.id rows.old.items seat.old.me seat.new.me }
     ensures rows { KeepsRows life.now.id sizes.now.slots seat.new.me.0.leases rows.new.items (deque_capacity rows.old) (deque_capacity rows.new) }
 {
     let slot = slot_named(word)?;
@@ -110,13 +107,13 @@ pub fn lease<T, H: Holding<T>>(
     life: &Life,
     cell: usize,
 ) -> (Option<usize>, Tag)
-    requires table { FitsSizes words.now.table_id words.now.key.sizes seat.old.table_id seat.old.me.0.sizes sizes.now × (number < sizes.now.participants) × (cell < sizes.now.cells) }
+    requires table { FitsBoth words.now.table_id words.now.key.sizes seat.old.table_id seat.old.me.0.sizes sizes.now number cell }
     requires open { (seat.old.me.0.kind ≡ of_participant) × (seat.old.me.0.number ≡ number) × (is_inside seat.old.me.0.known ≡ true) }
     requires rows { HasRows life.now.id sizes.now.slots seat.old.me.0.leases rows.old.items (deque_capacity rows.old) }
     requires out { (k : ℕ) × (has_all is_blank (k ∷ leased_homes seat.old.me.0 seat.old.me.0.leases) seat.old.me.1 ≡ true) }
     ensures seat { (seat.new.table_id ≡ seat.old.table_id) × (seat.new.id ≡ seat.old.id) }
     ensures row { IfSome result.0 (λ at. at < deque_len rows.new) }
-    ensures loaded { (w : ℕ) × HasLeased (with_step (cell_word sizes.now cell) w w seat.old.me) seat.new.me × IsFoundAs w (tag_number result.1) rows.new.items result.0 }
+    ensures loaded { HasLeasedFound (cell_word sizes.now cell) (tag_number result.1) rows.new.items result.0 seat.old.me seat.new.me }
     ensures rows { KeepsRows life.now.id sizes.now.slots seat.new.me.0.leases rows.new.items (deque_capacity rows.old) (deque_capacity rows.new) }
     ensures out { KeepsOut seat.old.me seat.new.me }
 {
@@ -142,7 +139,7 @@ pub fn lease_own<T, H: Holding<T>>(
     requires rows { HasRows life.now.id sizes.now.slots seat.old.me.0.leases rows.old.items (deque_capacity rows.old) }
     ensures seat { (seat.new.table_id ≡ seat.old.table_id) × (seat.new.id ≡ seat.old.id) }
     ensures row { result < deque_len rows.new }
-    ensures round { (o : Owner) (os : List Owner) → seat.old.me.0.hand ≡ o ∷ os → (d : Row T) → (slice_index_or rows.new.items result d).lent.pledge.id ≡ o.round }
+    ensures round { IsRowOfFirst seat.old.me.0 rows.new.items result }
     ensures loaded { HasLeased seat.old.me seat.new.me }
     ensures rows { KeepsRows life.now.id sizes.now.slots seat.new.me.0.leases rows.new.items (deque_capacity rows.old) (deque_capacity rows.new) }
     ensures out { KeepsOut seat.old.me seat.new.me }

@@ -1,20 +1,21 @@
 //! Owners outside of calls: each has a seat of its own, which comes into the hand of a participant for a call.
 
-ghost use Rattle.std.specs.Prelude.{◌≡◌, ℕ, ◌+◌, ◌-◌, ◌*◌, ◌<◌, List, [], ◌∷◌, length, map, slice_index_or, true, IsSome, IfSome, IfNone, IsTrue, IsFalse};
+ghost use Rattle.std.specs.Prelude.{◌≡◌, ◌+◌, ◌-◌, ◌<◌, List, [], ◌∷◌, length, slice_index_or, true, IsSome, IfSome, IfNone, IsTrue, IsFalse};
 ghost use Rattle.sdd_steps.specs.State.{Has};
 ghost use Rattle.sdd_steps.specs.Steps.{is_ready};
 ghost use Rattle.std.specs.VecDeque.{deque_capacity, deque_len};
 ghost use Rattle.sdd_homes.specs.declared.Lease.{Lease};
 ghost use Rattle.sdd_homes.specs.declared.Owner.{Owner};
-ghost use Rattle.sdd_homes.specs.Book.{Lends, Apart, part};
-ghost use Rattle.domain_table.specs.Outcomes.{PutsBack};
+ghost use Rattle.sdd_homes.specs.Book.{Lends, Apart};
+ghost use Rattle.domain_table.specs.Outcomes.{PutsBack, ClonesAt};
 ghost use Rattle.domain_table.specs.Contents.{IsIn};
 ghost use Rattle.domain_table.specs.Fitting.{FitsSizes};
-ghost use Rattle.domain_table.specs.Leases.{row_told, lease_told, row_slots, all_below, IsFirst, HasReleased, HasEmptied, HasClonedOne, HasOwned};
+ghost use Rattle.domain_table.specs.Leases.{row_slots, IsFirst, HasReleased, HasClonedOne, HasOwned, AreRowsOf, HasReleasedOne, StayRowsOf};
 ghost use Rattle.domain_table.specs.declared.row.Row.{Row};
 ghost use Rattle.domain_table.specs.Views.{of_participant, spent, holding};
-ghost use Rattle.domain_table.specs.Plays.{others_in, first_in, joined_by, cloning, IsAlike, MayNote};
+ghost use Rattle.domain_table.specs.Plays.{others_in, first_in, joined_by, IsAlike, MayNote, with_hand};
 ghost use Rattle.domain_table.specs.declared.board.Home.{Home};
+ghost use Rattle.domain_table.specs.Readiness.{CanPutBack, CanRelease, CanStep};
 
 use crate::aim::Aim;
 use crate::board::{Acting, Home, Seat, Stored, Words};
@@ -65,7 +66,7 @@ pub fn take_in<T, H: Holding<T>>(words: &Words<T, H>, seat: &mut Seat<T>, owner:
     requires ready { seat.old.me.0.kind ≡ of_participant }
     requires owner { (o : Owner) × (owner.badge.views ≡ holding o ∷ []) }
     ensures seat { (seat.new.table_id ≡ seat.old.table_id) × (seat.new.id ≡ seat.old.id) }
-    ensures taken { (o : Owner) → owner.badge.views ≡ holding o ∷ [] → seat.new.me ≡ (record seat.old.me.0 { hand = o ∷ seat.old.me.0.hand }, seat.old.me.1) }
+    ensures taken { (o : Owner) → owner.badge.views ≡ holding o ∷ [] → seat.new.me ≡ with_hand (o ∷ seat.old.me.0.hand) seat.old.me }
 {
     words.join_seat::<Coming>(seat, owner.into_badge().into_seat());
 }
@@ -82,7 +83,7 @@ pub fn release_home<T, H: Holding<T>, A: Aim>(
     owner: One<Stored<T>>,
 ) -> u64
     requires table { FitsSizes words.now.table_id words.now.key.sizes seat.old.table_id seat.old.me.0.sizes sizes.now × (number < sizes.now.participants) }
-    requires ready { (seat.old.me.0.kind ≡ of_participant) × (seat.old.me.0.number ≡ number) × (is_ready seat.old.me.0.known ≡ true) × (seat.old.me.0.releasing ≡ 0) }
+    requires ready { CanRelease number seat.old.me.0 }
     requires may { MayNote (A.to seat.old.me.0.known) seat.old.me.0.known }
     requires owner { IsFirst seat.old.me.0 slot owner.part.life.id × IsSome owner.part.seen.value }
     requires free { ¬ Lends seat.old.me.0.leases slot }
@@ -110,16 +111,16 @@ fn release_leased<T, H: Holding<T>, A: Aim>(
     owner: One<Stored<T>>,
 ) -> u64
     requires table { FitsSizes words.now.table_id words.now.key.sizes seat.old.table_id seat.old.me.0.sizes sizes.now }
-    requires ready { (seat.old.me.0.kind ≡ of_participant) × (is_ready seat.old.me.0.known ≡ true) × (seat.old.me.0.releasing ≡ 0) }
+    requires ready { CanStep seat.old.me.0 }
     requires may { MayNote (A.to seat.old.me.0.known) seat.old.me.0.known }
     requires owner { IsFirst seat.old.me.0 slot owner.part.life.id × IsSome owner.part.seen.value }
-    requires rows { ((life : ℕ) × (map row_told rows.old.items ≡ map (lease_told life) seat.old.me.0.leases)) × (all_below sizes.now.slots (row_slots rows.old.items) ≡ true) }
+    requires rows { AreRowsOf sizes.now.slots seat.old.me.0.leases rows.old.items }
     requires row { (at < deque_len rows.old) × ((d : Row T) → (slice_index_or rows.old.items at d).slot ≡ slot) }
     ensures seat { (seat.new.table_id ≡ seat.old.table_id) × (seat.new.id ≡ seat.old.id) }
     ensures low { slot < sizes.now.slots }
     ensures bag_room { length seat.old.me.0.collected < sizes.now.slots }
-    ensures released { (ls : List Lease) × (map (λ (l : Lease). l.slot) ls ≡ map (λ (l : Lease). l.slot) seat.old.me.0.leases) × HasReleased A.to slot result seat.old.me ls seat.new.me }
-    ensures rows { (life : ℕ) → map row_told rows.old.items ≡ map (lease_told life) seat.old.me.0.leases → map row_told rows.new.items ≡ map (lease_told life) seat.new.me.0.leases }
+    ensures released { HasReleasedOne A.to slot result seat.old.me seat.new.me }
+    ensures rows { StayRowsOf seat.old.me.0.leases rows.old.items seat.new.me.0.leases rows.new.items }
     ensures same { (deque_capacity rows.new ≡ deque_capacity rows.old) × (row_slots rows.new.items ≡ row_slots rows.old.items) }
 {
     let left = cells::release_owner::<T, H, A>(words, seat, sizes, slot);
@@ -142,15 +143,15 @@ pub fn release<T, H: Holding<T>, A: Aim>(
     owner: One<Stored<T>>,
 ) -> u64
     requires table { FitsSizes words.now.table_id words.now.key.sizes seat.old.table_id seat.old.me.0.sizes sizes.now × (number < sizes.now.participants) }
-    requires ready { (seat.old.me.0.kind ≡ of_participant) × (seat.old.me.0.number ≡ number) × (is_ready seat.old.me.0.known ≡ true) × (seat.old.me.0.releasing ≡ 0) }
+    requires ready { CanRelease number seat.old.me.0 }
     requires may { MayNote (A.to seat.old.me.0.known) seat.old.me.0.known }
     requires owner { IsFirst seat.old.me.0 slot owner.part.life.id × IsSome owner.part.seen.value }
-    requires rows { ((life : ℕ) × (map row_told rows.old.items ≡ map (lease_told life) seat.old.me.0.leases)) × (all_below sizes.now.slots (row_slots rows.old.items) ≡ true) }
+    requires rows { AreRowsOf sizes.now.slots seat.old.me.0.leases rows.old.items }
     ensures seat { (seat.new.table_id ≡ seat.old.table_id) × (seat.new.id ≡ seat.old.id) }
     ensures low { slot < sizes.now.slots }
     ensures bag_room { length seat.old.me.0.collected < sizes.now.slots }
-    ensures released { (ls : List Lease) × (map (λ (l : Lease). l.slot) ls ≡ map (λ (l : Lease). l.slot) seat.old.me.0.leases) × HasReleased A.to slot result seat.old.me ls seat.new.me }
-    ensures rows { (life : ℕ) → map row_told rows.old.items ≡ map (lease_told life) seat.old.me.0.leases → map row_told rows.new.items ≡ map (lease_told life) seat.new.me.0.leases }
+    ensures released { HasReleasedOne A.to slot result seat.old.me seat.new.me }
+    ensures rows { StayRowsOf seat.old.me.0.leases rows.old.items seat.new.me.0.leases rows.new.items }
     ensures same { (deque_capacity rows.new ≡ deque_capacity rows.old) × (row_slots rows.new.items ≡ row_slots rows.old.items) }
 {
     match row_of(rows, slot) {
@@ -174,7 +175,7 @@ fn raise_owners<T, H: Holding<T>>(
     requires leased { (l : Lease) × Has seat.old.me.0.leases l × (l.slot ≡ slot) × (l.count ≡ parts) }
     ensures seat { (seat.new.table_id ≡ seat.old.table_id) × (seat.new.id ≡ seat.old.id) }
     ensures many { IsTrue result → 1 < parts }
-    ensures raised { IsTrue result → (l : Lease) → Has seat.old.me.0.leases l → l.slot ≡ slot → seat.new.me ≡ (cloning l seat.old.me.0, seat.old.me.1) }
+    ensures raised { IsTrue result → ClonesAt slot seat.old.me seat.new.me }
     ensures refused { IsFalse result → seat.new.me ≡ seat.old.me }
     ensures alike { IsTrue result → (l : Lease) → Has seat.old.me.0.leases l → l.slot ≡ slot → Apart seat.old.me.0.leases × IsAlike l seat.old.me.0 }
 {
@@ -197,7 +198,7 @@ fn raise_owners<T, H: Holding<T>>(
 /// stay.
 fn put_back<T, H: Holding<T>>(words: &Words<T, H>, seat: &mut Seat<T>, home: usize, parts: Home<T>)
     requires table { (seat.old.table_id ≡ words.now.table_id) × (0 < words.now.table_id.words) × (seat.old.me.0.kind ≡ of_participant) }
-    requires out { (l : Lease) × (ls : List Lease) × (tail : List (ℕ × Home T)) × HasEmptied seat.old.me home l ls tail × IsIn H.holds (part l.round l.count) parts }
+    requires out { CanPutBack (IsIn H.holds) seat.old.me home parts }
     ensures seat { (seat.new.table_id ≡ seat.old.table_id) × (seat.new.id ≡ seat.old.id) }
     ensures kept { PutsBack (IsIn H.holds) seat.old.me home parts seat.new.me }
 {
@@ -215,7 +216,7 @@ fn clone_home<T, H: Holding<T>>(
     slot: usize,
 ) -> Option<One<Stored<T>>>
     requires table { FitsSizes words.now.table_id words.now.key.sizes seat.old.table_id seat.old.me.0.sizes sizes.now × (number < sizes.now.participants) }
-    requires ready { (seat.old.me.0.kind ≡ of_participant) × (seat.old.me.0.number ≡ number) × (is_ready seat.old.me.0.known ≡ true) × (seat.old.me.0.releasing ≡ 0) }
+    requires ready { CanRelease number seat.old.me.0 }
     requires owner { (o : Owner) × (os : List Owner) × (seat.old.me.0.hand ≡ o ∷ os) × (o.slot ≡ slot) }
     requires free { ¬ Lends seat.old.me.0.leases slot }
     ensures seat { (seat.new.table_id ≡ seat.old.table_id) × (seat.new.id ≡ seat.old.id) }
@@ -247,13 +248,13 @@ fn own_at<T, H: Holding<T>>(
 ) -> Option<One<Stored<T>>>
     requires table { FitsSizes words.now.table_id words.now.key.sizes seat.old.table_id seat.old.me.0.sizes sizes.now }
     requires ready { (seat.old.me.0.kind ≡ of_participant) × (is_ready seat.old.me.0.known ≡ true) }
-    requires rows { ((life : ℕ) × (map row_told rows.old.items ≡ map (lease_told life) seat.old.me.0.leases)) × (all_below sizes.now.slots (row_slots rows.old.items) ≡ true) }
+    requires rows { AreRowsOf sizes.now.slots seat.old.me.0.leases rows.old.items }
     requires row { (at < deque_len rows.old) × ((d : Row T) → (slice_index_or rows.old.items at d).slot ≡ slot) }
     ensures seat { (seat.new.table_id ≡ seat.old.table_id) × (seat.new.id ≡ seat.old.id) }
     ensures owned { IfSome result (λ p. HasOwned slot p.part.life.id seat.old.me seat.new.me) }
     ensures there { IfSome result (λ p. IsSome p.part.seen.value × (slot < sizes.now.slots)) }
     ensures refused { IfNone result (seat.new.me ≡ seat.old.me) }
-    ensures rows { (life : ℕ) → map row_told rows.old.items ≡ map (lease_told life) seat.old.me.0.leases → map row_told rows.new.items ≡ map (lease_told life) seat.new.me.0.leases }
+    ensures rows { StayRowsOf seat.old.me.0.leases rows.old.items seat.new.me.0.leases rows.new.items }
     ensures same { (deque_capacity rows.new ≡ deque_capacity rows.old) × (row_slots rows.new.items ≡ row_slots rows.old.items) }
 {
     let parts = rows[at].count;
@@ -276,12 +277,12 @@ pub fn own_leased<T, H: Holding<T>>(
 ) -> Option<One<Stored<T>>>
     requires table { FitsSizes words.now.table_id words.now.key.sizes seat.old.table_id seat.old.me.0.sizes sizes.now }
     requires ready { (seat.old.me.0.kind ≡ of_participant) × (is_ready seat.old.me.0.known ≡ true) }
-    requires rows { ((life : ℕ) × (map row_told rows.old.items ≡ map (lease_told life) seat.old.me.0.leases)) × (all_below sizes.now.slots (row_slots rows.old.items) ≡ true) }
+    requires rows { AreRowsOf sizes.now.slots seat.old.me.0.leases rows.old.items }
     ensures seat { (seat.new.table_id ≡ seat.old.table_id) × (seat.new.id ≡ seat.old.id) }
     ensures owned { IfSome result (λ p. HasOwned slot p.part.life.id seat.old.me seat.new.me) }
     ensures there { IfSome result (λ p. IsSome p.part.seen.value × (slot < sizes.now.slots)) }
     ensures refused { IfNone result (seat.new.me ≡ seat.old.me) }
-    ensures rows { (life : ℕ) → map row_told rows.old.items ≡ map (lease_told life) seat.old.me.0.leases → map row_told rows.new.items ≡ map (lease_told life) seat.new.me.0.leases }
+    ensures rows { StayRowsOf seat.old.me.0.leases rows.old.items seat.new.me.0.leases rows.new.items }
     ensures same { (deque_capacity rows.new ≡ deque_capacity rows.old) × (row_slots rows.new.items ≡ row_slots rows.old.items) }
 {
     own_at(words, seat, sizes, rows, row_of(rows, slot)?, slot)
@@ -298,13 +299,13 @@ fn clone_by_row<T, H: Holding<T>>(
     slot: usize,
 ) -> Option<One<Stored<T>>>
     requires table { FitsSizes words.now.table_id words.now.key.sizes seat.old.table_id seat.old.me.0.sizes sizes.now × (number < sizes.now.participants) }
-    requires ready { (seat.old.me.0.kind ≡ of_participant) × (seat.old.me.0.number ≡ number) × (is_ready seat.old.me.0.known ≡ true) × (seat.old.me.0.releasing ≡ 0) }
+    requires ready { CanRelease number seat.old.me.0 }
     requires owner { (o : Owner) × (os : List Owner) × (seat.old.me.0.hand ≡ o ∷ os) × (o.slot ≡ slot) }
-    requires rows { ((life : ℕ) × (map row_told rows.old.items ≡ map (lease_told life) seat.old.me.0.leases)) × (all_below sizes.now.slots (row_slots rows.old.items) ≡ true) }
+    requires rows { AreRowsOf sizes.now.slots seat.old.me.0.leases rows.old.items }
     ensures seat { (seat.new.table_id ≡ seat.old.table_id) × (seat.new.id ≡ seat.old.id) }
     ensures cloned { IfSome result (λ p. HasClonedOne seat.old.me p.part.life.id seat.new.me) }
     ensures refused { IfNone result (seat.new.me ≡ seat.old.me) }
-    ensures rows { (life : ℕ) → map row_told rows.old.items ≡ map (lease_told life) seat.old.me.0.leases → map row_told rows.new.items ≡ map (lease_told life) seat.new.me.0.leases }
+    ensures rows { StayRowsOf seat.old.me.0.leases rows.old.items seat.new.me.0.leases rows.new.items }
     ensures same { (deque_capacity rows.new ≡ deque_capacity rows.old) × (row_slots rows.new.items ≡ row_slots rows.old.items) }
 {
     match row_of(rows, slot) {
@@ -325,13 +326,13 @@ pub fn clone<T, H: Holding<T>>(
     misses: &mut Tally,
 ) -> Option<One<Stored<T>>>
     requires table { FitsSizes words.now.table_id words.now.key.sizes seat.old.table_id seat.old.me.0.sizes sizes.now × (number < sizes.now.participants) }
-    requires ready { (seat.old.me.0.kind ≡ of_participant) × (seat.old.me.0.number ≡ number) × (is_ready seat.old.me.0.known ≡ true) × (seat.old.me.0.releasing ≡ 0) }
+    requires ready { CanRelease number seat.old.me.0 }
     requires owner { (o : Owner) × (os : List Owner) × (seat.old.me.0.hand ≡ o ∷ os) × (o.slot ≡ slot) }
-    requires rows { ((life : ℕ) × (map row_told rows.old.items ≡ map (lease_told life) seat.old.me.0.leases)) × (all_below sizes.now.slots (row_slots rows.old.items) ≡ true) }
+    requires rows { AreRowsOf sizes.now.slots seat.old.me.0.leases rows.old.items }
     ensures seat { (seat.new.table_id ≡ seat.old.table_id) × (seat.new.id ≡ seat.old.id) }
     ensures cloned { IfSome result (λ p. HasClonedOne seat.old.me p.part.life.id seat.new.me) }
     ensures refused { IfNone result (seat.new.me ≡ seat.old.me) }
-    ensures rows { (life : ℕ) → map row_told rows.old.items ≡ map (lease_told life) seat.old.me.0.leases → map row_told rows.new.items ≡ map (lease_told life) seat.new.me.0.leases }
+    ensures rows { StayRowsOf seat.old.me.0.leases rows.old.items seat.new.me.0.leases rows.new.items }
     ensures same { (deque_capacity rows.new ≡ deque_capacity rows.old) × (row_slots rows.new.items ≡ row_slots rows.old.items) }
     ensures hit { IfSome result (λ p. misses.new.count ≡ misses.old.count) }
     ensures missed { IfNone result (misses.new.count ≡ misses.old.count + 1) }

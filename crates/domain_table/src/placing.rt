@@ -1,16 +1,16 @@
 //! Placing an item: a free slot is claimed, the homes of the participants get their parts, and the item is in the slot.
 
-ghost use Rattle.std.specs.Prelude.{◌≡◌, ℕ, ◌+◌, ◌-◌, ◌*◌, ◌^◌, ◌<◌, ◌≤◌, map, true, None, Some, IsSome, IsSomeAnd, IfSome, IfNone, OnSome, IfOk, IfErr, OnOk, OnErr};
+ghost use Rattle.std.specs.Prelude.{◌≡◌, ℕ, ◌+◌, ◌-◌, ◌*◌, ◌^◌, ◌<◌, ◌≤◌, map, None, Some, IsSome, IsSomeAnd, IfSome, IfNone, OnSome, IfOk, IfErr, OnOk, OnErr};
 ghost use Rattle.std.specs.Mem.{manually_drop_value};
 ghost use Rattle.atomic_table.specs.Table.{rest};
-ghost use Rattle.sdd_steps.specs.Steps.{is_ready};
 ghost use Rattle.sdd_homes.specs.declared.Filling.{Filling};
-ghost use Rattle.domain_table.specs.Outcomes.{CanClaim, CanPlaceItem, FillsAll, FillsAt, HasPlacedItem};
+ghost use Rattle.domain_table.specs.Outcomes.{CanClaim, CanPlaceItem, FillsAll, FillsAt, FillsNext, HasPlacedOne};
 ghost use Rattle.domain_table.specs.Fitting.{FitsFree, FitsSearch, FitsTaken};
 ghost use Rattle.domain_table.specs.Contents.{IsIn};
 ghost use Rattle.domain_table.specs.Owners.{told};
-ghost use Rattle.domain_table.specs.Plays.{HasClaimed, IsJustClaimed, filling_at, next_filled, placing};
+ghost use Rattle.domain_table.specs.Plays.{HasClaimed, IsJustClaimed, placing};
 ghost use Rattle.domain_table.specs.Views.{of_participant};
+ghost use Rattle.domain_table.specs.Readiness.{CanPutItem};
 
 use crate::board::{Home, Seat, Stored, Words};
 use crate::holding::Holding;
@@ -46,7 +46,7 @@ fn fill_home<T, H: Holding<T>>(
     requires filling { FillsAt seat.old.me at sizes.now.participants all.old.life.count all.old.life.id }
     requires parts { (0 < count) × (count < all.old.life.count) × (all.old.life.count ≤ 2 ^ 63) × IsSome all.old.seen.value }
     ensures seat { (seat.new.table_id ≡ seat.old.table_id) × (seat.new.id ≡ seat.old.id) }
-    ensures filled { (f : Filling) → seat.old.me.0.filling ≡ Some f → seat.new.me ≡ (filling_at slot (next_filled seat.old.me.0 all.old.life.id count f) seat.old.me.0, seat.old.me.1) }
+    ensures filled { FillsNext slot all.old.life.id count seat.old.me seat.new.me }
     ensures rest { (all.new.seen ≡ all.old.seen) × (all.new.life ≡ record all.old.life { count = all.old.life.count - count }) }
 {
     slots::take_next(words, seat);
@@ -94,7 +94,7 @@ fn place_at<T, H: Holding<T>>(
     item: T,
 ) -> One<Stored<T>>
     requires table { FitsFree words.now.table_id words.now.key.sizes seat.old.table_id seat.old.me.0.sizes sizes.now slot }
-    requires ready { (seat.old.me.0.kind ≡ of_participant) × (is_ready seat.old.me.0.known ≡ true) × (seat.old.me.0.releasing ≡ 0) × (H.holds item ≡ map told seat.old.me.0.hand) }
+    requires ready { CanPutItem H.holds item seat.old.me.0 }
     requires claimed { IsJustClaimed (IsIn H.holds) seat.old.me slot }
     ensures seat { (seat.new.table_id ≡ seat.old.table_id) × (seat.new.id ≡ seat.old.id) }
     ensures placed { (i : ℕ) × (f : Filling) × (f.round ≡ result.part.life.id) × (seat.new.me ≡ (placing i f seat.old.me.0, rest seat.old.me.1)) }
@@ -149,7 +149,7 @@ pub fn place_item<T, H: Holding<T>>(
     requires table { FitsSearch words.now.table_id words.now.key.sizes seat.old.table_id seat.old.me.0.sizes sizes.now from }
     requires ready { CanPlaceItem H.holds item seat.old.me.0 }
     ensures seat { (seat.new.table_id ≡ seat.old.table_id) × (seat.new.id ≡ seat.old.id) }
-    ensures placed { IfOk result (λ t. HasPlacedItem item sizes.now.slots t.0 t.1.part.life.id t.1.part.seen.value seat.old.me seat.new.me) }
+    ensures placed { IfOk result (λ t. HasPlacedOne item sizes.now.slots t seat.old.me seat.new.me) }
     ensures refused { IfErr result (λ back. (back ≡ item) × (seat.new.me ≡ seat.old.me)) }
     ensures hit { OnOk result (misses.new.count ≡ misses.old.count) }
     ensures missed { OnErr result (misses.new.count ≡ misses.old.count + 1) }
@@ -175,7 +175,7 @@ pub fn place_made<T, H: Holding<T>, F: FnOnce() -> T + Drop>(
     requires callable { F.pre make }
     requires holds { (item : T) → F.post make item → H.holds item ≡ map told seat.old.me.0.hand }
     ensures seat { (seat.new.table_id ≡ seat.old.table_id) × (seat.new.id ≡ seat.old.id) }
-    ensures placed { IfOk result (λ t. (item : T) × F.post make item × HasPlacedItem item sizes.now.slots t.0 t.1.part.life.id t.1.part.seen.value seat.old.me seat.new.me) }
+    ensures placed { IfOk result (λ t. (item : T) × F.post make item × HasPlacedOne item sizes.now.slots t seat.old.me seat.new.me) }
     ensures refused { OnErr result (seat.new.me ≡ seat.old.me) }
     ensures hit { OnOk result (misses.new.count ≡ misses.old.count) }
     ensures missed { OnErr result (misses.new.count ≡ misses.old.count + 1) }

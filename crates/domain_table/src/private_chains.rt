@@ -1,14 +1,12 @@
 //! Private bags as chains: the same steps on link words as those of the bags of a participant (`links`, `bags`), on what is in
 //! the private bag that is at the participant's seat.
 
-ghost use Rattle.std.specs.Prelude.{◌≡◌, ◌∷◌, ◌++◌, ◌+◌, ◌<◌, ◌≤◌, ◌^◌, [], List, None, IfSome, IfNone};
-ghost use Rattle.sdd_homes.specs.declared.Garbage.{Garbage};
-ghost use Rattle.domain_table.specs.Bags.{IsBag, AreAlike};
+ghost use Rattle.std.specs.Prelude.{◌≡◌, ◌+◌, ◌<◌, ◌^◌, None, IfSome, IfNone};
 ghost use Rattle.domain_table.specs.Chains.{AllBelow};
-ghost use Rattle.domain_table.specs.Fitting.{FitsSizes};
-ghost use Rattle.domain_table.specs.Layout.{all_words, IsSized};
-ghost use Rattle.domain_table.specs.Plays.{follow_noted_then};
+ghost use Rattle.domain_table.specs.Fitting.{FitsSizes, FitsFree};
+ghost use Rattle.domain_table.specs.Plays.{follow_noted_then, with_collected};
 ghost use Rattle.domain_table.specs.Views.{of_participant};
+ghost use Rattle.domain_table.specs.Bags.{IsFollowed, IsJoined, LieInFront, LieTogether, LiesBehind, LosesOldest};
 
 use crate::bags::Ends;
 use crate::board::{Acting, Home, Seat, Words};
@@ -32,11 +30,11 @@ fn follow_noted<T, H: Holding<T>>(
     slot: usize,
     next: usize,
 )
-    requires table { (seat.old.table_id ≡ words.now.table_id) × (words.now.key.sizes ≡ sizes.now) × (seat.old.me.0.sizes ≡ sizes.now) × IsSized sizes.now × (all_words sizes.now ≤ words.now.table_id.words) × (slot < sizes.now.slots) }
+    requires table { FitsFree words.now.table_id words.now.key.sizes seat.old.table_id seat.old.me.0.sizes sizes.now slot }
     requires acts { (seat.old.me.0.kind ≡ of_participant) × (next < 2 ^ 30) }
-    requires held { (xs : List Garbage) × (w : Garbage) × (v : Garbage) × (ys : List Garbage) × (seat.old.me.0.collected ≡ xs ++ (w ∷ v ∷ ys)) × (w.slot ≡ next) × (v.slot ≡ slot) }
+    requires held { LieTogether seat.old.me.0.collected next slot }
     ensures seat { (seat.new.table_id ≡ seat.old.table_id) × (seat.new.id ≡ seat.old.id) }
-    ensures followed { (xs : List Garbage) (w v : Garbage) (ys : List Garbage) → seat.old.me.0.collected ≡ xs ++ (w ∷ v ∷ ys) → w.slot ≡ next → v.slot ≡ slot → seat.new.me ≡ (record seat.old.me.0 { collected = xs ++ (w ∷ record v { next = w.slot + 1 } ∷ ys) }, seat.old.me.1) }
+    ensures followed { IsFollowed seat.old.me.0.collected next slot (λ ws. seat.new.me ≡ with_collected ws seat.old.me) }
 {
     words.store::<OnFollowNoted>(seat, link_word(sizes, slot), next as u64 + 1);
 }
@@ -52,10 +50,9 @@ pub fn join_noted<T, H: Holding<T>>(
 ) -> Option<Ends>
     requires table { FitsSizes words.now.table_id words.now.key.sizes seat.old.table_id seat.old.me.0.sizes sizes.now }
     requires acts { (seat.old.me.0.kind ≡ of_participant) × AllBelow sizes.now.slots seat.old.me.0.collected }
-    requires bags { (fs : List Garbage) × (bs : List Garbage) × (rest : List Garbage) × (seat.old.me.0.collected ≡ fs ++ (bs ++ rest)) × IsBag fs newer × IsBag bs older }
+    requires bags { LieInFront seat.old.me.0.collected newer older }
     ensures seat { (seat.new.table_id ≡ seat.old.table_id) × (seat.new.id ≡ seat.old.id) }
-    ensures joined { (fs bs rest : List Garbage) → seat.old.me.0.collected ≡ fs ++ (bs ++ rest) → IsBag fs newer → IsBag bs older
-        → (cs : List Garbage) × AreAlike bs cs × IsBag (fs ++ cs) result × (seat.new.me ≡ (record seat.old.me.0 { collected = fs ++ (cs ++ rest) }, seat.old.me.1)) }
+    ensures joined { IsJoined seat.old.me.0.collected newer older result (λ ws. seat.new.me ≡ with_collected ws seat.old.me) }
 {
     let Some(behind) = newer else {
         return older;
@@ -79,10 +76,10 @@ pub fn take_noted<T, H: Holding<T>>(
 ) -> (Option<usize>, Option<Ends>)
     requires table { FitsSizes words.now.table_id words.now.key.sizes seat.old.table_id seat.old.me.0.sizes sizes.now }
     requires acts { (seat.old.me.0.kind ≡ of_participant) × AllBelow sizes.now.slots seat.old.me.0.collected }
-    requires bag { (ps : List Garbage) × (cs : List Garbage) × (seat.old.me.0.collected ≡ ps ++ cs) × IsBag cs bag }
+    requires bag { LiesBehind seat.old.me.0.collected bag }
     ensures seat { (seat.new.table_id ≡ seat.old.table_id) × (seat.new.id ≡ seat.old.id) × (seat.new.me ≡ seat.old.me) }
     ensures none { IfNone result.0 ((bag ≡ None) × (result.1 ≡ None)) }
-    ensures taken { IfSome result.0 (λ slot. (ps cs : List Garbage) → seat.old.me.0.collected ≡ ps ++ cs → IsBag cs bag → (ds : List Garbage) × (w : Garbage) × (cs ≡ ds ++ w ∷ []) × (w.slot ≡ slot) × IsBag ds result.1) }
+    ensures taken { IfSome result.0 (λ slot. LosesOldest seat.old.me.0.collected bag slot result.1) }
 {
     let Some(ends) = bag else {
         return (None, None);

@@ -1,11 +1,12 @@
 //! A scan: whether the count may be raised, and its raise.
 
-ghost use Rattle.std.specs.Prelude.{◌≡◌, ◌≢◌, ◌⊎◌, ℕ, ◌-◌, ◌^◌, ◌<◌, IsTrue, cond, is_some};
+ghost use Rattle.std.specs.Prelude.{◌≡◌, ◌≢◌, ℕ, ◌-◌, ◌^◌, ◌<◌, IsTrue, cond, is_some};
 ghost use Rattle.sdd_plain.specs.Locals.{closings_after, scans};
 ghost use Rattle.sdd_steps.specs.State.{Has};
 ghost use Rattle.domain_table.specs.Fitting.{HasEpochs, FitsSizes};
 ghost use Rattle.domain_table.specs.Ledgers.{WaitsIn};
 ghost use Rattle.domain_table.specs.Plays.{Steady, SteadyButWaits, Scans};
+ghost use Rattle.domain_table.specs.Scanning.{ScansOn, ScansOnButWaits, ScansUnderLock};
 
 use crate::bags::Bags;
 use crate::board::{Seat, Words};
@@ -26,7 +27,7 @@ fn all_agree<T, H: Holding<T>>(
     requires table { HasEpochs words.now.table_id words.now.key.sizes seat.old.table_id participants }
     requires open { Scans seat.old number epoch 2 }
     requires below { epoch < 2 ^ 64 - 1 }
-    ensures seat { (seat.new.table_id ≡ seat.old.table_id) × (seat.new.id ≡ seat.old.id) × Steady seat.old.me seat.new.me × Scans seat.new number epoch 2 }
+    ensures seat { ScansOn seat.old seat.new number epoch 2 }
     ensures noted { IsTrue result → (q : ℕ) → q < participants → q ≢ number → Has seat.new.me.0.known.looked q }
 {
     for other in 0..participants {
@@ -49,7 +50,7 @@ fn raise_if_all_agree<T, H: Holding<T>>(
     requires table { HasEpochs words.now.table_id words.now.key.sizes seat.old.table_id participants }
     requires open { Scans seat.old number epoch 1 }
     ensures seat { (seat.new.table_id ≡ seat.old.table_id) × (seat.new.id ≡ seat.old.id) × Steady seat.old.me seat.new.me }
-    ensures stage { Scans seat.new number epoch 1 ⊎ Scans seat.new number epoch 2 }
+    ensures stage { ScansUnderLock seat.new number epoch }
 {
     if epoch == u64::MAX || !is_present(words, seat, number, epoch) {
         return;
@@ -75,7 +76,7 @@ fn scan<T, H: Holding<T>>(
     requires table { FitsSizes words.now.table_id words.now.key.sizes seat.old.table_id seat.old.me.0.sizes sizes.now }
     requires open { Scans seat.old number epoch 0 }
     requires waits { WaitsIn sizes.now.slots seat.old.me.0.waits bags.old }
-    ensures seat { (seat.new.table_id ≡ seat.old.table_id) × (seat.new.id ≡ seat.old.id) × SteadyButWaits seat.old.me seat.new.me × Scans seat.new number epoch 0 }
+    ensures seat { ScansOnButWaits seat.old seat.new number epoch 0 }
     ensures waits { WaitsIn sizes.now.slots seat.new.me.0.waits bags.new }
     ensures due { bags.new.due ≡ bags.old.due }
 {

@@ -5,13 +5,13 @@
 //! cell. So all of it may be reclaimed once its own guard is open, and no raise of the count is needed for that.
 
 ghost use Rattle.std.specs.Prelude.{◌≡◌, ◌≢◌, ℕ, ◌<◌, ◌≤◌, List, IsTrue, IsFalse, None};
-ghost use Rattle.sdd_homes.specs.declared.Garbage.{Garbage};
 ghost use Rattle.sdd_steps.specs.State.{Has};
 ghost use Rattle.sdd_steps.specs.declared.participant.Phase.TheVariants.{HasRead};
 ghost use Rattle.domain_table.specs.Fitting.{FitsNumber, HasEpochs, HasEpochOf};
 ghost use Rattle.domain_table.specs.Ledgers.{WaitsIn};
-ghost use Rattle.domain_table.specs.Plays.{shut_then, settle_then};
+ghost use Rattle.domain_table.specs.Plays.{shut_then, settle_then, with_known, with_looks};
 ghost use Rattle.domain_table.specs.Views.{of_participant, looking, settling};
+ghost use Rattle.domain_table.specs.Scanning.{LooksAt, LooksAtAll, Settles};
 
 use crate::bags::Bags;
 use crate::board::{Acting, Home, Seat, Words};
@@ -37,7 +37,7 @@ fn is_shut<T, H: Holding<T>>(words: &Words<T, H>, seat: &mut Seat<T>, other: usi
     requires table { HasEpochOf words.now.table_id words.now.key.sizes seat.old.table_id other }
     requires read { (seat.old.me.0.kind ≡ of_participant) × (seat.old.me.0.number ≢ other) × ((e : ℕ) × (seat.old.me.0.known.phase ≡ HasRead e)) }
     ensures seat { (seat.new.table_id ≡ seat.old.table_id) × (seat.new.id ≡ seat.old.id) }
-    ensures noted { IsTrue result → seat.new.me ≡ (record seat.old.me.0 { known = looking other seat.old.me.0.known }, seat.old.me.1) }
+    ensures noted { IsTrue result → seat.new.me ≡ with_known (looking other seat.old.me.0.known) seat.old.me }
     ensures not_noted { IsFalse result → seat.new.me ≡ seat.old.me }
 {
     let found = words.load::<OnShut>(seat, STRIDE * other + STATE);
@@ -54,7 +54,7 @@ fn passes<T, H: Holding<T>>(
     requires table { HasEpochOf words.now.table_id words.now.key.sizes seat.old.table_id other }
     requires read { (seat.old.me.0.kind ≡ of_participant) × (seat.old.me.0.number ≡ number) × ((e : ℕ) × (seat.old.me.0.known.phase ≡ HasRead e)) }
     ensures seat { (seat.new.table_id ≡ seat.old.table_id) × (seat.new.id ≡ seat.old.id) }
-    ensures looked { (ls : List ℕ) × (seat.new.me ≡ (record seat.old.me.0 { known = record seat.old.me.0.known { looked = ls } }, seat.old.me.1)) × (IsTrue result → other ≢ number → Has ls other) × ((q : ℕ) → Has seat.old.me.0.known.looked q → Has ls q) }
+    ensures looked { LooksAt number other result seat.old.me seat.new.me }
 {
     if other == number {
         return true;
@@ -76,7 +76,7 @@ fn all_shut<T, H: Holding<T>>(
     requires table { HasEpochs words.now.table_id words.now.key.sizes seat.old.table_id participants }
     requires read { (seat.old.me.0.kind ≡ of_participant) × (seat.old.me.0.number ≡ number) × ((e : ℕ) × (seat.old.me.0.known.phase ≡ HasRead e)) }
     ensures seat { (seat.new.table_id ≡ seat.old.table_id) × (seat.new.id ≡ seat.old.id) }
-    ensures looked { (ls : List ℕ) × (seat.new.me ≡ (record seat.old.me.0 { known = record seat.old.me.0.known { looked = ls } }, seat.old.me.1)) × (IsTrue result → (q : ℕ) → q < participants → q ≢ number → Has ls q) }
+    ensures looked { LooksAtAll number participants result seat.old.me seat.new.me }
 {
     for other in 0..participants {
         if !passes(words, seat, number, other) {
@@ -111,8 +111,8 @@ pub fn settle<T, H: Holding<T>>(
     requires read { (seat.old.me.0.kind ≡ of_participant) × (seat.old.me.0.number ≡ number) × (seat.old.me.0.known.phase ≡ HasRead epoch) }
     requires waits { WaitsIn sizes.now.slots seat.old.me.0.waits bags.old × (bags.old.due ≡ None) }
     ensures seat { (seat.new.table_id ≡ seat.old.table_id) × (seat.new.id ≡ seat.old.id) }
-    ensures settled { IsTrue result → (ls : List ℕ) × (ws : List Garbage) × WaitsIn sizes.now.slots ws bags.new × (seat.new.me ≡ (record seat.old.me.0 { known = record seat.old.me.0.known { found = epoch; looked = ls }; waits = ws }, seat.old.me.1)) }
-    ensures kept { IsFalse result → (ls : List ℕ) × (bags.new ≡ bags.old) × (seat.new.me ≡ (record seat.old.me.0 { known = record seat.old.me.0.known { looked = ls } }, seat.old.me.1)) }
+    ensures settled { IsTrue result → Settles sizes.now.slots epoch bags.new seat.old.me seat.new.me }
+    ensures kept { IsFalse result → (ls : List ℕ) × (bags.new ≡ bags.old) × (seat.new.me ≡ with_looks ls seat.old.me) }
 {
     if epoch < 3 {
         return false;

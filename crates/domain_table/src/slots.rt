@@ -1,17 +1,16 @@
 //! The single steps of a participant that places an item: it claims a slot, fills the homes of its parts, and gives the
 //! slot to the item.
 
-ghost use Rattle.std.specs.Prelude.{◌≡◌, ℕ, ◌+◌, ◌*◌, ◌<◌, ◌≤◌, ◌++◌, ◌∷◌, [], true, List, Some, None, IsTrue, IsFalse};
-ghost use Rattle.sdd_steps.specs.Steps.{is_ready};
+ghost use Rattle.std.specs.Prelude.{◌≡◌, ℕ, ◌+◌, ◌<◌, ◌≤◌, List, Some, None, IsTrue, IsFalse};
 ghost use Rattle.sdd_homes.specs.declared.Filling.{Filling};
-ghost use Rattle.domain_table.specs.Outcomes.{Fills, GivesHome, TakesDeed, TakesNext};
+ghost use Rattle.domain_table.specs.Outcomes.{Fills, Places};
 ghost use Rattle.domain_table.specs.Fitting.{FitsFree};
 ghost use Rattle.domain_table.specs.Contents.{IsIn};
 ghost use Rattle.domain_table.specs.Layout.{all_words, IsSized};
-ghost use Rattle.domain_table.specs.Plays.{HasClaimed, claim_slot_then, HasTaken, fill_takes_then, CanFill, fill_gives_then, CanPlace, placing, place_then, opens_then, gathers_then, CanEmpty, empties_then, CanVacate, vacates_then};
-ghost use Rattle.sdd_homes.specs.declared.Garbage.{Garbage};
+ghost use Rattle.domain_table.specs.Plays.{HasClaimed, claim_slot_then, HasTaken, fill_takes_then, fill_gives_then, CanPlace, place_then};
 ghost use Rattle.domain_table.specs.declared.board.Home.{Home};
 ghost use Rattle.domain_table.specs.Views.{of_participant};
+ghost use Rattle.domain_table.specs.Readiness.{CanGiveNext, CanStepAt, CanTakeNext};
 
 use crate::board::{Acting, Home, Seat, Words};
 use crate::holding::Holding;
@@ -86,7 +85,7 @@ pub(crate) fn claim<T, H: Holding<T>>(
 /// Takes the home of the next participant out of the slot that is being filled. It is empty.
 pub(crate) fn take_next<T, H: Holding<T>>(words: &Words<T, H>, seat: &mut Seat<T>)
     requires table { (seat.old.table_id ≡ words.now.table_id) × (0 < words.now.table_id.words) }
-    requires filling { (seat.old.me.0.kind ≡ of_participant) × ((f : Filling) × (seat.old.me.0.filling ≡ Some f) × (f.filled < seat.old.me.0.sizes.participants) × (f.out ≡ seat.old.me.0.sizes.participants)) }
+    requires filling { CanTakeNext seat.old.me.0 }
     ensures seat { (seat.new.table_id ≡ seat.old.table_id) × (seat.new.id ≡ seat.old.id) }
     ensures taken { (f : Filling) → seat.old.me.0.filling ≡ Some f → HasTaken (IsIn H.holds) seat.old.me f seat.new.me }
 {
@@ -97,7 +96,7 @@ pub(crate) fn take_next<T, H: Holding<T>>(words: &Words<T, H>, seat: &mut Seat<T
 /// Gives the home back that `take_next` took, with its parts. The first one shows which round the slot's parts are of.
 pub(crate) fn give_next<T, H: Holding<T>>(words: &Words<T, H>, seat: &mut Seat<T>)
     requires table { (seat.old.table_id ≡ words.now.table_id) × (0 < words.now.table_id.words) }
-    requires filling { (seat.old.me.0.kind ≡ of_participant) × ((f : Filling) × (c : ℕ) × (a : ℕ) × (tail : List (ℕ × Home T)) × CanFill (IsIn H.holds) seat.old.me f c a tail) }
+    requires filling { CanGiveNext (IsIn H.holds) seat.old.me }
     ensures seat { (seat.new.table_id ≡ seat.old.table_id) × (seat.new.id ≡ seat.old.id) }
     ensures given { Fills (IsIn H.holds) seat.old.me seat.new.me }
 {
@@ -114,10 +113,10 @@ pub(crate) fn place<T, H: Holding<T>>(
     slot: usize,
 )
     requires table { FitsFree words.now.table_id words.now.key.sizes seat.old.table_id seat.old.me.0.sizes sizes.now slot }
-    requires ready { (seat.old.me.0.kind ≡ of_participant) × (is_ready seat.old.me.0.known ≡ true) × (seat.old.me.0.releasing ≡ 0) × (seat.old.me.0.slot ≡ slot) }
+    requires ready { CanStepAt slot seat.old.me.0 }
     requires filled { (f : Filling) × (tail : List (ℕ × Home T)) × CanPlace (IsIn H.holds) seat.old.me f tail }
     ensures seat { (seat.new.table_id ≡ seat.old.table_id) × (seat.new.id ≡ seat.old.id) }
-    ensures placed { (f : Filling) (tail : List (ℕ × Home T)) → CanPlace (IsIn H.holds) seat.old.me f tail → (i : ℕ) × (seat.new.me ≡ (placing i f seat.old.me.0, tail)) }
+    ensures placed { Places (IsIn H.holds) seat.old.me seat.new.me }
 {
     words.store::<OnPlace<H>>(seat, owners_word(sizes, slot), ONE_OWNER);
 }

@@ -1,18 +1,18 @@
 //! The single steps of a participant on the words of a place: each is one operation on one word.
 
-ghost use Rattle.std.specs.Prelude.{◌≡◌, ◌≢◌, ◌⊎◌, ℕ, ◌∷◌, ◌++◌, ◌+◌, ◌-◌, ◌*◌, ◌^◌, ◌<◌, ◌≤◌, true, [], List, IsTrue, IsFalse, IfSome, IfNone, MatchBool};
+ghost use Rattle.std.specs.Prelude.{◌≡◌, ◌≢◌, ℕ, ◌+◌, ◌-◌, ◌*◌, ◌^◌, ◌<◌, ◌≤◌, true, [], List, IsTrue, IsFalse, IfSome, IfNone, MatchBool};
 ghost use Rattle.atomic_table.specs.Table.{rest};
-ghost use Rattle.sdd_homes.specs.declared.Garbage.{Garbage};
 ghost use Rattle.sdd_steps.specs.State.{Has};
-ghost use Rattle.sdd_steps.specs.Steps.{is_ready};
-ghost use Rattle.sdd_steps.specs.declared.participant.Phase.TheVariants.{Idle, HasRead, Opened};
-ghost use Rattle.domain_table.specs.Fitting.{HasEpochOf, HasClaimOf};
+ghost use Rattle.sdd_steps.specs.declared.participant.Phase.TheVariants.{Idle, Opened};
+ghost use Rattle.domain_table.specs.Fitting.{HasEpochOf, HasClaimOf, HasWordsOf};
 ghost use Rattle.domain_table.specs.Contents.{IsIn, Announces};
 ghost use Rattle.domain_table.specs.Outcomes.{HasPublished, HasLookedAtAll};
-ghost use Rattle.domain_table.specs.Views.{of_nobody, of_participant, IsBare, spent, reading, rotated, looking};
-ghost use Rattle.domain_table.specs.Layout.{lock_word, claim_word, epoch_words, all_words, IsSized, shown};
-ghost use Rattle.domain_table.specs.Plays.{read_then, publish_then, count_then, look_then, agree_then, raise_then, lock_then, unlock_then, sit_then, HasRegistered, HasSpare, claim_then, learn_then, end_then, Steady, Scans};
+ghost use Rattle.domain_table.specs.Views.{of_nobody, of_participant, IsBare, spent, reading, looking};
+ghost use Rattle.domain_table.specs.Layout.{lock_word, claim_word, all_words, IsSized, shown};
+ghost use Rattle.domain_table.specs.Plays.{read_then, publish_then, count_then, look_then, agree_then, raise_then, lock_then, unlock_then, sit_then, HasRegistered, HasSpare, claim_then, learn_then, end_then, Steady, Scans, with_known};
 ghost use Rattle.domain_table.specs.declared.board.Home.{Home};
+ghost use Rattle.domain_table.specs.Readiness.{CanLookAt, CanPublish, HasLeft};
+ghost use Rattle.domain_table.specs.Scanning.{ScansOn, ScansUnderLock};
 
 use crate::board::{Acting, Home, Seat, Words};
 use crate::holding::Holding;
@@ -142,7 +142,7 @@ pub fn learn<T, H: Holding<T>>(words: &Words<T, H>, seat: &mut Seat<T>, sizes: S
 
 /// Whether somebody acts for participant `number`.
 fn is_claimed<T, H: Holding<T>>(words: &Words<T, H>, number: usize) -> bool
-    requires { (number < words.now.key.sizes.participants) × (epoch_words words.now.key.sizes.participants ≤ words.now.table_id.words) × (words.now.key.sizes.participants ≤ 2 ^ 30) }
+    requires { HasWordsOf words.now.table_id words.now.key.sizes number }
 {
     words.peek(STRIDE * number + CLAIM) == 0
 }
@@ -163,7 +163,7 @@ pub fn any_claimed<T, H: Holding<T>>(words: &Words<T, H>, sizes: &Sizes) -> bool
 /// from now on. Its spare slot, which is in front of what is out with the seat, is put back empty.
 pub fn end<T, H: Holding<T>>(words: &Words<T, H>, seat: &mut Seat<T>, number: usize, spare: u64)
     requires table { (seat.old.table_id ≡ words.now.table_id) × (number < 2 ^ 30) × (claim_word number < words.now.table_id.words) }
-    requires rests { (seat.old.me.0.kind ≡ of_participant) × (seat.old.me.0.number ≡ number) × (seat.old.me.0.known.phase ≡ Idle) × (seat.old.me.0.known.found ≡ 0) × IsBare seat.old.me.0 }
+    requires rests { HasLeft number seat.old.me.0 }
     requires gone { seat.old.me.0.waits ≡ [] }
     requires spare { (seat.old.me.0.spare ≡ spare) × (spare < 2 ^ 31) × ((tail : List (ℕ × Home T)) × HasSpare (IsIn H.holds) seat.old.me tail) }
     ensures { (seat.new.table_id ≡ seat.old.table_id) × (seat.new.id ≡ seat.old.id) × (seat.new.me ≡ (spent, rest seat.old.me.1)) }
@@ -175,7 +175,7 @@ pub fn end<T, H: Holding<T>>(words: &Words<T, H>, seat: &mut Seat<T>, number: us
 pub fn read_count<T, H: Holding<T>>(words: &Words<T, H>, seat: &mut Seat<T>) -> u64
     requires table { (seat.old.table_id ≡ words.now.table_id) × (0 < words.now.table_id.words) }
     requires closed { (seat.old.me.0.kind ≡ of_participant) × (seat.old.me.0.known.phase ≡ Idle) × (seat.old.me.0.scan ≡ 0) }
-    ensures { (seat.new.table_id ≡ seat.old.table_id) × (seat.new.id ≡ seat.old.id) × (seat.new.me ≡ (record seat.old.me.0 { known = reading result seat.old.me.0.known }, seat.old.me.1)) }
+    ensures { (seat.new.table_id ≡ seat.old.table_id) × (seat.new.id ≡ seat.old.id) × (seat.new.me ≡ with_known (reading result seat.old.me.0.known) seat.old.me) }
 {
     words.load::<OnRead>(seat, COUNT)
 }
@@ -183,7 +183,7 @@ pub fn read_count<T, H: Holding<T>>(words: &Words<T, H>, seat: &mut Seat<T>) -> 
 /// Publishes the count that was read, and with it does the rotation that is due.
 pub fn publish<T, H: Holding<T>>(words: &Words<T, H>, seat: &mut Seat<T>, number: usize, epoch: u64)
     requires table { (seat.old.table_id ≡ words.now.table_id) × (number < 2 ^ 30) × (claim_word number < words.now.table_id.words) }
-    requires read { (seat.old.me.0.kind ≡ of_participant) × (seat.old.me.0.number ≡ number) × (seat.old.me.0.known.phase ≡ HasRead epoch) × (seat.old.me.0.scan ≡ 0) }
+    requires read { CanPublish number epoch seat.old.me.0 }
     ensures seat { (seat.new.table_id ≡ seat.old.table_id) × (seat.new.id ≡ seat.old.id) }
     ensures published { HasPublished epoch seat.old.me seat.new.me }
 {
@@ -253,9 +253,9 @@ pub(crate) fn give_lock<T, H: Holding<T>>(
     epoch: u64,
     looks: Looks,
 )
-    requires lock { (seat.old.table_id ≡ words.now.table_id) × (lock_word < words.now.table_id.words) × (Scans seat.old number epoch 1 ⊎ Scans seat.old number epoch 2) }
+    requires lock { (seat.old.table_id ≡ words.now.table_id) × (lock_word < words.now.table_id.words) × ScansUnderLock seat.old number epoch }
     requires looked { HasLookedAtAll words.now.key.sizes.participants looks }
-    ensures { (seat.new.table_id ≡ seat.old.table_id) × (seat.new.id ≡ seat.old.id) × Steady seat.old.me seat.new.me × Scans seat.new number epoch 0 }
+    ensures { ScansOn seat.old seat.new number epoch 0 }
 {
     drop(looks);
     words.store::<OnUnlock>(seat, LOCK, 0);
@@ -270,10 +270,10 @@ fn look_at<T, H: Holding<T>>(
     epoch: u64,
 ) -> bool
     requires table { HasEpochOf words.now.table_id words.now.key.sizes seat.old.table_id other }
-    requires open { (seat.old.me.0.kind ≡ of_participant) × (seat.old.me.0.number ≢ other) × (seat.old.me.0.known.phase ≡ Opened epoch) × (seat.old.me.0.known.found ≡ epoch) × (seat.old.me.0.scan ≡ 2) }
+    requires open { CanLookAt other epoch seat.old.me.0 }
     requires below { epoch < 2 ^ 64 - 1 }
     ensures seat { (seat.new.table_id ≡ seat.old.table_id) × (seat.new.id ≡ seat.old.id) }
-    ensures noted { IsTrue result → seat.new.me ≡ (record seat.old.me.0 { known = looking other seat.old.me.0.known }, seat.old.me.1) }
+    ensures noted { IsTrue result → seat.new.me ≡ with_known (looking other seat.old.me.0.known) seat.old.me }
     ensures not_noted { IsFalse result → seat.new.me ≡ seat.old.me }
 {
     let found = words.load::<OnLook>(seat, STRIDE * other + STATE);
@@ -291,7 +291,7 @@ pub(crate) fn look<T, H: Holding<T>>(
     requires table { HasEpochOf words.now.table_id words.now.key.sizes seat.old.table_id other }
     requires open { Scans seat.old number epoch 2 × (number ≢ other) }
     requires below { epoch < 2 ^ 64 - 1 }
-    ensures seat { (seat.new.table_id ≡ seat.old.table_id) × (seat.new.id ≡ seat.old.id) × Steady seat.old.me seat.new.me × Scans seat.new number epoch 2 }
+    ensures seat { ScansOn seat.old seat.new number epoch 2 }
     ensures noted { IsTrue result → Has seat.new.me.0.known.looked other }
     ensures more { (q : ℕ) → Has seat.old.me.0.known.looked q → Has seat.new.me.0.known.looked q }
 {
@@ -313,7 +313,7 @@ pub(crate) fn raise<T, H: Holding<T>>(
     requires open { Scans seat.old number epoch 2 }
     requires all { (q : ℕ) → q < words.now.key.sizes.participants → q ≢ number → Has seat.old.me.0.known.looked q }
     requires below { epoch < 2 ^ 64 - 1 }
-    ensures { (seat.new.table_id ≡ seat.old.table_id) × (seat.new.id ≡ seat.old.id) × Steady seat.old.me seat.new.me × Scans seat.new number epoch 1 }
+    ensures { ScansOn seat.old seat.new number epoch 1 }
 {
     words.store::<OnRaise>(seat, COUNT, epoch + 1);
 }
