@@ -1,16 +1,15 @@
 //! The single steps of a participant that reclaims an item: it opens the slot of an item that nobody reads any more, empties
 //! the homes, and gives the slot back.
 
-ghost use Rattle.std.specs.Prelude.{◌≡◌, ℕ, ◌<◌, ◌++◌, ◌∷◌, [], true, List, Some, None};
-ghost use Rattle.sdd_steps.specs.Steps.{is_ready, is_inside, is_past};
-ghost use Rattle.sdd_homes.specs.declared.Filling.{Filling};
+ghost use Rattle.std.specs.Prelude.{◌≡◌, ◌<◌, ◌++◌, ◌∷◌, [], true, List, None};
+ghost use Rattle.sdd_steps.specs.Steps.{is_ready};
 ghost use Rattle.sdd_homes.specs.declared.Garbage.{Garbage};
 ghost use Rattle.domain_table.specs.Outcomes.{GivesHome, TakesDeed, TakesNext};
 ghost use Rattle.domain_table.specs.Fitting.{FitsFree};
 ghost use Rattle.domain_table.specs.Contents.{IsIn};
-ghost use Rattle.domain_table.specs.Plays.{opens_then, opens_noted_then, gathers_then, CanEmpty, empties_then, CanVacate, vacates_then};
+ghost use Rattle.domain_table.specs.Plays.{opens_then, opens_noted_then, gathers_then, empties_then, vacates_then};
 ghost use Rattle.domain_table.specs.declared.board.Home.{Home};
-ghost use Rattle.domain_garbage.specs.Opened.{TakesNoted};
+ghost use Rattle.domain_garbage.specs.Opened.{TakesNoted, CanGather, CanGiveEmpty, CanReclaimInside, CanVacateAt, HasPast, Vacates};
 ghost use Rattle.domain_table.specs.Views.{of_participant};
 
 use atomic_table::Play;
@@ -69,8 +68,8 @@ pub fn open<T, H: Holding<T>>(words: &Words<T, H>, seat: &mut Seat<T>)
 /// the count that was read again under the open guard.
 pub fn open_noted<T, H: Holding<T>>(words: &Words<T, H>, seat: &mut Seat<T>)
     requires table { (seat.old.table_id ≡ words.now.table_id) × (0 < words.now.table_id.words) }
-    requires ready { (seat.old.me.0.kind ≡ of_participant) × (is_ready seat.old.me.0.known ≡ true) × (is_inside seat.old.me.0.known ≡ true) × (seat.old.me.0.filling ≡ None) }
-    requires noted { (w : Garbage) × (ws : List Garbage) × (seat.old.me.0.collected ≡ ws ++ w ∷ []) × (is_past w.age seat.old.me.0.known.reread ≡ true) }
+    requires ready { CanReclaimInside seat.old.me.0 }
+    requires noted { HasPast seat.old.me.0 }
     ensures seat { (seat.new.table_id ≡ seat.old.table_id) × (seat.new.id ≡ seat.old.id) }
     ensures inside { (w : Garbage) (ws : List Garbage) → seat.old.me.0.collected ≡ ws ++ w ∷ [] → w.slot < seat.old.me.0.sizes.slots }
     ensures opened { TakesNoted (IsIn H.holds) seat.old.me seat.new.me }
@@ -83,7 +82,7 @@ pub fn open_noted<T, H: Holding<T>>(words: &Words<T, H>, seat: &mut Seat<T>)
 /// are in hand.
 pub fn gather<T, H: Holding<T>>(words: &Words<T, H>, seat: &mut Seat<T>)
     requires table { (seat.old.table_id ≡ words.now.table_id) × (0 < words.now.table_id.words) }
-    requires filled { (seat.old.me.0.kind ≡ of_participant) × ((f : Filling) × (seat.old.me.0.filling ≡ Some f) × (0 < f.filled) × (f.out ≡ seat.old.me.0.sizes.participants)) }
+    requires filled { CanGather seat.old.me.0 }
     ensures seat { (seat.new.table_id ≡ seat.old.table_id) × (seat.new.id ≡ seat.old.id) }
     ensures taken { TakesNext (IsIn H.holds) seat.old.me seat.new.me }
 {
@@ -94,7 +93,7 @@ pub fn gather<T, H: Holding<T>>(words: &Words<T, H>, seat: &mut Seat<T>)
 /// Gives the home back that `gather` took. It is empty now.
 pub fn empty<T, H: Holding<T>>(words: &Words<T, H>, seat: &mut Seat<T>)
     requires table { (seat.old.table_id ≡ words.now.table_id) × (0 < words.now.table_id.words) }
-    requires emptied { (seat.old.me.0.kind ≡ of_participant) × ((f : Filling) × (tail : List (ℕ × Home T)) × CanEmpty (IsIn H.holds) seat.old.me f tail) }
+    requires emptied { CanGiveEmpty (IsIn H.holds) seat.old.me }
     ensures seat { (seat.new.table_id ≡ seat.old.table_id) × (seat.new.id ≡ seat.old.id) }
     ensures given { GivesHome (IsIn H.holds) seat.old.me seat.new.me }
 {
@@ -105,9 +104,9 @@ pub fn empty<T, H: Holding<T>>(words: &Words<T, H>, seat: &mut Seat<T>)
 /// Gives `slot` back: all homes are empty, and the room is in the item's own, which is put back in the same step.
 pub fn vacate<T, H: Holding<T>>(words: &Words<T, H>, seat: &mut Seat<T>, sizes: &Sizes, slot: usize)
     requires table { FitsFree words.now.table_id words.now.key.sizes seat.old.table_id seat.old.me.0.sizes sizes.now slot }
-    requires emptied { (seat.old.me.0.kind ≡ of_participant) × (seat.old.me.0.slot ≡ slot) × ((f : Filling) × (tail : List (ℕ × Home T)) × CanVacate (IsIn H.holds) seat.old.me f tail) }
+    requires emptied { CanVacateAt (IsIn H.holds) slot seat.old.me }
     ensures seat { (seat.new.table_id ≡ seat.old.table_id) × (seat.new.id ≡ seat.old.id) }
-    ensures vacant { (f : Filling) (tail : List (ℕ × Home T)) → CanVacate (IsIn H.holds) seat.old.me f tail → seat.new.me ≡ (record seat.old.me.0 { filling = None }, tail) }
+    ensures vacant { Vacates (IsIn H.holds) seat.old.me seat.new.me }
 {
     words.store::<OnVacate<H>>(seat, owners_word(sizes, slot), VACANT);
 }

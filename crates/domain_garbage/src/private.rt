@@ -4,17 +4,18 @@
 //! A private bag takes no memory: its items are a chain of link words, of which it knows the ends, and beside that it knows
 //! the notes along it. It takes at most two steps to put an item in, to take one out, and to hand over all that is in it.
 
-ghost use Rattle.std.specs.Prelude.{◌≡◌, ℕ, ◌+◌, ◌<◌, ◌≤◌, ◌++◌, ◌∷◌, ◌||◌, [], true, List, Some, nat_lt, length, map, IsSome, IfSome, IfNone, IsTrue, IsFalse};
+ghost use Rattle.std.specs.Prelude.{◌≡◌, ℕ, ◌+◌, ◌<◌, ◌≤◌, ◌∷◌, ◌||◌, [], true, List, Some, nat_lt, length, map, IsSome, IfSome, IfNone, IsTrue, IsFalse};
 ghost use Rattle.std.specs.VecDeque.{deque_capacity};
 ghost use Rattle.sdd_steps.specs.State.{Has};
 ghost use Rattle.sdd_steps.specs.Steps.{is_ready, is_inside};
 ghost use Rattle.sdd_homes.specs.declared.Garbage.{Garbage};
 ghost use Rattle.domain_table.specs.Fitting.{FitsSizes};
-ghost use Rattle.domain_table.specs.Leases.{row_told, lease_told, row_slots, all_below, IsFirst};
+ghost use Rattle.domain_table.specs.Leases.{row_slots, IsFirst, AreRowsOf, StayRowsOf};
 ghost use Rattle.domain_table.specs.Ledgers.{WaitsIn};
-ghost use Rattle.domain_table.specs.Plays.{reread_then, hand_all_then, without_bag, bag_alone, with_bag};
+ghost use Rattle.domain_table.specs.Plays.{reread_then, hand_all_then, without_bag, bag_alone, with_bag, with_collected, with_known};
 ghost use Rattle.domain_table.specs.Views.{of_participant, spent, gathering, rereading};
-ghost use Rattle.domain_garbage.specs.Bag.{IsKept, NoneDue, HandsAll, GivesBack, PutsIn, garbage_told};
+ghost use Rattle.domain_garbage.specs.Bag.{IsKept, NoneDue, HandsAll, GivesBack, PutsIn, garbage_told, HasCome, HasDueNote, KeepsNotes};
+ghost use Rattle.domain_table.specs.Readiness.{CanRelease};
 
 use crate::notes::Notes;
 use atomic_table::{Join, Play, Split};
@@ -101,7 +102,7 @@ pub fn take_bag<T, H: Holding<T>>(words: &Words<T, H>, seat: &mut Seat<T>, bag: 
     requires ready { seat.old.me.0.kind ≡ of_participant }
     requires bag { (ws : List Garbage) × (bag.badge.views ≡ gathering ws ∷ []) }
     ensures seat { (seat.new.table_id ≡ seat.old.table_id) × (seat.new.id ≡ seat.old.id) }
-    ensures taken { (ws : List Garbage) → bag.badge.views ≡ gathering ws ∷ [] → seat.new.me ≡ (record seat.old.me.0 { collected = ws }, seat.old.me.1) }
+    ensures taken { (ws : List Garbage) → bag.badge.views ≡ gathering ws ∷ [] → seat.new.me ≡ with_collected ws seat.old.me }
 {
     words.join_seat::<Coming>(seat, bag.into_badge().into_seat());
 }
@@ -121,7 +122,7 @@ pub fn reread<T, H: Holding<T>>(words: &Words<T, H>, seat: &mut Seat<T>) -> u64
     requires table { (seat.old.table_id ≡ words.now.table_id) × (0 < words.now.table_id.words) }
     requires open { (seat.old.me.0.kind ≡ of_participant) × (is_inside seat.old.me.0.known ≡ true) }
     ensures seat { (seat.new.table_id ≡ seat.old.table_id) × (seat.new.id ≡ seat.old.id) }
-    ensures noted { seat.new.me ≡ (record seat.old.me.0 { known = rereading result seat.old.me.0.known }, seat.old.me.1) }
+    ensures noted { seat.new.me ≡ with_known (rereading result seat.old.me.0.known) seat.old.me }
     ensures least { seat.old.me.0.born ≤ result }
     ensures most { result ≤ seat.old.me.0.born + 1 }
     ensures noted_most { (w : Garbage) → Has seat.old.me.0.collected w → w.age ≤ result }
@@ -166,7 +167,7 @@ pub fn take_due<T, H: Holding<T>>(
     requires kept { IsKept sizes.now.slots seat.old.me.0.collected kept.old }
     ensures seat { (seat.new.table_id ≡ seat.old.table_id) × (seat.new.id ≡ seat.old.id) × (seat.new.me ≡ seat.old.me) }
     ensures none { IfNone result (IsKept sizes.now.slots seat.old.me.0.collected kept.new × NoneDue count seat.old.me.0.collected) }
-    ensures taken { IfSome result (λ slot. (ws : List Garbage) × (w : Garbage) × (seat.old.me.0.collected ≡ ws ++ w ∷ []) × (w.slot ≡ slot) × (w.age + 3 ≤ count) × IsKept sizes.now.slots ws kept.new) }
+    ensures taken { IfSome result (λ slot. HasDueNote sizes.now.slots count slot seat.old.me.0.collected kept.new) }
 {
     let Some(note) = kept.notes.oldest() else {
         return None;
@@ -190,9 +191,9 @@ fn keep<T, H: Holding<T>>(
 )
     requires table { FitsSizes words.now.table_id words.now.key.sizes seat.old.table_id seat.old.me.0.sizes sizes.now × (noted.slot < sizes.now.slots) }
     requires acts { seat.old.me.0.kind ≡ of_participant }
-    requires came { (w : Garbage) × (ws : List Garbage) × (seat.old.me.0.collected ≡ w ∷ ws) × (w.slot ≡ noted.slot) × (w.age ≡ noted.note) × IsKept sizes.now.slots ws kept.old × (length ws < sizes.now.slots) × ((v : Garbage) → Has ws v → v.age ≤ noted.note) × NoneDue noted.note ws }
+    requires came { HasCome sizes.now.slots noted.slot noted.note seat.old.me.0.collected kept.old }
     ensures seat { (seat.new.table_id ≡ seat.old.table_id) × (seat.new.id ≡ seat.old.id) }
-    ensures kept { (cs : List Garbage) × IsKept sizes.now.slots cs kept.new × (map garbage_told cs ≡ map garbage_told seat.old.me.0.collected) × (seat.new.me ≡ (record seat.old.me.0 { collected = cs }, seat.old.me.1)) }
+    ensures kept { KeepsNotes sizes.now.slots kept.new seat.old.me seat.new.me }
 {
     let alone = Ends {
         first: noted.slot,
@@ -215,13 +216,13 @@ pub fn give_back<T, H: Holding<T>>(
     owner: One<Stored<T>>,
 )
     requires table { FitsSizes words.now.table_id words.now.key.sizes seat.old.table_id seat.old.me.0.sizes sizes.now × (number < sizes.now.participants) }
-    requires ready { (seat.old.me.0.kind ≡ of_participant) × (seat.old.me.0.number ≡ number) × (is_ready seat.old.me.0.known ≡ true) × (seat.old.me.0.releasing ≡ 0) }
+    requires ready { CanRelease number seat.old.me.0 }
     requires owner { IsFirst seat.old.me.0 slot owner.part.life.id × IsSome owner.part.seen.value }
-    requires rows { ((life : ℕ) × (map row_told rows.old.items ≡ map (lease_told life) seat.old.me.0.leases)) × (all_below sizes.now.slots (row_slots rows.old.items) ≡ true) }
+    requires rows { AreRowsOf sizes.now.slots seat.old.me.0.leases rows.old.items }
     requires waits { WaitsIn sizes.now.slots seat.old.me.0.waits bags.old }
     ensures seat { (seat.new.table_id ≡ seat.old.table_id) × (seat.new.id ≡ seat.old.id) }
     ensures given { GivesBack seat.old.me seat.new.me }
-    ensures rows { (life : ℕ) → map row_told rows.old.items ≡ map (lease_told life) seat.old.me.0.leases → map row_told rows.new.items ≡ map (lease_told life) seat.new.me.0.leases }
+    ensures rows { StayRowsOf seat.old.me.0.leases rows.old.items seat.new.me.0.leases rows.new.items }
     ensures same { (deque_capacity rows.new ≡ deque_capacity rows.old) × (row_slots rows.new.items ≡ row_slots rows.old.items) }
     ensures waits { WaitsIn sizes.now.slots seat.new.me.0.waits bags.new }
     ensures bags { bags.new.due ≡ bags.old.due }
@@ -244,16 +245,16 @@ pub fn put_in<T, H: Holding<T>>(
     owner: One<Stored<T>>,
 ) -> bool
     requires table { FitsSizes words.now.table_id words.now.key.sizes seat.old.table_id seat.old.me.0.sizes sizes.now × (number < sizes.now.participants) }
-    requires ready { (seat.old.me.0.kind ≡ of_participant) × (seat.old.me.0.number ≡ number) × (is_ready seat.old.me.0.known ≡ true) × (seat.old.me.0.releasing ≡ 0) }
+    requires ready { CanRelease number seat.old.me.0 }
     requires open { (is_inside seat.old.me.0.known ≡ true) × (seat.old.me.0.known.reread ≡ Some noted.note) }
     requires owner { IsFirst seat.old.me.0 noted.slot owner.part.life.id × IsSome owner.part.seen.value }
-    requires rows { ((life : ℕ) × (map row_told rows.old.items ≡ map (lease_told life) seat.old.me.0.leases)) × (all_below sizes.now.slots (row_slots rows.old.items) ≡ true) }
+    requires rows { AreRowsOf sizes.now.slots seat.old.me.0.leases rows.old.items }
     requires kept { IsKept sizes.now.slots seat.old.me.0.collected kept.old }
     requires most { (w : Garbage) → Has seat.old.me.0.collected w → w.age ≤ noted.note }
     requires young { NoneDue noted.note seat.old.me.0.collected }
     ensures seat { (seat.new.table_id ≡ seat.old.table_id) × (seat.new.id ≡ seat.old.id) }
     ensures given { PutsIn seat.old.me seat.new.me }
-    ensures rows { (life : ℕ) → map row_told rows.old.items ≡ map (lease_told life) seat.old.me.0.leases → map row_told rows.new.items ≡ map (lease_told life) seat.new.me.0.leases }
+    ensures rows { StayRowsOf seat.old.me.0.leases rows.old.items seat.new.me.0.leases rows.new.items }
     ensures same { (deque_capacity rows.new ≡ deque_capacity rows.old) × (row_slots rows.new.items ≡ row_slots rows.old.items) }
     ensures kept { IsKept sizes.now.slots seat.new.me.0.collected kept.new }
     ensures last { IsTrue result → map garbage_told seat.new.me.0.collected ≡ (noted.slot, noted.note) ∷ map garbage_told seat.old.me.0.collected }

@@ -1,16 +1,14 @@
 //! Reclaiming an item that nobody reads any more: its slot is opened, all its parts come home, and the slot is free again.
 
-ghost use Rattle.std.specs.Prelude.{◌≡◌, ℕ, ◌+◌, ◌-◌, ◌^◌, ◌<◌, ◌++◌, ◌∷◌, [], List, true, Some, None, IsSome, map};
-ghost use Rattle.sdd_steps.specs.Steps.{is_ready, is_inside, is_past};
-ghost use Rattle.sdd_homes.specs.declared.Filling.{Filling};
+ghost use Rattle.std.specs.Prelude.{◌≡◌, ℕ, ◌+◌, ◌-◌, ◌^◌, ◌<◌, ◌++◌, ◌∷◌, [], List, true, None, IsSome};
+ghost use Rattle.sdd_steps.specs.Steps.{is_ready};
 ghost use Rattle.sdd_homes.specs.declared.Garbage.{Garbage};
 ghost use Rattle.sdd_homes.specs.declared.Owner.{Owner};
 ghost use Rattle.domain_table.specs.Contents.{IsIn};
 ghost use Rattle.domain_table.specs.Outcomes.{Gathers, GathersAll, ReclaimsLast};
 ghost use Rattle.domain_table.specs.Fitting.{FitsSizes, FitsTaken};
-ghost use Rattle.domain_table.specs.Owners.{told};
 ghost use Rattle.domain_table.specs.declared.board.Home.{Home};
-ghost use Rattle.domain_garbage.specs.Opened.{IsOpened, ReclaimsNoted};
+ghost use Rattle.domain_garbage.specs.Opened.{IsOpened, ReclaimsNoted, CanReclaimInside, GathersFrom, HasPastAt, IsWhole, TakesWhole};
 ghost use Rattle.domain_table.specs.Views.{of_participant};
 
 use crate::emptying::{empty, gather, open, open_noted, vacate};
@@ -32,7 +30,7 @@ fn gather_home<T, H: Holding<T>>(
     at: usize,
 ) -> Part<Stored<T>>
     requires table { FitsTaken words.now.table_id seat.old.table_id seat.old.me.0 sizes.now slot }
-    requires filled { (f : Filling) × (seat.old.me.0.filling ≡ Some f) × (f.filled ≡ at + 1) × (at < sizes.now.participants) × (f.out ≡ sizes.now.participants) }
+    requires filled { GathersFrom at sizes.now.participants seat.old.me.0 }
     ensures seat { (seat.new.table_id ≡ seat.old.table_id) × (seat.new.id ≡ seat.old.id) }
     ensures gathered { Gathers seat.old.me slot at result.life.id result.life.count seat.new.me }
     ensures some { (0 < result.life.count) × IsSome result.seen.value }
@@ -55,7 +53,7 @@ fn gather_all<T, H: Holding<T>>(
     slot: usize,
 ) -> Part<Stored<T>>
     requires table { FitsTaken words.now.table_id seat.old.table_id seat.old.me.0 sizes.now slot }
-    requires filled { (f : Filling) × (seat.old.me.0.filling ≡ Some f) × (f.filled ≡ sizes.now.participants) × (f.out ≡ sizes.now.participants) × (f.left ≡ 0) }
+    requires filled { IsWhole sizes.now.participants seat.old.me.0 }
     ensures seat { (seat.new.table_id ≡ seat.old.table_id) × (seat.new.id ≡ seat.old.id) }
     ensures gathered { GathersAll seat.old.me slot sizes.now.participants result.life.id seat.new.me }
     ensures all { result.life.count ≡ 2 ^ 63 }
@@ -78,7 +76,7 @@ fn take_whole<T, H: Holding<T>>(
     requires acts { seat.old.me.0.kind ≡ of_participant }
     requires opened { (hs : List Owner) × (tail : List (ℕ × Home T)) × IsOpened (IsIn H.holds) seat.old.me slot hs tail }
     ensures seat { (seat.new.table_id ≡ seat.old.table_id) × (seat.new.id ≡ seat.old.id) }
-    ensures taken { (hs : List Owner) (tail : List (ℕ × Home T)) → IsOpened (IsIn H.holds) seat.old.me slot hs tail → (H.holds result ≡ map told hs) × (seat.new.me ≡ (record seat.old.me.0 { filling = None }, tail)) }
+    ensures taken { TakesWhole (IsIn H.holds) seat.old.me slot (H.holds result) seat.new.me }
 {
     let own = home_of(sizes.participants, sizes.slots, slot);
     let deed = deed_of::<T, H>(words.exchange(seat, own, Home::Blank));
@@ -116,8 +114,8 @@ pub fn reclaim_noted<T, H: Holding<T>>(
     slot: usize,
 ) -> T
     requires table { FitsSizes words.now.table_id words.now.key.sizes seat.old.table_id seat.old.me.0.sizes sizes.now }
-    requires ready { (seat.old.me.0.kind ≡ of_participant) × (is_ready seat.old.me.0.known ≡ true) × (is_inside seat.old.me.0.known ≡ true) × (seat.old.me.0.filling ≡ None) }
-    requires noted { (w : Garbage) × (ws : List Garbage) × (seat.old.me.0.collected ≡ ws ++ w ∷ []) × (is_past w.age seat.old.me.0.known.reread ≡ true) × (w.slot ≡ slot) }
+    requires ready { CanReclaimInside seat.old.me.0 }
+    requires noted { HasPastAt slot seat.old.me.0 }
     ensures seat { (seat.new.table_id ≡ seat.old.table_id) × (seat.new.id ≡ seat.old.id) }
     ensures reclaimed { ReclaimsNoted seat.old.me slot (H.holds result) seat.new.me }
 {
