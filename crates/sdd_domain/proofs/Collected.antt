@@ -12,7 +12,8 @@ use Rattle.domain_table.specs.Views.{rereading}
 use Rattle.domain_table.specs.declared.board.Acting.{Acting}
 use Rattle.domain_table.specs.declared.board.Home.{Home}
 use Rattle.domain_table.proofs.Rows.{same_homes}
-use Rattle.domain_garbage.specs.Bag.{AreAt, garbage_told}
+use Rattle.domain_garbage.specs.Bag.{garbage_told}
+use Rattle.domain_table.specs.Leases.{AreAt}
 use Rattle.domain_table.proofs.BagLemmas.{has_left}
 use Rattle.sdd_steps.specs.State.{Has}
 use Rattle.sdd_steps.proofs.ListLemmas.{has_map}

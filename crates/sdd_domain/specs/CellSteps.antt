@@ -46,6 +46,10 @@ HasStored old cell w t k new = (v : ℕ) × NamesWith v t k × HasMade old (step
 abbrev pub HasExchanged : {T : Type 0} → Local T → ℕ → ℕ → ℕ → ℕ → ℕ → Local T → Type 0
 HasExchanged old cell t k t' k' new = (w : ℕ) × NamesWith w t k × HasStored old cell w t' k' new
 
+-- it made no step on a cell, or one, by which a cell owned nothing from then on
+abbrev pub HasEmptiedAtMost : {T : Type 0} → Local T → Local T → Type 0
+HasEmptiedAtMost old new = StepsOnNoCell old new ⊎ ((cell : ℕ) × (t : ℕ) × (k : ℕ) × HasExchanged old cell t k 0 0 new)
+
 -- it read this cell some times, and did nothing else to cells
 abbrev pub HasOnlyRead : {T : Type 0} → Local T → ℕ → Local T → Type 0
 HasOnlyRead old cell new = (xs : List CellStep) × All (IsReadOf old cell) xs × HasMade old xs new

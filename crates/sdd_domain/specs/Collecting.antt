@@ -1,19 +1,20 @@
 -- what private collectors show to clauses
-use Rattle.std.specs.Prelude.{◌≡◌, ℕ, ◌+◌, ◌<◌, ◌≤◌, true, List, ◌∷◌, [], ◌++◌, map}
+use Rattle.std.specs.Prelude.{◌≡◌, ℕ, ◌+◌, ◌<◌, ◌≤◌, Bool, cond, List, ◌∷◌, [], ◌++◌, map}
 use Rattle.atomic_table.specs.Seated.{TableId}
 use Rattle.atomic_table.specs.Table.{Me}
 use Rattle.sdd_plain.specs.declared.sizes.Sizes.{Sizes}
 use Rattle.sdd_steps.specs.State.{Has}
-use Rattle.sdd_steps.specs.Steps.{is_ready}
 use Rattle.sdd_homes.specs.declared.Garbage.{Garbage}
 use Rattle.sdd_homes.specs.declared.Lease.{Lease}
 use Rattle.sdd_homes.specs.declared.Owner.{Owner}
+use Rattle.domain_table.specs.Leases.{AreAt}
 use Rattle.domain_table.specs.Owners.{told}
 use Rattle.domain_table.specs.declared.board.Acting.{Acting}
-use Rattle.domain_garbage.specs.Bag.{garbage_told, bag_in, NoneDue, AreAt}
+use Rattle.domain_garbage.specs.Bag.{garbage_told, bag_in, NoneDue}
 use Rattle.sdd_domain.specs.declared.private_collector.PrivateCollector.{PrivateCollector}
 use Rattle.sdd_domain.specs.declared.shared.Shared.{Shared}
-use Rattle.domain_table.specs.Views.{of_participant}
+use Rattle.sdd_domain.specs.Tokens.{born_of}
+use Rattle.sdd_domain.specs.declared.local.Local.{Local}
 
 -- the place of a collector, with its sizes
 abbrev pub collects_in : PrivateCollector → TableId × Sizes
@@ -35,9 +36,9 @@ IsSwept count old kept = (gone : List (ℕ × ℕ)) × (old ≡ kept ++ gone) ×
 abbrev pub IsSweptOf : ℕ → List Garbage → List Garbage → Type 0
 IsSweptOf count old kept = (gone : List Garbage) × (old ≡ kept ++ gone) × ((w : Garbage) → Has gone w → w.age + 3 ≤ count) × NoneDue count kept
 
--- the seat acts for p, releases nothing, and may make steps on items
-abbrev pub CanRelease : ℕ → Acting → Type 0
-CanRelease p d = (d.kind ≡ of_participant) × (d.number ≡ p) × (is_ready d.known ≡ true) × (d.releasing ≡ 0)
+-- what is due by the count was taken out of the bag, and this item was put in, if it had lost its last owner: the count was read under the open guard
+abbrev pub HasCollected : {T : Type 0} → List (ℕ × ℕ) → ℕ → Bool → List (ℕ × ℕ) → Local T → Type 0
+HasCollected old slot last new local = (count : ℕ) × (kept : List (ℕ × ℕ)) × IsSwept count old kept × (new ≡ cond last ((slot, count) ∷ kept) kept) × (born_of local ≤ count) × (count ≤ born_of local + 1)
 
 -- the owners that an item holds, which are first in hand, are released under open guards
 abbrev pub GivesUpUnder : {T S : Type 0} → (T → List (ℕ × ℕ)) → T → Me S Acting → Me S Acting → Type 0

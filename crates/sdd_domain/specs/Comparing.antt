@@ -1,15 +1,25 @@
 -- which item an owner is of, by its slot
-use Rattle.std.specs.Prelude.{◌≡◌, ℕ, ◌+◌, List, ◌∷◌, ◌++◌, Option, None, Some}
+use Rattle.std.specs.Prelude.{◌≡◌, ℕ, ◌+◌, ◌^◌, ◌<◌, true, List, ◌∷◌, ◌++◌, Option, None, Some, IfSome}
 use Rattle.atomic_table.specs.Table.{Me}
 use Rattle.sdd_steps.specs.declared.participant.Loaded.{Loaded}
 use Rattle.sdd_homes.specs.declared.Lease.{Lease}
 use Rattle.domain_table.specs.Contents.{blanks}
 use Rattle.domain_table.specs.Leases.{leased_homes}
-use Rattle.domain_table.specs.Plays.{own_spare}
+use Rattle.domain_table.specs.Layout.{packed}
+use Rattle.domain_table.specs.Outcomes.{HasSwapped}
+use Rattle.domain_table.specs.Plays.{own_spare, with_step}
+use Rattle.domain_table.specs.Views.{of_participant}
+use Rattle.sdd_steps.specs.Steps.{is_ready}
+use Rattle.sdd_plain.specs.Epochs.{tag_number}
+use Rattle.sdd_plain.specs.declared.tag.Tag.{Tag}
+use Rattle.sdd_domain.specs.CellSteps.{HasExchanged, HasReadCell, HasFoundLast, HasRetagged}
+use Rattle.sdd_domain.specs.Pointers.{ptr_slot, ptr_tag}
 use Rattle.sdd_domain.specs.Sharing.{kept_in, IsOwnerOf}
 use Rattle.domain_table.specs.declared.board.Acting.{Acting}
 use Rattle.domain_table.specs.declared.board.Home.{Home}
 use Rattle.domain_table.specs.declared.board.Home.TheVariants.{Blank, Part}
+use Rattle.sdd_domain.specs.declared.local.Local.{Local}
+use Rattle.sdd_domain.specs.declared.pointer.Ptr.{Ptr}
 use Rattle.sdd_domain.specs.declared.shared.Shared.{Shared}
 
 -- 0 for none, else one more than the slot of its item
@@ -41,3 +51,39 @@ IsInFront {T} s xs = (k : ℕ) × (tail : List (ℕ × Home T)) × (xs ≡ (k, P
 -- the spare slot is this one now, empty; something may have been loaded, and these are leased besides
 abbrev pub HasTried : {T : Type 0} → Me (Home T) Acting → ℕ → List (ℕ × Home T) → Me (Home T) Acting → Type 0
 HasTried m y tail m' = (hs : List Loaded) × (ls : List Lease) × (m' ≡ (record m.0 { known = record m.0.known { loaded = hs }; leases = m.0.leases ++ ls; spare = y }, (own_spare m.0 y, Blank) ∷ (tail ++ blanks (leased_homes m.0 ls))))
+
+-- its one step, on this cell, found this owner and this tag, and left those
+abbrev pub HasSwappedCell : {T : Type 0} → Local T → ℕ → Option (Shared T) × Tag → Option (Shared T) × Tag → Local T → Type 0
+HasSwappedCell old cell found left new = HasExchanged old cell (tag_number found.1) (owner_code found.0) (tag_number left.1) (owner_code left.0) new
+
+-- its one step read this cell: one more owner of what was found there, or none, is this
+abbrev pub HasReadOwner : {T : Type 0} → Local T → ℕ → Option (Shared T) → Local T → Type 0
+HasReadOwner old cell owner new = (t : ℕ) × (k : ℕ) × HasReadCell old cell t k new × IfSome owner (λ s. owner_code (Some s) ≡ k)
+
+-- its one step read this cell, which was as this pointer
+abbrev pub HasFoundPtr : {T : Type 0} → Local T → ℕ → Ptr T → Local T → Type 0
+HasFoundPtr old cell r new = HasReadCell old cell (tag_number (ptr_tag r)) (code_of (ptr_slot r)) new
+
+-- it read this cell some times, and the last time it was as this pointer
+abbrev pub HasFoundPtrLast : {T : Type 0} → Local T → ℕ → Ptr T → Local T → Type 0
+HasFoundPtrLast old cell r new = HasFoundLast old cell (tag_number (ptr_tag r)) (code_of (ptr_slot r)) new
+
+-- it read this cell some times, and then set this tag where it was as this pointer
+abbrev pub HasTagged : {T : Type 0} → Local T → ℕ → Ptr T → Tag → Local T → Type 0
+HasTagged old cell r tag new = HasRetagged old cell (tag_number (ptr_tag r)) (code_of (ptr_slot r)) (tag_number tag) new
+
+-- the cell with this word was tried once: the words found and left, and the spare slot, which is y now
+abbrev pub HasTriedOnce : {T : Type 0} → ℕ → Me (Home T) Acting → ℕ → ℕ → ℕ → ℕ → Me (Home T) Acting → Type 0
+HasTriedOnce i m spare w v y m' = (tail : List (ℕ × Home _)) → m.1 ≡ (own_spare m.0 spare, Blank) ∷ tail → HasTried (with_step i w v m) y tail m'
+
+-- a cell's word that has this owner and this tag, with this spare slot
+abbrev pub word_for : {T : Type 0} → ℕ → Option (Shared T) × Tag → ℕ
+word_for y own = packed y (tag_number own.1) (owner_code own.0)
+
+-- the cell with this word was swapped once: it had the one owner and tag, and has the other; and the spare slot is y now
+abbrev pub SwapsOwner : {T : Type 0} → ℕ → Me (Home T) Acting → ℕ → ℕ → Option (Shared T) × Tag → Option (Shared T) × Tag → Me (Home T) Acting → Type 0
+SwapsOwner i m spare y found left m' = (w : ℕ) × (v : ℕ) × HasSwapped (with_step i w v m) spare y m' × (w ≡ word_for y found) × (v ≡ word_for spare left)
+
+-- the seat acts for a participant, which may make steps on items and releases nothing, and has this spare slot
+abbrev pub CanSwap : ℕ → Acting → Type 0
+CanSwap spare d = (d.kind ≡ of_participant) × (is_ready d.known ≡ true) × (d.releasing ≡ 0) × (d.spare ≡ spare) × (spare < 2 ^ 31)

@@ -9,3 +9,4 @@ pub mod Comparing
 pub mod Laws
 pub mod formers
 pub mod Collecting
+pub mod Openings

@@ -1,10 +1,10 @@
 -- what places, participants and guards show to clauses
-use Rattle.std.specs.Prelude.{◌≡◌, Bool, false, ℕ, ◌-◌, ◌==◌, IsSomeAnd, List, length, map, cond}
+use Rattle.std.specs.Prelude.{◌≡◌, ◌<◌, ◌≤◌, Bool, false, ◌||◌, ℕ, ◌+◌, ◌-◌, ◌==◌, IsSomeAnd, List, [], length, map, cond, nat_lt}
 use Rattle.std.specs.Mem.{manually_drop_value}
 use Rattle.atomic_table.specs.Seated.{TableId}
 use Rattle.sdd_plain.specs.declared.sizes.Sizes.{Sizes}
 use Rattle.sdd_plain.specs.declared.local_state.LocalState.{LocalState}
-use Rattle.sdd_plain.specs.Locals.{closings_after, scans}
+use Rattle.sdd_plain.specs.Locals.{closings_after, scans, no_local}
 use Rattle.domain_table.specs.Owners.{told}
 use Rattle.sdd_steps.specs.State.{Has}
 use Rattle.domain_table.specs.Leases.{life_number, row_slots}
@@ -77,6 +77,10 @@ HasLeasedSlot l k = Has (row_slots l.rows.items) k
 abbrev pub HasLeasedItem : {T : Type 0} → Local T → ℕ → T → Type 0
 HasLeasedItem {T} l k x = (r : Row T) × Has l.rows.items r × (r.slot ≡ k) × IsSomeAnd r.lent.seen.value (λ m. manually_drop_value m ≡ x)
 
+-- the participant of this number has just come to this place
+abbrev pub IsNewcomer : {T : Type 0} → TableId × Sizes → ℕ → Local T → Type 0
+IsNewcomer place number l = (home_of l ≡ place) × (number_of l ≡ number) × (own_of l ≡ no_local) × (hand_of l ≡ [])
+
 -- the same participant of the same place, with the same owners in hand and as many misses
 abbrev pub IsSame : {T : Type 0} → Local T → Local T → Type 0
 IsSame old new = (home_of new ≡ home_of old) × (number_of new ≡ number_of old) × (hand_of new ≡ hand_of old) × (misses_of new ≡ misses_of old)
@@ -93,6 +97,18 @@ IsSameButMisses old new = (home_of new ≡ home_of old) × (number_of new ≡ nu
 abbrev pub IsInNestButMisses : {T : Type 0} → Local T → Local T → Type 0
 IsInNestButMisses old new = IsSameButMisses old new × (nest_in new ≡ nest_in old)
 
+-- and it notes the same of itself, and as many items wait
+abbrev pub IsUnchanged : {T : Type 0} → Local T → Local T → Type 0
+IsUnchanged old new = IsInNest old new × (own_of new ≡ own_of old) × (born_of new ≡ born_of old) × (waiting_of new ≡ waiting_of old)
+
+-- the same but for its misses
+abbrev pub IsUnchangedButMisses : {T : Type 0} → Local T → Local T → Type 0
+IsUnchangedButMisses old new = IsInNestButMisses old new × (own_of new ≡ own_of old) × (born_of new ≡ born_of old) × (waiting_of new ≡ waiting_of old)
+
+-- the same guards are open, and the flag of garbage is set if an item has lost its last owner
+abbrev pub IsInNestButGarbage : {T : Type 0} → Bool → Local T → Local T → Type 0
+IsInNestButGarbage last old new = IsInNest old new × (born_of new ≡ born_of old) × (own_of new ≡ record (own_of old) { garbage = (own_of old).garbage || last })
+
 -- the same participant of the same place: only its hand and its misses may differ
 abbrev pub IsSameButHandAndMisses : {T : Type 0} → Local T → Local T → Type 0
 IsSameButHandAndMisses old new = (home_of new ≡ home_of old) × (number_of new ≡ number_of old) × (nest_in new ≡ nest_in old) × (own_of new ≡ own_of old) × (born_of new ≡ born_of old) × (waiting_of new ≡ waiting_of old)
@@ -104,6 +120,18 @@ IsSameButHand old new = (home_of new ≡ home_of old) × (number_of new ≡ numb
 -- An outermost opening that found this count. A rotation sets the flag of garbage if anything waits behind it, and else clears it.
 abbrev pub begun : ℕ → Bool → LocalState → LocalState
 begun count waits m = record { nesting = 1; published = count; previous = count; accelerated = false; garbage = cond (m.previous == count) m.garbage waits; closings = m.closings }
+
+-- the outermost guard was opened now, with a count that isn't above the present one
+abbrev pub HasBegunNest : {T : Type 0} → Local T → Local T → Type 0
+HasBegunNest old new = (count : ℕ) × (count ≤ born_of new) × (own_of new ≡ begun count (nat_lt 0 (waiting_of new)) (own_of old))
+
+-- an opening within others
+abbrev pub deepened : LocalState → LocalState
+deepened m = record m { nesting = m.nesting + 1 }
+
+-- no guard was opened
+abbrev pub OpensNone : {T : Type 0} → Local T → Local T → Type 0
+OpensNone old new = (own_of new ≡ own_of old) × (born_of new ≡ born_of old) × (nest_in new ≡ nest_in old)
 
 -- a closing
 abbrev pub closed : LocalState → LocalState

@@ -1,6 +1,6 @@
 //! Cells that own an item, or nothing, and have a tag.
 
-ghost use Rattle.std.specs.Prelude.{◌≡◌, ◌<◌, ◌+◌, ◌||◌, ◌⊎◌, ◌↔◌, ◌^◌, ℕ, Bool, true, false, [], Some, IsTrue, IsFalse, IfSome, IfNone, IfOk, IfErr, OnOk, OnErr};
+ghost use Rattle.std.specs.Prelude.{◌≡◌, ◌<◌, ◌+◌, ◌⊎◌, ◌↔◌, ◌^◌, ℕ, Bool, true, false, [], Some, IsTrue, IsFalse, IfSome, IfNone, IfOk, IfErr, OnOk, OnErr};
 ghost use Rattle.sdd_domain.specs.Tokens.{cell_count};
 
 use crate::comparing::{named_by, names, try_exchange, try_tag};
@@ -46,14 +46,13 @@ pub struct AtomicShared<T> {
 
 impl<T: Holds> AtomicShared<T> {
     ghost use Rattle.sdd_domain.specs.Cells.{cell_number};
-    ghost use Rattle.sdd_domain.specs.Comparing.{owner_slot, IsBack};
+    ghost use Rattle.sdd_domain.specs.Comparing.{code_of, owner_code, owner_slot, IsBack, HasFoundPtr, HasFoundPtrLast, HasReadOwner, HasSwappedCell, HasTagged};
     ghost use Rattle.sdd_domain.specs.declared.pointer.Ptr.{Ptr};
     ghost use Rattle.sdd_domain.specs.Pointers.{IsUnder, ptr_slot, ptr_tag, loaded_slot, named_slot, named_tag};
     ghost use Rattle.sdd_domain.specs.Sharing.{kept_in};
-    ghost use Rattle.sdd_domain.specs.Tokens.{place_of, home_of, number_of, own_of, hand_of, born_of, waiting_of, misses_of, nest_of, nest_in, IsInNest, IsInNestButMisses};
-    ghost use Rattle.sdd_domain.specs.CellSteps.{StepsOnNoCell, HasReadCell, HasExchanged, HasFoundLast, HasReadOften, HasRetagged, HasCopied};
+    ghost use Rattle.sdd_domain.specs.Tokens.{place_of, home_of, number_of, own_of, hand_of, born_of, misses_of, nest_of, nest_in, IsInNest, IsInNestButMisses, IsInNestButGarbage, IsUnchanged, IsUnchangedButMisses};
+    ghost use Rattle.sdd_domain.specs.CellSteps.{StepsOnNoCell, HasReadCell, HasExchanged, HasReadOften, HasCopied, HasEmptiedAtMost};
     ghost use Rattle.sdd_plain.specs.Epochs.{tag_number};
-    ghost use Rattle.sdd_domain.specs.Comparing.{code_of, owner_code};
 
     /// Claims a free cell of the place, trying each once: it owns nothing and has no tag. `NoSlot` if all are taken, which is
     /// a miss of the participant. The cell must be consumed by `into_shared` or `retire`.
@@ -61,7 +60,7 @@ impl<T: Holds> AtomicShared<T> {
         ensures inside { IfOk result (λ c. cell_number c < cell_count domain.now) }
         ensures hit { IfOk result (λ c. misses_of local.new ≡ misses_of local.old) }
         ensures missed { OnErr result (misses_of local.new ≡ misses_of local.old + 1) }
-        ensures same { IsInNestButMisses local.old local.new × (own_of local.new ≡ own_of local.old) × (born_of local.new ≡ born_of local.old) × (waiting_of local.new ≡ waiting_of local.old) }
+        ensures same { IsUnchangedButMisses local.old local.new }
         ensures cells { StepsOnNoCell local.old local.new }
     {
         match take_cell(domain, &mut local.misses) {
@@ -112,7 +111,7 @@ impl<T: Holds> AtomicShared<T> {
         ensures home { (home_of local.new ≡ home_of local.old) × (number_of local.new ≡ number_of local.old) }
         ensures own { (flag : Bool) × (own_of local.new ≡ record (own_of local.old) { garbage = flag }) }
         ensures put { IfOk result (λ c. (t : ℕ) × (k : ℕ) × (slot : ℕ) × HasExchanged local.old (cell_number c) t k 0 (slot + 1) local.new) }
-        ensures cells { OnErr result (StepsOnNoCell local.old local.new ⊎ ((cell : ℕ) × (t : ℕ) × (k : ℕ) × HasExchanged local.old cell t k 0 0 local.new)) }
+        ensures cells { OnErr result (HasEmptiedAtMost local.old local.new) }
     {
         let Ok(cell) = AtomicShared::null(domain, local) else {
             return Err(item);
@@ -175,7 +174,7 @@ impl<T: Holds> AtomicShared<T> {
         requires home { home_of local.old ≡ place_of domain.now }
         requires inside { cell_number self.now < cell_count domain.now }
         ensures looked { (t : ℕ) × (k : ℕ) × HasReadCell local.old (cell_number self.now) t k local.new × (IsTrue result ↔ (k ≡ 0)) }
-        ensures same { IsInNest local.old local.new × (own_of local.new ≡ own_of local.old) × (born_of local.new ≡ born_of local.old) × (waiting_of local.new ≡ waiting_of local.old) }
+        ensures same { IsUnchanged local.old local.new }
     {
         slot_named(local.read(domain, self.cell)).is_none()
     }
@@ -185,7 +184,7 @@ impl<T: Holds> AtomicShared<T> {
         requires home { home_of local.old ≡ place_of domain.now }
         requires inside { cell_number self.now < cell_count domain.now }
         ensures looked { (k : ℕ) × HasReadCell local.old (cell_number self.now) (tag_number result) k local.new }
-        ensures same { IsInNest local.old local.new × (own_of local.new ≡ own_of local.old) × (born_of local.new ≡ born_of local.old) × (waiting_of local.new ≡ waiting_of local.old) }
+        ensures same { IsUnchanged local.old local.new }
     {
         tag_in(local.read(domain, self.cell))
     }
@@ -198,7 +197,7 @@ impl<T: Holds> AtomicShared<T> {
         requires open { 0 < (own_of local.old).nesting }
         requires inside { cell_number self.now < cell_count domain.now }
         ensures looked { HasReadCell local.old (cell_number self.now) (tag_number (ptr_tag result)) (code_of (ptr_slot result)) local.new }
-        ensures same { IsInNest local.old local.new × (own_of local.new ≡ own_of local.old) × (born_of local.new ≡ born_of local.old) × (waiting_of local.new ≡ waiting_of local.old) }
+        ensures same { IsUnchanged local.old local.new }
     {
         let (loaded, tag) = self.found(domain, guard, local);
         loaded.under(guard).with_tag(tag)
@@ -211,7 +210,7 @@ impl<T: Holds> AtomicShared<T> {
         requires open { 0 < (own_of local.old).nesting }
         requires inside { cell_number self.now < cell_count domain.now }
         ensures under { IsUnder result guard.now }
-        ensures same { IsInNest local.old local.new × (own_of local.new ≡ own_of local.old) × (born_of local.new ≡ born_of local.old) × (waiting_of local.new ≡ waiting_of local.old) }
+        ensures same { IsUnchanged local.old local.new }
         ensures looked { (t : ℕ) × HasReadCell local.old (cell_number self.now) t (code_of (loaded_slot result)) local.new }
     {
         let (loaded, _) = self.found(domain, guard, local);
@@ -226,7 +225,7 @@ impl<T: Holds> AtomicShared<T> {
         requires inside { cell_number self.now < cell_count domain.now }
         ensures under { IsUnder result.0 guard.now }
         ensures looked { HasReadCell local.old (cell_number self.now) (tag_number result.1) (code_of (loaded_slot result.0)) local.new }
-        ensures same { IsInNest local.old local.new × (own_of local.new ≡ own_of local.old) × (born_of local.new ≡ born_of local.old) × (waiting_of local.new ≡ waiting_of local.old) }
+        ensures same { IsUnchanged local.old local.new }
     {
         let (seen, tag) = local.lease(domain, self.cell);
         match seen {
@@ -260,8 +259,8 @@ impl<T: Holds> AtomicShared<T> {
         requires open { 0 < (own_of local.old).nesting }
         requires inside { cell_number self.now < cell_count domain.now }
         ensures home { IfSome result (λ s. kept_in s ≡ (place_of domain.now).0) }
-        ensures same { IsInNest local.old local.new × (own_of local.new ≡ own_of local.old) × (born_of local.new ≡ born_of local.old) × (waiting_of local.new ≡ waiting_of local.old) }
-        ensures looked { (t : ℕ) × (k : ℕ) × HasReadCell local.old (cell_number self.now) t k local.new × IfSome result (λ s. owner_code (Some s) ≡ k) }
+        ensures same { IsUnchanged local.old local.new }
+        ensures looked { HasReadOwner local.old (cell_number self.now) result local.new }
     {
         self.load(domain, guard, local).get_shared(domain, local)
     }
@@ -277,8 +276,8 @@ impl<T: Holds> AtomicShared<T> {
         requires inside { cell_number self.now < cell_count domain.now }
         requires mine { IfSome new.0 (λ s. kept_in s ≡ (place_of domain.now).0) }
         ensures home { IfSome result.0 (λ s. kept_in s ≡ (place_of domain.now).0) }
-        ensures exchanged { HasExchanged local.old (cell_number self.now) (tag_number result.1) (owner_code result.0) (tag_number new.1) (owner_code new.0) local.new }
-        ensures same { IsInNest local.old local.new × (own_of local.new ≡ own_of local.old) × (born_of local.new ≡ born_of local.old) × (waiting_of local.new ≡ waiting_of local.old) }
+        ensures exchanged { HasSwappedCell local.old (cell_number self.now) result new local.new }
+        ensures same { IsUnchanged local.old local.new }
     {
         let Local { seat, spare, .. } = local;
         let (free, old) = swap_owner(domain.words(), seat, &domain.sizes, *spare, self.cell, new);
@@ -307,11 +306,11 @@ impl<T: Holds> AtomicShared<T> {
         requires mine { IfSome new.0 (λ s. kept_in s ≡ (place_of domain.now).0) }
         ensures home { IfOk result (λ r. IfSome r.0 (λ s. kept_in s ≡ (place_of domain.now).0)) }
         ensures exact { IfOk result (λ r. owner_slot r.0 ≡ ptr_slot current.entry) }
-        ensures exchanged { IfOk result (λ r. HasExchanged local.old (cell_number self.now) (tag_number (ptr_tag current.entry)) (owner_code r.0) (tag_number new.1) (owner_code new.0) local.new) }
+        ensures exchanged { IfOk result (λ r. HasSwappedCell local.old (cell_number self.now) (r.0, ptr_tag current.entry) new local.new) }
         ensures stands { IfOk result (λ r. (named_slot r.1 ≡ owner_slot new.0) × (named_tag r.1 ≡ new.1)) }
         ensures back { IfErr result (λ r. IsBack new.0 r.0) }
-        ensures same { IsInNest local.old local.new × (own_of local.new ≡ own_of local.old) × (born_of local.new ≡ born_of local.old) × (waiting_of local.new ≡ waiting_of local.old) }
-        ensures looked { IfErr result (λ r. HasReadCell local.old (cell_number self.now) (tag_number (ptr_tag r.1)) (code_of (ptr_slot r.1)) local.new) }
+        ensures same { IsUnchanged local.old local.new }
+        ensures looked { IfErr result (λ r. HasFoundPtr local.old (cell_number self.now) r.1 local.new) }
     {
         let word = word_of(domain.words(), &domain.sizes, self.cell);
         if !names(word, current) {
@@ -343,9 +342,9 @@ impl<T: Holds> AtomicShared<T> {
         ensures exact { IfOk result (λ r. owner_slot r.0 ≡ ptr_slot current.entry) }
         ensures stands { IfOk result (λ r. (named_slot r.1 ≡ owner_slot new.0) × (named_tag r.1 ≡ new.1)) }
         ensures back { IfErr result (λ r. IsBack new.0 r.0) }
-        ensures same { IsInNest local.old local.new × (own_of local.new ≡ own_of local.old) × (born_of local.new ≡ born_of local.old) × (waiting_of local.new ≡ waiting_of local.old) }
-        ensures exchanged { IfOk result (λ r. HasExchanged local.old (cell_number self.now) (tag_number (ptr_tag current.entry)) (owner_code r.0) (tag_number new.1) (owner_code new.0) local.new) }
-        ensures looked { IfErr result (λ r. HasReadCell local.old (cell_number self.now) (tag_number (ptr_tag r.1)) (code_of (ptr_slot r.1)) local.new) }
+        ensures same { IsUnchanged local.old local.new }
+        ensures exchanged { IfOk result (λ r. HasSwappedCell local.old (cell_number self.now) (r.0, ptr_tag current.entry) new local.new) }
+        ensures looked { IfErr result (λ r. HasFoundPtr local.old (cell_number self.now) r.1 local.new) }
     {
         self.compare_exchange(domain, current, new, guard, local)
     }
@@ -369,9 +368,9 @@ impl<T: Holds> AtomicShared<T> {
         requires inside { cell_number self.now < cell_count domain.now }
         requires callable { F.IsAlwaysCallable f }
         ensures asked { (r : Ptr T) × (b : Bool) × F.post f r b × (IsTrue result → IsTrue b) }
-        ensures same { IsInNest local.old local.new × (own_of local.new ≡ own_of local.old) × (born_of local.new ≡ born_of local.old) × (waiting_of local.new ≡ waiting_of local.old) }
-        ensures set { IsTrue result → (r : Ptr T) × F.post f r true × HasRetagged local.old (cell_number self.now) (tag_number (ptr_tag r)) (code_of (ptr_slot r)) (tag_number tag) local.new }
-        ensures kept { IsFalse result → ((r : Ptr T) × F.post f r false × HasFoundLast local.old (cell_number self.now) (tag_number (ptr_tag r)) (code_of (ptr_slot r)) local.new) ⊎ HasReadOften local.old (cell_number self.now) (2 ^ 64) local.new }
+        ensures same { IsUnchanged local.old local.new }
+        ensures set { IsTrue result → (r : Ptr T) × F.post f r true × HasTagged local.old (cell_number self.now) r tag local.new }
+        ensures kept { IsFalse result → ((r : Ptr T) × F.post f r false × HasFoundPtrLast local.old (cell_number self.now) r local.new) ⊎ HasReadOften local.old (cell_number self.now) (2 ^ 64) local.new }
     {
         for _i in 0..TRIES {
             if let Some(answer) = self.try_update(domain, tag, &f, guard, local) {
@@ -402,9 +401,9 @@ impl<T: Holds> AtomicShared<T> {
         requires callable { F.IsAlwaysCallable f.now }
         ensures asked { IfSome result (λ b. (r : Ptr T) × F.post f.now r b) }
         ensures slow { IfNone result ((r : Ptr T) × F.post f.now r true) }
-        ensures same { IsInNest local.old local.new × (own_of local.new ≡ own_of local.old) × (born_of local.new ≡ born_of local.old) × (waiting_of local.new ≡ waiting_of local.old) }
-        ensures set { IfSome result (λ b. IsTrue b → (r : Ptr T) × F.post f.now r true × HasRetagged local.old (cell_number self.now) (tag_number (ptr_tag r)) (code_of (ptr_slot r)) (tag_number tag) local.new) }
-        ensures kept { IfSome result (λ b. IsFalse b → (r : Ptr T) × F.post f.now r false × HasReadCell local.old (cell_number self.now) (tag_number (ptr_tag r)) (code_of (ptr_slot r)) local.new) }
+        ensures same { IsUnchanged local.old local.new }
+        ensures set { IfSome result (λ b. IsTrue b → (r : Ptr T) × F.post f.now r true × HasTagged local.old (cell_number self.now) r tag local.new) }
+        ensures kept { IfSome result (λ b. IsFalse b → (r : Ptr T) × F.post f.now r false × HasFoundPtr local.old (cell_number self.now) r local.new) }
         ensures looked { IfNone result (HasReadOften local.old (cell_number self.now) 1 local.new) }
     {
         let found = self.load(domain, guard, local);
@@ -427,7 +426,7 @@ impl<T: Holds> AtomicShared<T> {
         requires home { home_of local.old ≡ place_of domain.now }
         requires inside { cell_number self < cell_count domain.now }
         ensures home { IfSome result (λ s. kept_in s ≡ (place_of domain.now).0) }
-        ensures same { IsInNest local.old local.new × (own_of local.new ≡ own_of local.old) × (born_of local.new ≡ born_of local.old) × (waiting_of local.new ≡ waiting_of local.old) }
+        ensures same { IsUnchanged local.old local.new }
         ensures taken { (t : ℕ) × HasExchanged local.old (cell_number self) t (owner_code result) 0 0 local.new }
     {
         let (owner, _) = self.swap(domain, (None, Tag::None), local);
@@ -440,7 +439,7 @@ impl<T: Holds> AtomicShared<T> {
     pub fn retire(self, domain: &Domain<T>, local: &mut Local<T>) -> bool
         requires home { home_of local.old ≡ place_of domain.now }
         requires inside { cell_number self < cell_count domain.now }
-        ensures same { IsInNest local.old local.new × (born_of local.new ≡ born_of local.old) × (own_of local.new ≡ record (own_of local.old) { garbage = (own_of local.old).garbage || result }) }
+        ensures same { IsInNestButGarbage result local.old local.new }
         ensures taken { (t : ℕ) × (k : ℕ) × HasExchanged local.old (cell_number self) t k 0 0 local.new }
     {
         match self.into_shared(domain, local) {

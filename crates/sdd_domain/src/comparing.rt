@@ -1,21 +1,20 @@
 //! One try to exchange what a cell owns, where it names what was loaded from it.
 
-ghost use Rattle.std.specs.Prelude.{◌≡◌, ℕ, ◌+◌, ◌*◌, ◌^◌, ◌<◌, ◌≤◌, ◌∷◌, [], ◌↔◌, List, map, IsTrue, IsFalse, IfSome, IfOk, IfErr};
+ghost use Rattle.std.specs.Prelude.{◌≡◌, ℕ, ◌*◌, ◌^◌, ◌<◌, ◌∷◌, [], ◌↔◌, List, IsTrue, IsFalse, IfSome, IfOk, IfErr};
 ghost use Rattle.std.specs.Option.{ForSome};
 ghost use Rattle.std.specs.VecDeque.{deque_capacity, deque_len};
-ghost use Rattle.sdd_homes.specs.declared.Lease.{Lease};
-ghost use Rattle.sdd_domain.specs.Comparing.{owner_code, owner_slot, code_of, IsBack, HasTried};
-ghost use Rattle.domain_table.specs.Fitting.{FitsSizes};
-ghost use Rattle.domain_table.specs.Layout.{cell_word, packed, NamesWith, all_words, IsSized};
-ghost use Rattle.domain_table.specs.Leases.{row_told, lease_told, HasCode, IsFoundAs, HasRows, KeepsRows, CanExchange};
+ghost use Rattle.sdd_domain.specs.Comparing.{owner_code, owner_slot, code_of, IsBack, HasTriedOnce, word_for};
+ghost use Rattle.domain_table.specs.Layout.{cell_word, packed, NamesWith};
+ghost use Rattle.domain_table.specs.Leases.{HasCode, IsFoundAs, HasRows, KeepsRows, CanExchange, IsLifeOf};
 ghost use Rattle.sdd_plain.specs.Epochs.{tag_number};
 ghost use Rattle.sdd_domain.specs.Pointers.{ptr_slot, ptr_tag, loaded_slot, named_slot, named_tag};
-ghost use Rattle.domain_table.specs.Plays.{with_step, own_spare};
+ghost use Rattle.domain_table.specs.Plays.{own_spare};
 ghost use Rattle.sdd_domain.specs.Sharing.{kept_in};
 ghost use Rattle.sdd_domain.specs.CellSteps.{HasMade, HasReadCell, HasStored, HasExchanged, step_on};
-ghost use Rattle.sdd_domain.specs.Tokens.{place_of, home_of, number_of, own_of, born_of, waiting_of, cell_count, nest_in, IsInNest};
+ghost use Rattle.sdd_domain.specs.Tokens.{place_of, home_of, number_of, own_of, cell_count, nest_in, IsUnchanged};
 ghost use Rattle.domain_table.specs.declared.board.Home.{Home};
 ghost use Rattle.domain_table.specs.declared.board.Home.TheVariants.{Blank};
+ghost use Rattle.domain_table.specs.Fitting.{FitsBoth};
 
 use crate::board::Words;
 use crate::domain::Domain;
@@ -76,7 +75,7 @@ pub(crate) fn try_tag<T: Holds>(
     requires inside { cell < cell_count domain.now }
     ensures set { (t k : ℕ) → NamesWith expected t k → IsTrue result → HasExchanged local.old cell t k (tag_number tag) k local.new }
     ensures kept { IsFalse result → (w : ℕ) × HasMade local.old (step_on local.old cell w w ∷ []) local.new }
-    ensures same { IsInNest local.old local.new × (own_of local.new ≡ own_of local.old) × (born_of local.new ≡ born_of local.old) × (waiting_of local.new ≡ waiting_of local.old) }
+    ensures same { IsUnchanged local.old local.new }
 {
     cells::change_tag(
         domain.words(),
@@ -106,14 +105,16 @@ pub(crate) fn exchange_owner<T: Holds>(
     u64,
     Result<Option<Shared<T>>, (Option<Shared<T>>, Option<usize>, Tag)>,
 )
-    requires table { FitsSizes words.now.table_id words.now.key.sizes seat.old.table_id seat.old.me.0.sizes sizes.now × (number < sizes.now.participants) × (cell < sizes.now.cells) }
+    requires table { FitsBoth words.now.table_id words.now.key.sizes seat.old.table_id seat.old.me.0.sizes sizes.now number cell }
     requires ready { CanExchange number spare seat.old.me.0 }
     requires rows { HasRows life.now.id sizes.now.slots seat.old.me.0.leases rows.old.items (deque_capacity rows.old) }
     requires out { (tail : List (ℕ × Home T)) × (seat.old.me.1 ≡ (own_spare seat.old.me.0 spare, Blank) ∷ tail) }
     requires mine { IfSome new.0 (λ s. kept_in s ≡ words.now.table_id) }
     ensures seat { (seat.new.table_id ≡ seat.old.table_id) × (seat.new.id ≡ seat.old.id) }
     ensures spare { result.0 < 2 ^ 31 }
-    ensures tried { (w : ℕ) × (v : ℕ) × ((tail : List (ℕ × Home T)) → seat.old.me.1 ≡ (own_spare seat.old.me.0 spare, Blank) ∷ tail → HasTried (with_step (cell_word words.now.key.sizes cell) w v seat.old.me) result.0 tail seat.new.me) × IfOk result.1 (λ _. (w ≡ expected) × (v ≡ packed spare (tag_number new.1) (owner_code new.0)) × (tag_number new.1 < 4)) × IfErr result.1 (λ t. (v ≡ w) × IsFoundAs w (tag_number t.2) rows.new.items t.1) }
+    ensures tried { (w : ℕ) × (v : ℕ) × HasTriedOnce (cell_word words.now.key.sizes cell) seat.old.me spare w v result.0 seat.new.me
+        × IfOk result.1 (λ _. (w ≡ expected) × (v ≡ word_for spare new) × (tag_number new.1 < 4))
+        × IfErr result.1 (λ t. (v ≡ w) × IsFoundAs w (tag_number t.2) rows.new.items t.1) }
     ensures rows { KeepsRows life.now.id sizes.now.slots seat.new.me.0.leases rows.new.items (deque_capacity rows.old) (deque_capacity rows.new) }
     ensures mine { IfOk result.1 (λ old. IfSome old (λ s. kept_in s ≡ words.now.table_id)) }
     ensures hit { IfOk result.1 (λ old. (y t c : ℕ) → y < 2 ^ 31 → t < 4 → expected ≡ packed y t c → owner_code old ≡ c) }
@@ -135,7 +136,7 @@ pub(crate) fn exchange_owner<T: Holds>(
 fn loaded_at<T: Holds>(rows: &VecDeque<Row<T>>, at: Option<usize>) -> Loaded<T>
     requires { IfSome at (λ i. i < deque_len rows.now) }
     ensures code { (k : ℕ) → HasCode rows.now.items at k → code_of (loaded_slot result) ≡ k }
-    ensures under { ForSome result.seen (λ s. (life : ℕ) (ls : List Lease) → map row_told rows.now.items ≡ map (lease_told life) ls → s.life ≡ life) }
+    ensures under { ForSome result.seen (λ s. IsLifeOf rows.now.items s.life) }
 {
     if let Some((slot, seen)) = seen_at(rows, at) {
         return Loaded {
@@ -167,7 +168,7 @@ pub(crate) fn try_exchange<T: Holds>(
     ensures back { IfErr result (λ t. IsBack new.0 t.0) }
     ensures looked { IfErr result (λ t. HasReadCell local.old cell (tag_number t.2) (code_of (loaded_slot t.1)) local.new) }
     ensures seen { IfErr result (λ t. ForSome t.1.seen (λ s. (number_of local.old, s.life) ≡ nest_in local.old)) }
-    ensures same { IsInNest local.old local.new × (own_of local.new ≡ own_of local.old) × (born_of local.new ≡ born_of local.old) × (waiting_of local.new ≡ waiting_of local.old) }
+    ensures same { IsUnchanged local.old local.new }
 {
     let Local {
         seat,

@@ -1,6 +1,6 @@
 //! A place that threads share.
 
-ghost use Rattle.std.specs.Prelude.{◌≡◌, ◌+◌, ◌*◌, ◌^◌, ◌<◌, ◌≤◌, [], ◌++◌, replicate, vec_len, IfOk, OnOk, IfErr};
+ghost use Rattle.std.specs.Prelude.{◌≡◌, ◌*◌, ◌<◌, ◌≤◌, [], vec_len, IfOk, IfErr};
 ghost use Rattle.sdd_plain.specs.Locals.{no_local};
 ghost use Rattle.domain_table.specs.Layout.{all_words, IsSized};
 ghost use Rattle.domain_table.specs.Ledgers.{IsEmpty};

@@ -1,6 +1,6 @@
 //! Guards of a place that threads share.
 
-ghost use Rattle.std.specs.Prelude.{◌≡◌, Bool, [], ℕ, ◌+◌, ◌<◌, ◌≤◌, ◌%◌, ◌↔◌, true, IsErr, IfOk, IfErr, IfSome, IfNone, OnOk, OnErr, nat_lt};
+ghost use Rattle.std.specs.Prelude.{◌≡◌, Bool, [], ℕ, ◌+◌, ◌<◌, ◌≤◌, ◌%◌, ◌↔◌, true, IsErr, IfOk, IfErr, IfSome, IfNone, OnOk, OnErr};
 
 use crate::domain::Domain;
 use crate::holds::Holds;
@@ -30,7 +30,7 @@ pub struct Guard {
 
 impl Guard {
     ghost use Rattle.sdd_domain.specs.CellSteps.{StepsOnNoCell};
-    ghost use Rattle.sdd_domain.specs.Tokens.{place_of, home_of, number_of, own_of, hand_of, born_of, misses_of, participant_of, waiting_of, nest_of, nest_in, begun, closed, IsSame, IsInNest};
+    ghost use Rattle.sdd_domain.specs.Tokens.{place_of, home_of, number_of, own_of, hand_of, born_of, misses_of, participant_of, nest_of, nest_in, closed, IsSame, IsInNest, HasBegunNest, OpensNone, deepened};
 
     /// Opens a guard of a participant, within those that it has open. An outermost opening reads the count of raises,
     /// and publishes it in a second step; where it isn't the one that was found before, the participant's bags move
@@ -40,10 +40,10 @@ impl Guard {
         requires { home_of local.old ≡ place_of domain.now }
         ensures guard { IfOk result (λ g. (participant_of g ≡ number_of local.old) × (nest_of g ≡ nest_in local.new)) }
         ensures nested { IsErr result ↔ ((own_of local.old).nesting ≡ 4294967295) }
-        ensures refused { OnErr result ((own_of local.new ≡ own_of local.old) × (born_of local.new ≡ born_of local.old) × (nest_in local.new ≡ nest_in local.old)) }
-        ensures outermost { (own_of local.old).nesting ≡ 0 → (count : ℕ) × (count ≤ born_of local.new) × (own_of local.new ≡ begun count (nat_lt 0 (waiting_of local.new)) (own_of local.old)) }
+        ensures refused { OnErr result (OpensNone local.old local.new) }
+        ensures outermost { (own_of local.old).nesting ≡ 0 → HasBegunNest local.old local.new }
         ensures inner { 0 < (own_of local.old).nesting → (born_of local.new ≡ born_of local.old) × (nest_in local.new ≡ nest_in local.old) }
-        ensures counted { OnOk result (0 < (own_of local.old).nesting → own_of local.new ≡ record (own_of local.old) { nesting = (own_of local.old).nesting + 1 }) }
+        ensures counted { OnOk result (0 < (own_of local.old).nesting → own_of local.new ≡ deepened (own_of local.old)) }
         ensures same { IsSame local.old local.new }
         ensures cells { StepsOnNoCell local.old local.new }
     {

@@ -1,20 +1,20 @@
 //! One participant of a place, as the thread that acts for it has it.
 
-ghost use Rattle.std.specs.Prelude.{◌≡◌, ℕ, ◌+◌, ◌-◌, ◌*◌, ◌^◌, ◌<◌, ◌≤◌, ◌==◌, ◌&&◌, true, List, [], ◌∷◌, length, cond, map, nat_lt, None, IfSome, IfNone, IsSome};
+ghost use Rattle.std.specs.Prelude.{◌≡◌, ℕ, ◌+◌, ◌-◌, ◌*◌, ◌^◌, ◌<◌, ◌≤◌, ◌==◌, true, List, [], ◌∷◌, length, cond, map, nat_lt, None, IfSome, IfNone, IsSome};
 ghost use Rattle.std.specs.Option.{ForNone, ForSome};
 ghost use Rattle.std.specs.VecDeque.{deque_capacity};
-ghost use Rattle.sdd_plain.specs.Locals.{no_local};
 ghost use Rattle.sdd_steps.specs.declared.participant.Phase.TheVariants.{Idle, Opened};
 ghost use Rattle.sdd_steps.specs.State.{Has};
 ghost use Rattle.sdd_homes.specs.declared.Garbage.{Garbage};
 ghost use Rattle.domain_table.specs.Ledgers.{WaitsIn};
-ghost use Rattle.domain_table.specs.Fitting.{FitsSizes, HasEpochs};
+ghost use Rattle.domain_table.specs.Fitting.{FitsSizes};
 ghost use Rattle.domain_table.specs.Contents.{IsIn, is_blank};
 ghost use Rattle.domain_table.specs.Views.{of_participant, spent, rotated, older_waits};
 ghost use Rattle.domain_table.specs.Leases.{IsAtRest, life_number, row_told, lease_told, leased_homes, row_slots, all_below, has_all};
 ghost use Rattle.domain_table.specs.declared.row.Row.{Row};
-ghost use Rattle.domain_table.specs.Plays.{own_spare, HasRegistered, Scans, Steady};
+ghost use Rattle.domain_table.specs.Plays.{own_spare, HasRegistered};
 ghost use Rattle.domain_table.specs.Layout.{claim_word};
+ghost use Rattle.sdd_domain.specs.Openings.{HasNothingOut, IsSeenIn, turned};
 
 use crate::board::Words;
 use crate::domain::Domain;
@@ -127,7 +127,7 @@ pub(crate) fn turn<T: Holds>(
 )
     requires table { FitsSizes words.now.table_id words.now.key.sizes seat.old.table_id seat.old.me.0.sizes sizes.now × (number < sizes.now.participants) }
     requires open { (seat.old.me.0.known.phase ≡ Opened epoch) × (seat.old.me.0.known.found ≡ epoch) }
-    requires rest { (seat.old.me.0.kind ≡ of_participant) × (seat.old.me.0.number ≡ number) × (seat.old.me.0.releasing ≡ 0) × (seat.old.me.0.leases ≡ []) × (seat.old.me.0.filling ≡ None) }
+    requires rest { HasNothingOut number seat.old.me.0 }
     requires noted { own.old.published ≡ own.old.previous }
     requires waits { (ws : List Garbage) × (seat.old.me.0.waits ≡ rotated epoch own.old.previous ws) × WaitsIn sizes.now.slots ws bags.old }
     requires done { bags.old.due ≡ None }
@@ -135,7 +135,7 @@ pub(crate) fn turn<T: Holds>(
     ensures reclaimed { (k : ℕ) × (ws : List Garbage) × (seat.new.me ≡ (record seat.old.me.0 { slot = k; waits = ws }, seat.old.me.1)) }
     ensures waits { WaitsIn sizes.now.slots seat.new.me.0.waits bags.new }
     ensures bags { bags.new.due ≡ None }
-    ensures own { own.new ≡ record own.old { garbage = cond (own.old.previous == epoch) own.old.garbage (nat_lt 0 (length seat.new.me.0.waits)); published = epoch; previous = epoch } }
+    ensures own { own.new ≡ turned epoch (nat_lt 0 (length seat.new.me.0.waits)) own.old }
 {
     // Most openings find the count of the one before.
     if own.previous == epoch {
@@ -148,7 +148,7 @@ pub(crate) fn turn<T: Holds>(
 
 /// What the item of the row of `slot` is seen as, if there is such a row.
 fn seen_of<T>(rows: &VecDeque<Row<T>>, slot: usize) -> Option<Seen<Stored<T>>>
-    ensures row { IfSome result (λ s. (r : Row T) × Has rows.now.items r × (r.slot ≡ slot) × (s.value ≡ r.lent.seen.value) × (s.life ≡ r.lent.pledge.until)) }
+    ensures row { IfSome result (λ s. IsSeenIn rows.now.items slot s) }
     ensures free { IfNone result (¬ Has (row_slots rows.now.items) slot) }
 {
     for at in 0..rows.len() {
@@ -161,7 +161,7 @@ fn seen_of<T>(rows: &VecDeque<Row<T>>, slot: usize) -> Option<Seen<Stored<T>>>
 
 impl<T: Holds> Local<T> {
     ghost use Rattle.domain_table.specs.Ledgers.{IsEmpty};
-    ghost use Rattle.sdd_domain.specs.Tokens.{cell_count, place_of, home_of, number_of, own_of, hand_of, born_of, begun, closed, waiting_of, nest_in, HasLeasedSlot, IsSame, IsInNest};
+    ghost use Rattle.sdd_domain.specs.Tokens.{cell_count, place_of, home_of, number_of, own_of, hand_of, born_of, begun, closed, waiting_of, nest_in, HasLeasedSlot, IsSame, IsInNest, IsNewcomer, IsUnchanged};
     ghost use Rattle.sdd_domain.specs.CellSteps.{HasMade, HasReadCell, StepsOnNoCell, step_on};
     ghost use Rattle.domain_table.specs.Layout.{NamesWith};
     ghost use Rattle.sdd_plain.specs.Epochs.{tag_number};
@@ -177,7 +177,7 @@ impl<T: Holds> Local<T> {
         requires acts { HasRegistered (IsIn T.holds) (spent, []) number spare seat.me × (spare < 2 ^ 31) }
         requires table { (claim_word number < seat.table_id.words) × (number < 2 ^ 30) × (number < seat.me.0.sizes.participants) }
         requires empty { IsEmpty seat.me.0.sizes.slots ledger }
-        ensures { (home_of result ≡ (seat.table_id, seat.me.0.sizes)) × (number_of result ≡ number) × (own_of result ≡ no_local) × (hand_of result ≡ []) }
+        ensures { IsNewcomer (seat.table_id, seat.me.0.sizes) number result }
     {
         let Ledger { rows } = ledger;
         Local {
@@ -285,7 +285,7 @@ impl<T: Holds> Local<T> {
         requires inside { cell < cell_count domain.now }
         ensures named { (t : ℕ) × (k : ℕ) × NamesWith result t k }
         ensures looked { HasMade self.old (step_on self.old cell result result ∷ []) self.new }
-        ensures same { IsInNest self.old self.new × (own_of self.new ≡ own_of self.old) × (born_of self.new ≡ born_of self.old) × (waiting_of self.new ≡ waiting_of self.old) }
+        ensures same { IsUnchanged self.old self.new }
     {
         cells::read_cell(
             domain.words(),
@@ -307,7 +307,7 @@ impl<T: Holds> Local<T> {
         requires inside { cell < cell_count domain.now }
         ensures seen { IfSome result.0 (λ t. ((number_of self.old, t.1.life) ≡ nest_in self.old) × IsSome t.1.value) }
         ensures looked { HasReadCell self.old cell (tag_number result.1) (code_told result.0) self.new }
-        ensures same { IsInNest self.old self.new × (own_of self.new ≡ own_of self.old) × (born_of self.new ≡ born_of self.old) × (waiting_of self.new ≡ waiting_of self.old) }
+        ensures same { IsUnchanged self.old self.new }
     {
         let Local {
             seat,

@@ -144,7 +144,7 @@ impl<'g, T: Holds> Ptr<'g, T> {
     ghost use Rattle.sdd_domain.specs.Pointers.{ptr_slot, loaded_slot, IsUnder, IsLoadedOf};
     ghost use Rattle.sdd_domain.specs.Sharing.{kept_in};
     ghost use Rattle.sdd_domain.specs.CellSteps.{StepsOnNoCell};
-    ghost use Rattle.sdd_domain.specs.Tokens.{place_of, home_of, own_of, born_of, waiting_of, nest_of, nest_in, HasLeasedSlot, HasLeasedItem, IsInNest};
+    ghost use Rattle.sdd_domain.specs.Tokens.{place_of, home_of, nest_of, nest_in, HasLeasedSlot, HasLeasedItem, IsUnchanged};
 
     /// One more owner of the item, beside those that it has: so it is kept for longer than the guard is open under which it
     /// was loaded. None where the pointer is to nothing, where the item is retired or has `2^32 - 1` owners, and where the
@@ -154,7 +154,7 @@ impl<'g, T: Holds> Ptr<'g, T> {
         requires home { home_of local.old ≡ place_of domain.now }
         ensures home { IfSome result (λ s. kept_in s ≡ (place_of domain.now).0) }
         ensures exact { IfSome result (λ s. owner_slot (Some s) ≡ ptr_slot self.entry) }
-        ensures same { IsInNest local.old local.new × (own_of local.new ≡ own_of local.old) × (born_of local.new ≡ born_of local.old) × (waiting_of local.new ≡ waiting_of local.old) }
+        ensures same { IsUnchanged local.old local.new }
         ensures cells { StepsOnNoCell local.old local.new }
     {
         Shared::of_leased(domain, self.slot?, local)

@@ -1,6 +1,6 @@
 //! Collecting items apart from the bags of the participants.
 
-ghost use Rattle.std.specs.Prelude.{◌≡◌, ◌+◌, ◌<◌, ◌≤◌, ◌∷◌, [], ◌||◌, ℕ, List, cond, length, nat_lt, IfOk, IsOk};
+ghost use Rattle.std.specs.Prelude.{◌≡◌, ◌+◌, ◌<◌, ◌∷◌, [], ◌||◌, length, nat_lt, IfOk, IsOk};
 ghost use Rattle.domain_table.specs.Views.{gathering};
 ghost use Rattle.domain_garbage.specs.Bag.{IsKept, bag_in};
 
@@ -33,7 +33,7 @@ impl PrivateCollector {
     ghost use Rattle.sdd_domain.specs.CellSteps.{StepsOnNoCell};
     ghost use Rattle.sdd_domain.specs.Tokens.{place_of, home_of, own_of, born_of, waiting_of, nest_of, nest_in, IsInNest};
     ghost use Rattle.sdd_domain.specs.Sharing.{kept_in};
-    ghost use Rattle.sdd_domain.specs.Collecting.{collects_in, held_in, slot_in, IsSwept};
+    ghost use Rattle.sdd_domain.specs.Collecting.{collects_in, held_in, slot_in, HasCollected};
 
     /// An empty collector. It takes no memory, so it never fails, and no item finds it full.
     pub fn new<T: Holds>(domain: &Domain<T>) -> Result<PrivateCollector, AllocError>
@@ -66,7 +66,7 @@ impl PrivateCollector {
         requires nest { nest_of guard.now ≡ nest_in local.old }
         requires open { 0 < (own_of local.old).nesting }
         ensures home { collects_in result.0 ≡ collects_in self }
-        ensures held { (count : ℕ) × (kept : List (ℕ × ℕ)) × IsSwept count (held_in self) kept × (held_in result.0 ≡ cond result.1 ((slot_in shared, count) ∷ kept) kept) × (born_of local.old ≤ count) × (count ≤ born_of local.old + 1) }
+        ensures held { HasCollected (held_in self) (slot_in shared) result.1 (held_in result.0) local.old }
         ensures own { own_of local.new ≡ record (own_of local.old) { garbage = (own_of local.old).garbage || nat_lt 0 (waiting_of local.new) } }
         ensures same { IsInNest local.old local.new × (born_of local.new ≡ born_of local.old) }
         ensures cells { StepsOnNoCell local.old local.new }

@@ -1,11 +1,9 @@
 //! What a reclaimed item held is released, and what is due is reclaimed: of what a participant retired, and of what is in a
 //! private bag.
 
-ghost use Rattle.std.specs.Prelude.{◌≡◌, ℕ, ◌<◌, ◌++◌, ◌∷◌, [], List, true, Some, None, map};
-ghost use Rattle.sdd_steps.specs.Steps.{is_ready, is_inside};
+ghost use Rattle.std.specs.Prelude.{◌≡◌, ℕ, ◌<◌, ◌++◌, List, Some, None, map};
 ghost use Rattle.std.specs.VecDeque.{deque_capacity};
 ghost use Rattle.sdd_homes.specs.declared.Garbage.{Garbage};
-ghost use Rattle.sdd_homes.specs.declared.Lease.{Lease};
 ghost use Rattle.sdd_homes.specs.declared.Owner.{Owner};
 ghost use Rattle.domain_table.specs.Bags.{aged};
 ghost use Rattle.domain_table.specs.Outcomes.{HasGivenUp};
@@ -13,9 +11,11 @@ ghost use Rattle.domain_table.specs.Ledgers.{WaitsIn};
 ghost use Rattle.domain_table.specs.Fitting.{FitsSizes};
 ghost use Rattle.domain_table.specs.Owners.{told};
 ghost use Rattle.sdd_domain.specs.Holding.{told_of};
-ghost use Rattle.domain_table.specs.Leases.{row_told, lease_told, row_slots, all_below, IsFirst, IsAtRest};
-ghost use Rattle.domain_garbage.specs.Bag.{IsKept, NoneDue, AreAt};
-ghost use Rattle.sdd_domain.specs.Collecting.{CanRelease, GivesUpUnder, IsSweptOf};
+ghost use Rattle.domain_table.specs.Leases.{IsFirst, IsAtRest, AreRowsOf, StayInPlace};
+ghost use Rattle.domain_garbage.specs.Bag.{IsKept};
+ghost use Rattle.domain_table.specs.Readiness.{CanRelease};
+ghost use Rattle.sdd_domain.specs.Collecting.{GivesUpUnder, IsSweptOf};
+ghost use Rattle.sdd_domain.specs.Openings.{CanSweep, HasGivenUpOne, HasSwept};
 
 use crate::board::{Told, Words};
 use crate::held::Held;
@@ -45,7 +45,7 @@ fn release_held<T: Holds>(
     requires owner { IsFirst seat.old.me.0 (told_of held).0 (told_of held).1 }
     requires waits { WaitsIn sizes.now.slots seat.old.me.0.waits bags.old }
     ensures seat { (seat.new.table_id ≡ seat.old.table_id) × (seat.new.id ≡ seat.old.id) }
-    ensures released { (o : Owner) (os : List Owner) → seat.old.me.0.hand ≡ o ∷ os → (ws : List Garbage) × (seat.new.me ≡ (record seat.old.me.0 { hand = os; waits = ws }, seat.old.me.1)) }
+    ensures released { HasGivenUpOne seat.old.me seat.new.me }
     ensures waits { WaitsIn sizes.now.slots seat.new.me.0.waits bags.new }
     ensures bags { (bags.new.due ≡ bags.old.due) × (aged 3 seat.new.me.0.waits ≡ aged 3 seat.old.me.0.waits) }
 {
@@ -117,11 +117,11 @@ fn give_up_under<T: Holds>(
     requires table { FitsSizes words.now.table_id words.now.key.sizes seat.old.table_id seat.old.me.0.sizes sizes.now × (number < sizes.now.participants) }
     requires ready { CanRelease number seat.old.me.0 }
     requires owners { (hs : List Owner) × (os : List Owner) × (T.holds item ≡ map told hs) × (seat.old.me.0.hand ≡ hs ++ os) }
-    requires rows { ((life : ℕ) × (map row_told rows.old.items ≡ map (lease_told life) seat.old.me.0.leases)) × (all_below sizes.now.slots (row_slots rows.old.items) ≡ true) }
+    requires rows { AreRowsOf sizes.now.slots seat.old.me.0.leases rows.old.items }
     requires waits { WaitsIn sizes.now.slots seat.old.me.0.waits bags.old }
     ensures seat { (seat.new.table_id ≡ seat.old.table_id) × (seat.new.id ≡ seat.old.id) }
     ensures released { GivesUpUnder T.holds item seat.old.me seat.new.me }
-    ensures rows { ((life : ℕ) → map row_told rows.old.items ≡ map (lease_told life) seat.old.me.0.leases → map row_told rows.new.items ≡ map (lease_told life) seat.new.me.0.leases) × (deque_capacity rows.new ≡ deque_capacity rows.old) × (row_slots rows.new.items ≡ row_slots rows.old.items) }
+    ensures rows { StayInPlace seat.old.me.0.leases rows.old.items (deque_capacity rows.old) seat.new.me.0.leases rows.new.items (deque_capacity rows.new) }
     ensures waits { WaitsIn sizes.now.slots seat.new.me.0.waits bags.new × (bags.new.due ≡ bags.old.due) }
 {
     let mut item = item;
@@ -145,13 +145,13 @@ pub(crate) fn sweep<T: Holds>(
     count: u64,
 )
     requires table { FitsSizes words.now.table_id words.now.key.sizes seat.old.table_id seat.old.me.0.sizes sizes.now × (number < sizes.now.participants) }
-    requires ready { CanRelease number seat.old.me.0 × (seat.old.me.0.filling ≡ None) × (is_inside seat.old.me.0.known ≡ true) × (seat.old.me.0.known.reread ≡ Some count) }
-    requires rows { ((life : ℕ) × (map row_told rows.old.items ≡ map (lease_told life) seat.old.me.0.leases)) × (all_below sizes.now.slots (row_slots rows.old.items) ≡ true) }
+    requires ready { CanSweep number count seat.old.me.0 }
+    requires rows { AreRowsOf sizes.now.slots seat.old.me.0.leases rows.old.items }
     requires waits { WaitsIn sizes.now.slots seat.old.me.0.waits bags.old }
     requires kept { IsKept sizes.now.slots seat.old.me.0.collected kept.old }
     ensures seat { (seat.new.table_id ≡ seat.old.table_id) × (seat.new.id ≡ seat.old.id) }
-    ensures swept { (k : ℕ) × (ws : List Garbage) × (ls : List Lease) × (cs : List Garbage) × AreAt seat.old.me.0.leases ls × (seat.new.me ≡ (record seat.old.me.0 { slot = k; leases = ls; waits = ws; collected = cs }, seat.old.me.1)) }
-    ensures rows { ((life : ℕ) → map row_told rows.old.items ≡ map (lease_told life) seat.old.me.0.leases → map row_told rows.new.items ≡ map (lease_told life) seat.new.me.0.leases) × (deque_capacity rows.new ≡ deque_capacity rows.old) × (row_slots rows.new.items ≡ row_slots rows.old.items) }
+    ensures swept { HasSwept seat.old.me seat.new.me }
+    ensures rows { StayInPlace seat.old.me.0.leases rows.old.items (deque_capacity rows.old) seat.new.me.0.leases rows.new.items (deque_capacity rows.new) }
     ensures waits { WaitsIn sizes.now.slots seat.new.me.0.waits bags.new × (bags.new.due ≡ bags.old.due) }
     ensures kept { IsKept sizes.now.slots seat.new.me.0.collected kept.new }
     ensures left { IsSweptOf count seat.old.me.0.collected seat.new.me.0.collected }

@@ -34,7 +34,7 @@ pub struct Shared<T> {
 impl<T: Holds> Shared<T> {
     ghost use Rattle.sdd_domain.specs.Comparing.{owner_slot};
     ghost use Rattle.sdd_domain.specs.Pointers.{ptr_slot, ptr_item, IsLoadedOf};
-    ghost use Rattle.sdd_domain.specs.Tokens.{place_of, home_of, own_of, hand_of, born_of, waiting_of, misses_of, number_of, nest_of, nest_in, IsInNest, IsInNestButMisses, IsSameButHand, IsSameButHandAndMisses};
+    ghost use Rattle.sdd_domain.specs.Tokens.{place_of, home_of, own_of, hand_of, born_of, waiting_of, misses_of, number_of, nest_of, nest_in, IsInNest, IsSameButHand, IsSameButHandAndMisses, IsUnchanged, IsUnchangedButMisses};
     ghost use Rattle.sdd_domain.specs.CellSteps.{StepsOnNoCell};
     ghost use Rattle.sdd_domain.specs.Holding.{told_of, IsHeldOf};
     ghost use Rattle.sdd_domain.specs.Sharing.{kept_in, IsOwnerOf};
@@ -125,7 +125,7 @@ impl<T: Holds> Shared<T> {
         ensures back { IfErr result (λ back. (kept_in back ≡ kept_in self) × ((x : T) → IsOwnerOf self x → IsOwnerOf back x)) }
         ensures hit { OnOk result (misses_of local.new ≡ misses_of local.old) }
         ensures missed { OnErr result (misses_of local.new ≡ misses_of local.old + 1) }
-        ensures same { IsInNestButMisses local.old local.new × (own_of local.new ≡ own_of local.old) × (born_of local.new ≡ born_of local.old) × (waiting_of local.new ≡ waiting_of local.old) }
+        ensures same { IsUnchangedButMisses local.old local.new }
         ensures cells { StepsOnNoCell local.old local.new }
     {
         let Shared { slot, part, calm } = self;
@@ -177,7 +177,7 @@ impl<T: Holds> Shared<T> {
         requires home { home_of local.old ≡ place_of domain.now }
         ensures home { IfSome result (λ s. kept_in s ≡ (place_of domain.now).0) }
         ensures slot { IfSome result (λ s. s.slot ≡ slot) }
-        ensures same { IsInNest local.old local.new × (own_of local.new ≡ own_of local.old) × (born_of local.new ≡ born_of local.old) × (waiting_of local.new ≡ waiting_of local.old) }
+        ensures same { IsUnchanged local.old local.new }
         ensures cells { StepsOnNoCell local.old local.new }
     {
         let Local { seat, rows, .. } = local;
@@ -196,7 +196,7 @@ impl<T: Holds> Shared<T> {
         ensures home { IfOk result (λ s. kept_in s ≡ (place_of domain.now).0) }
         ensures exact { IfOk result (λ s. owner_slot (Some s) ≡ ptr_slot pointer.entry) }
         ensures back { IfErr result (λ back. back ≡ pointer.entry) }
-        ensures same { IsInNest local.old local.new × (own_of local.new ≡ own_of local.old) × (born_of local.new ≡ born_of local.old) × (waiting_of local.new ≡ waiting_of local.old) }
+        ensures same { IsUnchanged local.old local.new }
         ensures cells { StepsOnNoCell local.old local.new }
     {
         match pointer.get_shared(domain, local) {
@@ -221,7 +221,7 @@ impl<T: Holds> Shared<T> {
         ensures item { (x : T) → IsOwnerOf self x → IsOwnerOf result.0 x }
         ensures exact { ptr_slot result.1 ≡ owner_slot (Some self) }
         ensures same_item { (x : T) → IsOwnerOf self x → ptr_item result.1 ≡ Some x }
-        ensures same { IsInNest local.old local.new × (own_of local.new ≡ own_of local.old) × (born_of local.new ≡ born_of local.old) × (waiting_of local.new ≡ waiting_of local.old) }
+        ensures same { IsUnchanged local.old local.new }
         ensures cells { StepsOnNoCell local.old local.new }
     {
         let (owner, loaded) = self.loaded(domain, local);
@@ -242,7 +242,7 @@ impl<T: Holds> Shared<T> {
         ensures home { kept_in result.0 ≡ kept_in self }
         ensures item { (x : T) → IsOwnerOf self x → IsOwnerOf result.0 x }
         ensures same_item { (x : T) → IsOwnerOf self x → result.1.now ≡ x }
-        ensures same { IsInNest local.old local.new × (own_of local.new ≡ own_of local.old) × (born_of local.new ≡ born_of local.old) × (waiting_of local.new ≡ waiting_of local.old) }
+        ensures same { IsUnchanged local.old local.new }
         ensures cells { StepsOnNoCell local.old local.new }
     {
         let (owner, loaded) = self.loaded(domain, local);
@@ -262,7 +262,7 @@ impl<T: Holds> Shared<T> {
         ensures seen { IsSomeAnd result.1.seen (λ s. (number_of local.old, s.life) ≡ nest_in local.old) }
         ensures slot { result.1.slot ≡ self.slot }
         ensures same_item { (x : T) → IsOwnerOf self x → IsLoadedOf result.1 x }
-        ensures same { IsInNest local.old local.new × (own_of local.new ≡ own_of local.old) × (born_of local.new ≡ born_of local.old) × (waiting_of local.new ≡ waiting_of local.old) }
+        ensures same { IsUnchanged local.old local.new }
         ensures cells { StepsOnNoCell local.old local.new }
     {
         let Shared { slot, part, calm } = self;

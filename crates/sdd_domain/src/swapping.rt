@@ -1,16 +1,15 @@
 //! What a participant brings to a cell and gets back from it, in its spare slot.
 
-ghost use Rattle.std.specs.Prelude.{◌≡◌, ℕ, ◌+◌, ◌*◌, ◌^◌, ◌<◌, ◌≤◌, ◌∷◌, ◌%◌, List, Option, true, IfSome};
+ghost use Rattle.std.specs.Prelude.{◌≡◌, ℕ, ◌+◌, ◌^◌, ◌<◌, ◌∷◌, ◌%◌, List, Option, IfSome};
 ghost use Rattle.atomic_table.specs.Table.{Me};
-ghost use Rattle.sdd_steps.specs.Steps.{is_ready};
 ghost use Rattle.sdd_homes.specs.declared.Owner.{Owner};
-ghost use Rattle.domain_table.specs.Outcomes.{BringsOne, TakesBack, HasSwapped};
-ghost use Rattle.sdd_domain.specs.Comparing.{owner_code, IsInFront};
+ghost use Rattle.domain_table.specs.Outcomes.{BringsOne, TakesBack};
+ghost use Rattle.sdd_domain.specs.Comparing.{owner_code, IsInFront, CanSwap, SwapsOwner};
 ghost use Rattle.domain_table.specs.Contents.{IsIn};
 ghost use Rattle.sdd_plain.specs.Epochs.{tag_number};
 ghost use Rattle.domain_table.specs.Fitting.{FitsSizes};
 ghost use Rattle.domain_table.specs.Layout.{packed, cell_word};
-ghost use Rattle.domain_table.specs.Plays.{own_spare, with_step, GetsBack};
+ghost use Rattle.domain_table.specs.Plays.{own_spare, GetsBack};
 ghost use Rattle.sdd_domain.specs.Sharing.{kept_in};
 ghost use Rattle.domain_table.specs.declared.board.Acting.{Acting};
 ghost use Rattle.domain_table.specs.declared.board.Home.{Home};
@@ -105,12 +104,12 @@ pub(crate) fn swap_owner<T: Holds>(
     new: (Option<Shared<T>>, Tag),
 ) -> (u64, (Option<Shared<T>>, Tag))
     requires table { FitsSizes words.now.table_id words.now.key.sizes seat.old.table_id seat.old.me.0.sizes sizes.now × (cell < sizes.now.cells) }
-    requires ready { (seat.old.me.0.kind ≡ of_participant) × (is_ready seat.old.me.0.known ≡ true) × (seat.old.me.0.releasing ≡ 0) × (seat.old.me.0.spare ≡ spare) × (spare < 2 ^ 31) }
+    requires ready { CanSwap spare seat.old.me.0 }
     requires out { (tail : List (ℕ × Home T)) × (seat.old.me.1 ≡ (own_spare seat.old.me.0 spare, Blank) ∷ tail) }
     requires mine { IfSome new.0 (λ s. kept_in s ≡ words.now.table_id) }
     ensures seat { (seat.new.table_id ≡ seat.old.table_id) × (seat.new.id ≡ seat.old.id) }
     ensures spare { result.0 < 2 ^ 31 }
-    ensures swapped { (w : ℕ) × (v : ℕ) × HasSwapped (with_step (cell_word sizes.now cell) w v seat.old.me) spare result.0 seat.new.me × (w ≡ packed result.0 (tag_number result.1.1) (owner_code result.1.0)) × (v ≡ packed spare (tag_number new.1) (owner_code new.0)) }
+    ensures swapped { SwapsOwner (cell_word sizes.now cell) seat.old.me spare result.0 result.1 new seat.new.me }
     ensures few { (tag_number result.1.1 < 4) × (tag_number new.1 < 4) }
     ensures mine { IfSome result.1.0 (λ s. kept_in s ≡ words.now.table_id) }
 {

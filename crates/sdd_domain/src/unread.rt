@@ -1,11 +1,10 @@
 //! What a participant retired is reclaimed at once, where no other one has a guard open.
 
-ghost use Rattle.std.specs.Prelude.{◌≡◌, ℕ, List, [], None, ◌<◌, ◌≤◌, ◌^◌};
-ghost use Rattle.sdd_homes.specs.declared.Garbage.{Garbage};
-ghost use Rattle.sdd_steps.specs.declared.participant.Phase.TheVariants.{Idle, HasRead};
+ghost use Rattle.std.specs.Prelude.{◌≡◌, [], None, ◌<◌};
 ghost use Rattle.domain_table.specs.Fitting.{FitsNumber};
 ghost use Rattle.domain_table.specs.Ledgers.{WaitsIn};
-ghost use Rattle.domain_table.specs.Views.{of_participant, publishing};
+ghost use Rattle.domain_table.specs.Readiness.{IsIdle};
+ghost use Rattle.sdd_domain.specs.Openings.{CanPublishFound, HasOpened};
 
 use crate::board::Words;
 use crate::domain::Domain;
@@ -29,11 +28,11 @@ fn reclaim_settled<T: Holds>(
     epoch: u64,
 )
     requires table { FitsNumber words.now.table_id words.now.key.sizes seat.old.table_id seat.old.me.0.sizes sizes.now number }
-    requires read { (seat.old.me.0.kind ≡ of_participant) × (seat.old.me.0.number ≡ number) × (seat.old.me.0.known.phase ≡ HasRead epoch) × (seat.old.me.0.known.found ≡ epoch) × (seat.old.me.0.scan ≡ 0) }
+    requires read { CanPublishFound number epoch seat.old.me.0 }
     requires rest { (seat.old.me.0.releasing ≡ 0) × (seat.old.me.0.leases ≡ []) × (seat.old.me.0.filling ≡ None) }
     requires waits { WaitsIn sizes.now.slots seat.old.me.0.waits bags.old }
     ensures seat { (seat.new.table_id ≡ seat.old.table_id) × (seat.new.id ≡ seat.old.id) }
-    ensures reclaimed { (b : ℕ) × (k : ℕ) × (ws : List Garbage) × (seat.new.me ≡ (record seat.old.me.0 { known = publishing epoch seat.old.me.0.known; born = b; slot = k; waits = ws }, seat.old.me.1)) }
+    ensures reclaimed { HasOpened epoch seat.old.me seat.new.me }
     ensures waits { WaitsIn sizes.now.slots seat.new.me.0.waits bags.new × (bags.new.due ≡ None) }
 {
     steps::publish(words, seat, number, epoch);
@@ -51,12 +50,12 @@ fn open_and_reclaim<T: Holds>(
     bags: &mut Bags,
 ) -> u64
     requires table { FitsNumber words.now.table_id words.now.key.sizes seat.old.table_id seat.old.me.0.sizes sizes.now number }
-    requires shut { (seat.old.me.0.kind ≡ of_participant) × (seat.old.me.0.number ≡ number) × (seat.old.me.0.known.phase ≡ Idle) × (seat.old.me.0.scan ≡ 0) }
+    requires shut { IsIdle number seat.old.me.0 }
     requires rest { (seat.old.me.0.releasing ≡ 0) × (seat.old.me.0.leases ≡ []) × (seat.old.me.0.filling ≡ None) }
     requires found { (seat.old.me.0.known.found ≡ own.old.previous) × (own.old.published ≡ own.old.previous) }
     requires waits { WaitsIn sizes.now.slots seat.old.me.0.waits bags.old × (bags.old.due ≡ None) }
     ensures seat { (seat.new.table_id ≡ seat.old.table_id) × (seat.new.id ≡ seat.old.id) }
-    ensures reclaimed { (b : ℕ) × (k : ℕ) × (ws : List Garbage) × (seat.new.me ≡ (record seat.old.me.0 { known = publishing result seat.old.me.0.known; born = b; slot = k; waits = ws }, seat.old.me.1)) }
+    ensures reclaimed { HasOpened result seat.old.me seat.new.me }
     ensures waits { WaitsIn sizes.now.slots seat.new.me.0.waits bags.new × (bags.new.due ≡ None) }
     ensures own { (own.new.published ≡ result) × (own.new.previous ≡ result) × (own.new.nesting ≡ own.old.nesting) }
 {
@@ -74,7 +73,7 @@ fn open_and_reclaim<T: Holds>(
 }
 
 impl<T: Holds> Local<T> {
-    ghost use Rattle.sdd_domain.specs.Tokens.{place_of, home_of, number_of, own_of, hand_of, IsSame};
+    ghost use Rattle.sdd_domain.specs.Tokens.{place_of, home_of, own_of, IsSame};
 
     /// Reclaims all that the participant retired, where no other one has a guard open, whatever the count; else what is due.
     /// What the items held waits, where it was the last owner.

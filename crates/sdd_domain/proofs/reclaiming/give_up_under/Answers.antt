@@ -7,7 +7,7 @@ use Rattle.domain_table.specs.Leases.{all_below}
 use Rattle.domain_table.specs.Owners.{told}
 use Rattle.domain_table.specs.declared.board.Acting.{Acting}
 use Rattle.domain_table.specs.declared.board.Home.{Home}
-use Rattle.domain_garbage.specs.Bag.{AreAt}
+use Rattle.domain_table.specs.Leases.{AreAt}
 use Rattle.sdd_domain.proofs.Hands.{first_held, none_held}
 use Rattle.sdd_domain.proofs.reclaiming.give_up_under.Goals as goal
 

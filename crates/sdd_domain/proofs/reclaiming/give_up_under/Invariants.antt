@@ -6,7 +6,7 @@ use Rattle.sdd_homes.specs.declared.Owner.{Owner}
 use Rattle.domain_table.specs.Ledgers.{WaitsIn}
 use Rattle.domain_table.specs.Leases.{row_told, lease_told, row_slots}
 use Rattle.domain_table.specs.Owners.{told}
-use Rattle.domain_garbage.specs.Bag.{AreAt}
+use Rattle.domain_table.specs.Leases.{AreAt}
 use Rattle.sdd_domain.proofs.reclaiming.give_up_under.Given as goal
 
 abbrev pub invariant-loop-held : goal.invariant-loop-held

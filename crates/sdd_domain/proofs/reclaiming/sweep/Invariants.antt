@@ -5,7 +5,8 @@ use Rattle.sdd_homes.specs.declared.Garbage.{Garbage}
 use Rattle.sdd_homes.specs.declared.Lease.{Lease}
 use Rattle.domain_table.specs.Ledgers.{WaitsIn}
 use Rattle.domain_table.specs.Leases.{row_told, lease_told, row_slots}
-use Rattle.domain_garbage.specs.Bag.{IsKept, AreAt}
+use Rattle.domain_garbage.specs.Bag.{IsKept}
+use Rattle.domain_table.specs.Leases.{AreAt}
 use Rattle.sdd_domain.proofs.reclaiming.sweep.Given as goal
 
 abbrev pub invariant-loop-slot : goal.invariant-loop-slot
