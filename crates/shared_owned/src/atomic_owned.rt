@@ -1,6 +1,6 @@
 //! Cells of owners that are alone.
 
-ghost use Rattle.std.specs.Prelude.{◌≡◌, ◌<◌, ◌+◌, ◌||◌, ◌⊎◌, ◌↔◌, ◌^◌, ℕ, Bool, true, false, [], Some, IsTrue, IsFalse, IfSome, IfNone, IfOk, IfErr, OnOk, OnErr};
+ghost use Rattle.std.specs.Prelude.{◌≡◌, ◌<◌, ◌+◌, ◌⊎◌, ◌↔◌, ◌^◌, ℕ, Bool, true, false, [], Some, IsTrue, IsFalse, IfSome, IfOk, IfErr, OnOk, OnErr};
 ghost use Rattle.shared_owned.specs.Alone.{owner_in};
 
 use crate::owned::Owned;
@@ -43,10 +43,10 @@ fn alone<T>(owner: Option<Shared<T>>) -> Option<Owned<T>>
 
 impl<T: Holds> AtomicOwned<T> {
     ghost use Rattle.sdd_plain.specs.Epochs.{tag_number};
-    ghost use Rattle.sdd_domain.specs.CellSteps.{StepsOnNoCell, HasReadCell, HasExchanged, HasFoundLast, HasReadOften, HasRetagged};
-    ghost use Rattle.sdd_domain.specs.Comparing.{code_of};
+    ghost use Rattle.sdd_domain.specs.CellSteps.{StepsOnNoCell, HasReadCell, HasExchanged, HasReadOften, HasEmptiedAtMost};
+    ghost use Rattle.sdd_domain.specs.Comparing.{code_of, HasFoundPtrLast, HasSwappedCell, HasTagged};
     ghost use Rattle.sdd_domain.specs.Pointers.{named_slot, named_tag};
-    ghost use Rattle.sdd_domain.specs.Tokens.{place_of, home_of, number_of, own_of, hand_of, born_of, waiting_of, misses_of, nest_of, nest_in, IsInNest, IsInNestButMisses};
+    ghost use Rattle.sdd_domain.specs.Tokens.{place_of, home_of, number_of, own_of, hand_of, born_of, misses_of, nest_of, nest_in, IsInNestButMisses, IsInNestButGarbage, IsUnchanged, IsUnchangedButMisses};
     ghost use Rattle.shared_owned.specs.Alone.{IsCellOf, cell_of, place_in, sole_slot, sole_code, IsSoleBack, pointer_slot, pointer_tag};
     ghost use Rattle.shared_owned.specs.declared.pointer.OwnedPtr.{OwnedPtr};
 
@@ -56,7 +56,7 @@ impl<T: Holds> AtomicOwned<T> {
         ensures cell { IfOk result (λ c. IsCellOf c domain.now) }
         ensures hit { IfOk result (λ c. misses_of local.new ≡ misses_of local.old) }
         ensures missed { OnErr result (misses_of local.new ≡ misses_of local.old + 1) }
-        ensures same { IsInNestButMisses local.old local.new × (own_of local.new ≡ own_of local.old) × (born_of local.new ≡ born_of local.old) × (waiting_of local.new ≡ waiting_of local.old) }
+        ensures same { IsUnchangedButMisses local.old local.new }
         ensures cells { StepsOnNoCell local.old local.new }
     {
         match AtomicShared::null(domain, local) {
@@ -104,7 +104,7 @@ impl<T: Holds> AtomicOwned<T> {
         ensures home { (home_of local.new ≡ home_of local.old) × (number_of local.new ≡ number_of local.old) }
         ensures own { (flag : Bool) × (own_of local.new ≡ record (own_of local.old) { garbage = flag }) }
         ensures put { IfOk result (λ c. (t : ℕ) × (k : ℕ) × (slot : ℕ) × HasExchanged local.old (cell_of c) t k 0 (slot + 1) local.new) }
-        ensures cells { OnErr result (StepsOnNoCell local.old local.new ⊎ ((cell : ℕ) × (t : ℕ) × (k : ℕ) × HasExchanged local.old cell t k 0 0 local.new)) }
+        ensures cells { OnErr result (HasEmptiedAtMost local.old local.new) }
     {
         match AtomicShared::new(domain, item, local) {
             Ok(cell) => Ok(AtomicOwned { cell }),
@@ -117,7 +117,7 @@ impl<T: Holds> AtomicOwned<T> {
         requires home { home_of local.old ≡ place_of domain.now }
         requires cell { IsCellOf self.now domain.now }
         ensures looked { (t : ℕ) × (k : ℕ) × HasReadCell local.old (cell_of self.now) t k local.new × (IsTrue result ↔ (k ≡ 0)) }
-        ensures same { IsInNest local.old local.new × (own_of local.new ≡ own_of local.old) × (born_of local.new ≡ born_of local.old) × (waiting_of local.new ≡ waiting_of local.old) }
+        ensures same { IsUnchanged local.old local.new }
     {
         self.cell.is_null(domain, local)
     }
@@ -127,7 +127,7 @@ impl<T: Holds> AtomicOwned<T> {
         requires home { home_of local.old ≡ place_of domain.now }
         requires cell { IsCellOf self.now domain.now }
         ensures looked { (k : ℕ) × HasReadCell local.old (cell_of self.now) (tag_number result) k local.new }
-        ensures same { IsInNest local.old local.new × (own_of local.new ≡ own_of local.old) × (born_of local.new ≡ born_of local.old) × (waiting_of local.new ≡ waiting_of local.old) }
+        ensures same { IsUnchanged local.old local.new }
     {
         self.cell.tag(domain, local)
     }
@@ -144,7 +144,7 @@ impl<T: Holds> AtomicOwned<T> {
         requires nest { nest_of guard.now ≡ nest_in local.old }
         requires open { 0 < (own_of local.old).nesting }
         requires cell { IsCellOf self.now domain.now }
-        ensures same { IsInNest local.old local.new × (own_of local.new ≡ own_of local.old) × (born_of local.new ≡ born_of local.old) × (waiting_of local.new ≡ waiting_of local.old) }
+        ensures same { IsUnchanged local.old local.new }
         ensures looked { HasReadCell local.old (cell_of self.now) (tag_number (pointer_tag result)) (code_of (pointer_slot result)) local.new }
     {
         OwnedPtr {
@@ -164,8 +164,8 @@ impl<T: Holds> AtomicOwned<T> {
         requires cell { IsCellOf self.now domain.now }
         requires mine { IfSome new.0 (λ o. place_in o ≡ (place_of domain.now).0) }
         ensures home { IfSome result.0 (λ o. place_in o ≡ (place_of domain.now).0) }
-        ensures same { IsInNest local.old local.new × (own_of local.new ≡ own_of local.old) × (born_of local.new ≡ born_of local.old) × (waiting_of local.new ≡ waiting_of local.old) }
-        ensures exchanged { HasExchanged local.old (cell_of self.now) (tag_number result.1) (sole_code result.0) (tag_number new.1) (sole_code new.0) local.new }
+        ensures same { IsUnchanged local.old local.new }
+        ensures exchanged { HasSwappedCell local.old (cell_of self.now) (owner_in result.0, result.1) (owner_in new.0, new.1) local.new }
     {
         let (owned, tag) = new;
         let (old, found) = self.cell.swap(domain, (any(owned), tag), local);
@@ -194,8 +194,8 @@ impl<T: Holds> AtomicOwned<T> {
         ensures exact { IfOk result (λ r. sole_slot r.0 ≡ pointer_slot current.entry) }
         ensures stands { IfOk result (λ r. (named_slot r.1 ≡ sole_slot new.0) × (named_tag r.1 ≡ new.1)) }
         ensures back { IfErr result (λ r. IsSoleBack new.0 r.0) }
-        ensures same { IsInNest local.old local.new × (own_of local.new ≡ own_of local.old) × (born_of local.new ≡ born_of local.old) × (waiting_of local.new ≡ waiting_of local.old) }
-        ensures exchanged { IfOk result (λ r. HasExchanged local.old (cell_of self.now) (tag_number (pointer_tag current.entry)) (sole_code r.0) (tag_number new.1) (sole_code new.0) local.new) }
+        ensures same { IsUnchanged local.old local.new }
+        ensures exchanged { IfOk result (λ r. HasSwappedCell local.old (cell_of self.now) (owner_in r.0, pointer_tag current.entry) (owner_in new.0, new.1) local.new) }
         ensures looked { IfErr result (λ r. HasReadCell local.old (cell_of self.now) (tag_number (pointer_tag r.1)) (code_of (pointer_slot r.1)) local.new) }
     {
         let (owned, tag) = new;
@@ -227,8 +227,8 @@ impl<T: Holds> AtomicOwned<T> {
         ensures exact { IfOk result (λ r. sole_slot r.0 ≡ pointer_slot current.entry) }
         ensures stands { IfOk result (λ r. (named_slot r.1 ≡ sole_slot new.0) × (named_tag r.1 ≡ new.1)) }
         ensures back { IfErr result (λ r. IsSoleBack new.0 r.0) }
-        ensures same { IsInNest local.old local.new × (own_of local.new ≡ own_of local.old) × (born_of local.new ≡ born_of local.old) × (waiting_of local.new ≡ waiting_of local.old) }
-        ensures exchanged { IfOk result (λ r. HasExchanged local.old (cell_of self.now) (tag_number (pointer_tag current.entry)) (sole_code r.0) (tag_number new.1) (sole_code new.0) local.new) }
+        ensures same { IsUnchanged local.old local.new }
+        ensures exchanged { IfOk result (λ r. HasSwappedCell local.old (cell_of self.now) (owner_in r.0, pointer_tag current.entry) (owner_in new.0, new.1) local.new) }
         ensures looked { IfErr result (λ r. HasReadCell local.old (cell_of self.now) (tag_number (pointer_tag r.1)) (code_of (pointer_slot r.1)) local.new) }
     {
         self.compare_exchange(domain, current, new, guard, local)
@@ -253,9 +253,9 @@ impl<T: Holds> AtomicOwned<T> {
         requires cell { IsCellOf self.now domain.now }
         requires callable { F.IsAlwaysCallable f }
         ensures asked { (r : OwnedPtr T) × (b : Bool) × F.post f r b × (IsTrue result → IsTrue b) }
-        ensures same { IsInNest local.old local.new × (own_of local.new ≡ own_of local.old) × (born_of local.new ≡ born_of local.old) × (waiting_of local.new ≡ waiting_of local.old) }
-        ensures set { IsTrue result → (r : OwnedPtr T) × F.post f r true × HasRetagged local.old (cell_of self.now) (tag_number (pointer_tag r)) (code_of (pointer_slot r)) (tag_number tag) local.new }
-        ensures kept { IsFalse result → ((r : OwnedPtr T) × F.post f r false × HasFoundLast local.old (cell_of self.now) (tag_number (pointer_tag r)) (code_of (pointer_slot r)) local.new) ⊎ HasReadOften local.old (cell_of self.now) (2 ^ 64) local.new }
+        ensures same { IsUnchanged local.old local.new }
+        ensures set { IsTrue result → (r : OwnedPtr T) × F.post f r true × HasTagged local.old (cell_of self.now) r.of tag local.new }
+        ensures kept { IsFalse result → ((r : OwnedPtr T) × F.post f r false × HasFoundPtrLast local.old (cell_of self.now) r.of local.new) ⊎ HasReadOften local.old (cell_of self.now) (2 ^ 64) local.new }
     {
         let ask = |of|
             requires { F.IsAlwaysCallable f }
@@ -269,7 +269,7 @@ impl<T: Holds> AtomicOwned<T> {
         requires home { home_of local.old ≡ place_of domain.now }
         requires cell { IsCellOf self domain.now }
         ensures home { IfSome result (λ o. place_in o ≡ (place_of domain.now).0) }
-        ensures same { IsInNest local.old local.new × (own_of local.new ≡ own_of local.old) × (born_of local.new ≡ born_of local.old) × (waiting_of local.new ≡ waiting_of local.old) }
+        ensures same { IsUnchanged local.old local.new }
         ensures taken { (t : ℕ) × HasExchanged local.old (cell_of self) t (sole_code result) 0 0 local.new }
     {
         let AtomicOwned { cell } = self;
@@ -281,7 +281,7 @@ impl<T: Holds> AtomicOwned<T> {
     pub fn retire(self, domain: &Domain<T>, local: &mut Local<T>) -> bool
         requires home { home_of local.old ≡ place_of domain.now }
         requires cell { IsCellOf self domain.now }
-        ensures same { IsInNest local.old local.new × (born_of local.new ≡ born_of local.old) × (own_of local.new ≡ record (own_of local.old) { garbage = (own_of local.old).garbage || result }) }
+        ensures same { IsInNestButGarbage result local.old local.new }
         ensures taken { (t : ℕ) × (k : ℕ) × HasExchanged local.old (cell_of self) t k 0 0 local.new }
     {
         let AtomicOwned { cell } = self;

@@ -1,6 +1,6 @@
 //! Words with a raw pointer.
 
-ghost use Rattle.std.specs.Prelude.{◌≡◌, IfOk, IfErr, Some, None, Bool, IsTrue};
+ghost use Rattle.std.specs.Prelude.{◌≡◌, IfOk, Some, Bool, IsTrue};
 ghost use Rattle.shared_owned.specs.declared.raw_ptr.RawPtr.{RawPtr};
 
 use crate::raw_ptr::RawPtr;

@@ -1,7 +1,7 @@
 //! Owners that are alone on their way into a private collector.
 
-ghost use Rattle.std.specs.Prelude.{◌≡◌, ◌+◌, ◌<◌, ◌≤◌, ◌∷◌, ◌||◌, ℕ, List, cond, nat_lt};
-ghost use Rattle.sdd_domain.specs.Collecting.{collects_in, held_in, slot_in, IsSwept};
+ghost use Rattle.std.specs.Prelude.{◌≡◌, ◌<◌, ◌||◌, nat_lt};
+ghost use Rattle.sdd_domain.specs.Collecting.{collects_in, held_in, slot_in, HasCollected};
 ghost use Rattle.sdd_domain.specs.Tokens.{place_of, home_of, own_of, born_of, waiting_of, nest_of, nest_in, IsInNest};
 ghost use Rattle.shared_owned.specs.Alone.{place_in, owner_of};
 
@@ -28,7 +28,7 @@ pub fn collect_owned<T: Holds>(
     requires nest { nest_of guard.now ≡ nest_in local.old }
     requires open { 0 < (own_of local.old).nesting }
     ensures home { collects_in result.0 ≡ collects_in collector }
-    ensures held { (count : ℕ) × (kept : List (ℕ × ℕ)) × IsSwept count (held_in collector) kept × (held_in result.0 ≡ cond result.1 ((slot_in (owner_of owned), count) ∷ kept) kept) × (born_of local.old ≤ count) × (count ≤ born_of local.old + 1) }
+    ensures held { HasCollected (held_in collector) (slot_in (owner_of owned)) result.1 (held_in result.0) local.old }
     ensures own { own_of local.new ≡ record (own_of local.old) { garbage = (own_of local.old).garbage || nat_lt 0 (waiting_of local.new) } }
     ensures same { IsInNest local.old local.new × (born_of local.new ≡ born_of local.old) }
 {

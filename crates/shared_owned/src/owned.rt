@@ -17,7 +17,7 @@ pub struct Owned<T> {
 
 impl<T: Holds> Owned<T> {
     ghost use Rattle.sdd_domain.specs.CellSteps.{StepsOnNoCell};
-    ghost use Rattle.sdd_domain.specs.Tokens.{place_of, home_of, own_of, hand_of, born_of, waiting_of, misses_of, nest_of, nest_in, IsInNest, IsSameButHandAndMisses};
+    ghost use Rattle.sdd_domain.specs.Tokens.{place_of, home_of, own_of, hand_of, born_of, waiting_of, misses_of, nest_of, nest_in, IsInNest, IsSameButHandAndMisses, IsUnchanged};
     ghost use Rattle.shared_owned.specs.Alone.{place_in, IsSoleOwnerOf, sole_slot, owner_of, pointer_slot, pointer_item};
 
     /// Places an item in a free slot, and gives its owner. If each slot was taken when it was tried, the item is returned,
@@ -98,7 +98,7 @@ impl<T: Holds> Owned<T> {
         ensures item { (x : T) → IsSoleOwnerOf self x → IsSoleOwnerOf result.0 x }
         ensures exact { pointer_slot result.1 ≡ sole_slot (Some self) }
         ensures same_item { (x : T) → IsSoleOwnerOf self x → pointer_item result.1 ≡ Some x }
-        ensures same { IsInNest local.old local.new × (own_of local.new ≡ own_of local.old) × (born_of local.new ≡ born_of local.old) × (waiting_of local.new ≡ waiting_of local.old) }
+        ensures same { IsUnchanged local.old local.new }
         ensures cells { StepsOnNoCell local.old local.new }
     {
         let Owned { owner } = self;
@@ -120,7 +120,7 @@ impl<T: Holds> Owned<T> {
         ensures home { place_in result.0 ≡ place_in self }
         ensures item { (x : T) → IsSoleOwnerOf self x → IsSoleOwnerOf result.0 x }
         ensures same_item { (x : T) → IsSoleOwnerOf self x → result.1.now ≡ x }
-        ensures same { IsInNest local.old local.new × (own_of local.new ≡ own_of local.old) × (born_of local.new ≡ born_of local.old) × (waiting_of local.new ≡ waiting_of local.old) }
+        ensures same { IsUnchanged local.old local.new }
         ensures cells { StepsOnNoCell local.old local.new }
     {
         let Owned { owner } = self;

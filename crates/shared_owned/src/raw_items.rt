@@ -1,6 +1,6 @@
 //! Items that are handed out as raw pointers.
 
-ghost use Rattle.std.specs.Prelude.{◌≡◌, ◌<◌, ◌≤◌, ◌+◌, ◌↔◌, ℕ, All, Some, IfOk, IfErr, IfSome, IfNone, IsSome, length};
+ghost use Rattle.std.specs.Prelude.{◌≡◌, ◌<◌, ◌≤◌, All, Some, IfOk, IfErr, IfSome, IfNone, IsSome, length};
 ghost use Rattle.sdd_domain.specs.Cells.{cell_number};
 ghost use Rattle.sdd_domain.specs.CellSteps.{StepsOnNoCell};
 ghost use Rattle.sdd_domain.specs.Sharing.{kept_in};
@@ -41,10 +41,9 @@ pub struct RawItems<T> {
 
 impl<T: Holds> RawItems<T> {
     ghost use Rattle.sdd_plain.specs.declared.tag.Tag.TheVariants as tags;
-    ghost use Rattle.sdd_domain.specs.Tokens.{nest_of, nest_in, born_of, waiting_of, cell_count, slot_count};
-    ghost use Rattle.sdd_domain.specs.CellSteps.{HasReadCell, HasExchanged};
-    ghost use Rattle.shared_owned.specs.Alone.{place_in, sole_slot, sole_code, pointer_slot, pointer_tag, IsAsBefore};
-    ghost use Rattle.shared_owned.specs.Raw.{raw_slot, raw_tag, AreRawItemsOf, IsRawCell};
+    ghost use Rattle.sdd_domain.specs.Tokens.{nest_of, nest_in, cell_count, slot_count, IsUnchanged};
+    ghost use Rattle.shared_owned.specs.Alone.{place_in, sole_slot, pointer_slot, pointer_tag, IsAsBefore};
+    ghost use Rattle.shared_owned.specs.Raw.{raw_slot, raw_tag, AreRawItemsOf, IsRawCell, PutsRaw, ReadsRaw, TakesRaw};
 
     /// None is out as a raw one yet. It takes as many cells as the place has slots, and memory for their names.
     pub fn new(
@@ -94,7 +93,7 @@ impl<T: Holds> RawItems<T> {
         requires mine { place_in owned ≡ (place_of domain.now).0 }
         ensures exact { IfOk result (λ p. raw_slot p ≡ sole_slot (Some owned)) }
         ensures bare { IfOk result (λ p. raw_tag p ≡ tags.None) }
-        ensures put { IfOk result (λ p. (cell : ℕ) × (t : ℕ) × (c : ℕ) × IfSome (sole_slot (Some owned)) (λ k. IsRawCell self.now k cell) × HasExchanged local.old cell t c 0 (sole_code (Some owned)) local.new) }
+        ensures put { IfOk result (λ p. PutsRaw self.now owned local.old local.new) }
         ensures refused { IfErr result (λ back. (back ≡ owned) × IfSome (sole_slot (Some owned)) (λ k. slot_count domain.now ≤ k)) }
         ensures same { IsInNest local.old local.new × ((own_of local.new).nesting ≡ (own_of local.old).nesting) }
     {
@@ -122,7 +121,7 @@ impl<T: Holds> RawItems<T> {
         requires raws { AreRawItemsOf self.now domain.now }
         ensures home { IfSome result (λ o. place_in o ≡ (place_of domain.now).0) }
         ensures exact { IfSome result (λ o. sole_slot (Some o) ≡ raw_slot pointer) }
-        ensures taken { IfSome (raw_slot pointer) (λ k. k < slot_count domain.now → (cell : ℕ) × (t : ℕ) × (c : ℕ) × IsRawCell self.now k cell × HasExchanged local.old cell t c 0 0 local.new × (IsSome result ↔ (c ≡ k + 1))) }
+        ensures taken { IfSome (raw_slot pointer) (λ k. k < slot_count domain.now → TakesRaw self.now k (IsSome result) local.old local.new) }
         ensures same { IsInNest local.old local.new × ((own_of local.new).nesting ≡ (own_of local.old).nesting) }
     {
         let Some(slot) = pointer.slot else {
@@ -159,8 +158,8 @@ impl<T: Holds> RawItems<T> {
         ensures slot { IfSome result (λ p. pointer_slot p ≡ raw_slot pointer) }
         ensures tag { IfSome result (λ p. pointer_tag p ≡ raw_tag pointer) }
         ensures null { IfNone (raw_slot pointer) (IsSome result) }
-        ensures looked { IfSome (raw_slot pointer) (λ k. k < slot_count domain.now → (cell : ℕ) × (t : ℕ) × (c : ℕ) × IsRawCell self.now k cell × HasReadCell local.old cell t c local.new × (IsSome result ↔ (c ≡ k + 1))) }
-        ensures same { IsInNest local.old local.new × (own_of local.new ≡ own_of local.old) × (born_of local.new ≡ born_of local.old) × (waiting_of local.new ≡ waiting_of local.old) }
+        ensures looked { IfSome (raw_slot pointer) (λ k. k < slot_count domain.now → ReadsRaw self.now k (IsSome result) local.old local.new) }
+        ensures same { IsUnchanged local.old local.new }
     {
         let Some(slot) = pointer.slot else {
             return Some(OwnedPtr::null().with_tag(pointer.tag));

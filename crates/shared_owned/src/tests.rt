@@ -104,7 +104,7 @@ pub(crate) fn last_value(
 ) -> Option<u64>
     requires home { home_of local.old ≡ place_of domain.now }
     requires mine { IfSome owner (λ o. place_in o ≡ (place_of domain.now).0) }
-    ensures same { IsSameButMisses local.old local.new × ((own_of local.new).nesting ≡ (own_of local.old).nesting) × (nest_in local.new ≡ nest_in local.old) }
+    ensures same { IsAsBefore local.old local.new }
 {
     let owner = owner?;
     let value = *owner.as_ref();
