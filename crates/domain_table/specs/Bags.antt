@@ -28,7 +28,7 @@ LosesOldest all bag k others = (ps cs : List Garbage) → all ≡ ps ++ cs → I
 abbrev pub LieTogether : List Garbage → ℕ → ℕ → Type 0
 LieTogether all n k = (xs : List Garbage) × (w : Garbage) × (v : Garbage) × (ys : List Garbage) × (all ≡ xs ++ (w ∷ v ∷ ys)) × (w.slot ≡ n) × (v.slot ≡ k)
 
--- this is true of them once that one is followed by it
+-- where they lie so, this is true of all items once the one in slot k is linked to the other
 abbrev pub IsFollowed : List Garbage → ℕ → ℕ → (List Garbage → Type 0) → Type 0
 IsFollowed all n k Is = (xs : List Garbage) (w v : Garbage) (ys : List Garbage) → all ≡ xs ++ (w ∷ v ∷ ys) → w.slot ≡ n → v.slot ≡ k → Is (xs ++ (w ∷ record v { next = w.slot + 1 } ∷ ys))
 
@@ -48,7 +48,7 @@ without_next w = (w.item, w.slot, w.round, w.age)
 abbrev pub AreAlike : List Garbage → List Garbage → Type 0
 AreAlike ws vs = map without_next vs ≡ map without_next ws
 
--- this bag has what the two in front of these had, and this is true of them then
+-- where two bags lie in front of these, this one has the items of both, and this is true of all items then
 abbrev pub IsJoined : List Garbage → Option Ends → Option Ends → Option Ends → (List Garbage → Type 0) → Type 0
 IsJoined all newer older bag Is = (fs bs rest : List Garbage) → all ≡ fs ++ (bs ++ rest) → IsBag fs newer → IsBag bs older
     → (cs : List Garbage) × AreAlike bs cs × IsBag (fs ++ cs) bag × Is (fs ++ (cs ++ rest))

@@ -30,7 +30,7 @@ module _ {T : Type 0} (holds : T → List (ℕ × ℕ)) where
   IsIn (deed r hs) y = (d : _) × (y ≡ Deed d) × (d.life ≡ r) × IsSomeAnd d.value (λ m. holds (manually_drop_value m) ≡ map told hs)
   IsIn (part r c) y = (p : _) × (y ≡ Part p c) × (p.life.id ≡ r) × (p.life.count ≡ c) × (0 < c) × IsSome p.seen.value
 
-  -- a deed has this life and this item: there is just one content by which it lies in this home
+  -- whatever deed lies in this home is of this life, and its item holds the owners that the deed has
   abbrev pub IsDeedOf : Home T → ℕ → Option (ManuallyDrop T) → Type 0
   IsDeedOf y life item = (r : ℕ) (hs : List Owner) → IsIn (deed r hs) y → (life ≡ r) × IsSomeAnd item (λ m. holds (manually_drop_value m) ≡ map told hs)
 
@@ -47,7 +47,7 @@ module _ {T : Type 0} where
   abbrev pub AreIn : parted.Part (Option (ManuallyDrop T)) → ℕ → Home T → Type 0
   AreIn p c y = y ≡ Part p c
 
-  -- they are the parts, this many of them, that lie there by its content
+  -- whatever parts lie there are these, this many of them
   abbrev pub ArePartsOf : (T → List (ℕ × ℕ)) → Home T → parted.Part (Option (ManuallyDrop T)) → ℕ → Type 0
   ArePartsOf holds y p n = (r c : ℕ) → IsIn holds (part r c) y → (p.life.id ≡ r) × (p.life.count ≡ c) × (n ≡ c) × (0 < c) × IsSome p.seen.value × AreIn p c y
 

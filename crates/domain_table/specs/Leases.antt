@@ -65,7 +65,7 @@ KeepsRows life slots ls rows before after = (map row_told rows ≡ map (lease_to
 abbrev pub AreRowsOf : {T : Type 0} → ℕ → List Lease → List (Row T) → Type 0
 AreRowsOf slots ls rows = ((life : ℕ) × (map row_told rows ≡ map (lease_told life) ls)) × (all_below slots (row_slots rows) ≡ true)
 
--- if the rows were those of the leases, under whatever life, these are those of these
+-- where the rows were those of the leases, under any life, the new rows are those of the new leases
 abbrev pub StayRowsOf : {T : Type 0} → List Lease → List (Row T) → List Lease → List (Row T) → Type 0
 StayRowsOf ls rows ls' rows' = (life : ℕ) → map row_told rows ≡ map (lease_told life) ls → map row_told rows' ≡ map (lease_told life) ls'
 

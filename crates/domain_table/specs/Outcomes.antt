@@ -113,7 +113,7 @@ module _ {T : Type 0} where
   abbrev pub ReadsCell : ℕ → Me (Home T) Acting → ℕ → Me (Home T) Acting → Type 0
   ReadsCell at m found after = (y : ℕ) × (k : ℕ) × (y < 2 ^ 31) × Tells found y k × (after ≡ with_step at found found m)
 
-  -- one part of what is leased in this slot is an owner's, which is in hand
+  -- one part of what is leased in this slot is an owner's now, and the owner is in hand
   abbrev pub ClonesAt : ℕ → Me (Home T) Acting → Me (Home T) Acting → Type 0
   ClonesAt k m after = (l : Lease) → Has m.0.leases l → l.slot ≡ k → after ≡ (cloning l m.0, m.1)
 

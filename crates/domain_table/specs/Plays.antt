@@ -25,7 +25,7 @@ abbrev pub with_step : {S : Type 0} → ℕ → ℕ → ℕ → Me S Acting → 
 with_step i found left m = (record m.0 { cell_steps = m.0.cell_steps ++ record { word = i; found = found; left = left } ∷ [] }, m.1)
 
 module _ {S : Type 0} where
-  -- all stays with the seat but what it knows of the participant; or but whom that has looked at
+  -- all stays with the seat but what it knows of the participant; or but whom it has looked at
   abbrev pub with_known : Participant → Me S Acting → Me S Acting
   with_known x m = (record m.0 { known = x }, m.1)
 

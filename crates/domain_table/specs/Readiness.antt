@@ -47,7 +47,7 @@ CanTakeNext d = (d.kind ≡ of_participant) × ((f : Filling) × (d.filling ≡ 
 abbrev pub IsIdle : ℕ → Acting → Type 0
 IsIdle p d = (d.kind ≡ of_participant) × (d.number ≡ p) × (d.known.phase ≡ Idle) × (d.scan ≡ 0)
 
--- and has nothing of homes and no owner
+-- and it has no owner, and nothing of the participant's homes
 abbrev pub IsIdleAndBare : ℕ → Acting → Type 0
 IsIdleAndBare p d = (d.kind ≡ of_participant) × (d.number ≡ p) × (d.known.phase ≡ Idle) × (d.scan ≡ 0) × IsBare d
 

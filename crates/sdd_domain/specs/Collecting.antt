@@ -36,7 +36,7 @@ IsSwept count old kept = (gone : List (ℕ × ℕ)) × (old ≡ kept ++ gone) ×
 abbrev pub IsSweptOf : ℕ → List Garbage → List Garbage → Type 0
 IsSweptOf count old kept = (gone : List Garbage) × (old ≡ kept ++ gone) × ((w : Garbage) → Has gone w → w.age + 3 ≤ count) × NoneDue count kept
 
--- what is due by the count was taken out of the bag, and this item was put in, if it had lost its last owner: the count was read under the open guard
+-- What is due by a count was taken out of the bag, and this item was put in if it had lost its last owner. The count was read under the open guard.
 abbrev pub HasCollected : {T : Type 0} → List (ℕ × ℕ) → ℕ → Bool → List (ℕ × ℕ) → Local T → Type 0
 HasCollected old slot last new local = (count : ℕ) × (kept : List (ℕ × ℕ)) × IsSwept count old kept × (new ≡ cond last ((slot, count) ∷ kept) kept) × (born_of local ≤ count) × (count ≤ born_of local + 1)
 

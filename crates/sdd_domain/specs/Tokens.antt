@@ -97,7 +97,7 @@ IsSameButMisses old new = (home_of new ≡ home_of old) × (number_of new ≡ nu
 abbrev pub IsInNestButMisses : {T : Type 0} → Local T → Local T → Type 0
 IsInNestButMisses old new = IsSameButMisses old new × (nest_in new ≡ nest_in old)
 
--- and it notes the same of itself, and as many items wait
+-- the same guards are open, it notes the same of itself, and as many items wait for it
 abbrev pub IsUnchanged : {T : Type 0} → Local T → Local T → Type 0
 IsUnchanged old new = IsInNest old new × (own_of new ≡ own_of old) × (born_of new ≡ born_of old) × (waiting_of new ≡ waiting_of old)
 
