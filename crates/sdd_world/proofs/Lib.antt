@@ -11,3 +11,4 @@ pub mod NoteLemmas
 pub mod CellLemmas
 pub mod IdleParticipantLemmas
 pub mod CelledLemmas
+pub mod KindLemmas

@@ -12,3 +12,4 @@ pub mod Passing
 pub mod Collecting
 pub mod Notes
 pub mod Filled
+pub mod Kinds

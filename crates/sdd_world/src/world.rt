@@ -27,6 +27,7 @@ use std::marker::Model;
 pub mod atomic_owned;
 pub mod atomic_raw;
 pub mod atomic_shared;
+mod cells;
 pub mod guard;
 pub mod owned;
 pub mod private_collector;

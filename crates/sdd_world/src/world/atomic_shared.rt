@@ -1,23 +1,26 @@
 //! Cells that keep one owner of an item, or none, with a tag.
 
-ghost use Rattle.std.specs.Prelude.{◌≡◌, ◌≢◌, ◌<◌, ℕ, length, IfOk, IfErr, IfSome, IfNone, OnOk, OnErr, Some, None, IsTrue, IsFalse, ◌↔◌, ◌⊎◌, Option, is_some, true};
-ghost use Rattle.sdd_table.specs.State.{local_at, IsFree, NoneFree, IsFreeCell, NoCellFree, placed, value_at, with_cell, with_tag, cell_at, status_at};
-ghost use Rattle.sdd_table.specs.Steps.{shared_ended};
-ghost use Rattle.sdd_table.specs.Frame.{Frame, OnlyParticipant};
+ghost use Rattle.std.specs.Prelude.{◌≡◌, ◌<◌, ℕ, IfOk, IfErr, IfSome, IfNone, OnErr, Some, None, ◌⊎◌, Option, is_some, true};
+ghost use Rattle.sdd_table.specs.State.{IsFree, NoneFree, IsFreeCell, NoCellFree, placed, value_at, with_cell, cell_at, status_at};
+ghost use Rattle.sdd_table.specs.Frame.{Frame};
 ghost use Rattle.sdd_table.specs.Place.{IsReadable, IsShared, IsSharedCell, AddsOwner, TakesNoOwner, CopiesCell};
-ghost use Rattle.sdd_world.specs.Tokens.{loaded_slot, shared_cell, shared_slot, shared_slots, ptr_slot, ptr_tag};
+ghost use Rattle.sdd_world.specs.Tokens.{loaded_slot, shared_cell, shared_slot};
 
 use crate::cell::AtomicShared;
 use crate::guard::WorldGuard;
 use crate::job::Deferred;
 use crate::owner::Shared;
-use crate::pointer::{Finder, Found, Loaded, Ptr};
+use crate::pointer::Loaded;
 use crate::refusal::NoSlot;
 use crate::status::{Cell, Status};
 use crate::tag::Tag;
+use crate::world::cells::into_slot;
+pub use crate::world::cells::{
+    compare_exchange, compare_exchange_weak, into_owner as into_shared, is_here, is_null, load,
+    retire, swap, tag, update_tag_if,
+};
 use crate::world::{World, ptr};
-use sdd_table::{reclaim, tokens};
-use std::marker::PhantomData;
+use sdd_table::tokens;
 
 /// Makes an item of `value` and a cell that keeps it, without a tag, if and only if a slot and a cell are free; else
 /// returns `value`.
@@ -73,25 +76,6 @@ pub fn null<T, J: Deferred>(w: &mut World<T, J>) -> Result<AtomicShared<T>, NoSl
     }
 }
 
-/// What the cell keeps, as a pointer.
-pub fn load<T, J: Deferred>(
-    w: &World<T, J>,
-    cell: &AtomicShared<T>,
-    _guard: &WorldGuard,
-) -> Ptr<'static, T>
-    requires { IsSharedCell w.now (shared_cell cell.now) }
-    ensures { cell_at w.now (shared_cell cell.now) ≡ Cell.OfShared (ptr_slot result) (ptr_tag result) }
-{
-    match w.table.cell(tokens::number_of_shared_cell(cell)) {
-        Cell::OfShared(slot, tag) => Ptr {
-            slot,
-            tag,
-            of: PhantomData,
-        },
-        _ => unreachable!(),
-    }
-}
-
 /// What the cell keeps, without its tag and without a borrow, for a structure that keeps it beside the guard.
 pub fn loaded<T, J: Deferred>(
     w: &World<T, J>,
@@ -128,159 +112,6 @@ pub fn as_ref<'w, T, J: Deferred>(w: &'w World<T, J>, cell: &AtomicShared<T>) ->
         Cell::OfShared(Some(slot), _) => Some(w.table.value(slot)),
         _ => unreachable!(),
     }
-}
-
-/// Whether the cell is in use in this place, as each is that the place made until it ends: the condition of the calls
-/// that take it.
-pub fn is_here<T, J: Deferred>(w: &World<T, J>, cell: &AtomicShared<T>) -> bool
-    ensures here { IsTrue result → IsSharedCell w.now (shared_cell cell.now) }
-    ensures gone { IsFalse result → ¬ IsSharedCell w.now (shared_cell cell.now) }
-{
-    let number = tokens::number_of_shared_cell(cell);
-    number < w.table.cells() && matches!(w.table.cell(number), Cell::OfShared(_, _))
-}
-
-/// Whether the cell keeps nothing.
-pub fn is_null<T, J: Deferred>(w: &World<T, J>, cell: &AtomicShared<T>) -> bool
-    requires { IsSharedCell w.now (shared_cell cell.now) }
-    ensures { (item : Option ℕ) (tag : Tag) → cell_at w.now (shared_cell cell.now) ≡ Cell.OfShared item tag → IsTrue result ↔ (item ≡ None) }
-{
-    match w.table.cell(tokens::number_of_shared_cell(cell)) {
-        Cell::OfShared(slot, _) => slot.is_none(),
-        _ => unreachable!(),
-    }
-}
-
-/// The tag of the cell.
-pub fn tag<T, J: Deferred>(w: &World<T, J>, cell: &AtomicShared<T>) -> Tag
-    requires { IsSharedCell w.now (shared_cell cell.now) }
-    ensures { (item : Option ℕ) (tag : Tag) → cell_at w.now (shared_cell cell.now) ≡ Cell.OfShared item tag → result ≡ tag }
-{
-    match w.table.cell(tokens::number_of_shared_cell(cell)) {
-        Cell::OfShared(_, tag) => tag,
-        _ => unreachable!(),
-    }
-}
-
-/// Puts another item and tag into the cell, and gives the old ones.
-#[tactic(auto, using(crate::proofs::FrameLemmas::shared_cell_used))]
-pub fn swap<T, J: Deferred>(
-    w: &mut World<T, J>,
-    cell: &AtomicShared<T>,
-    new: (Option<Shared<T>>, Tag),
-) -> (Option<Shared<T>>, Tag)
-    requires { IsSharedCell w.old (shared_cell cell.now) }
-    ensures was { cell_at w.old (shared_cell cell.now) ≡ Cell.OfShared (shared_slots result.0) result.1 }
-    ensures now { w.new ≡ with_cell (shared_cell cell.now) (Cell.OfShared (shared_slots new.0) new.1) w.old }
-    ensures used { IsSharedCell w.new (shared_cell cell.now) }
-    ensures keeps { Frame w.old w.new }
-{
-    let (item, tag) = new;
-    let slot = into_slot(item);
-    let number = tokens::number_of_shared_cell(cell);
-    match w.table.cell(number) {
-        Cell::OfShared(old, old_tag) => {
-            w.table.set_cell(number, Cell::OfShared(slot, tag));
-            (of_slot(old), old_tag)
-        }
-        _ => unreachable!(),
-    }
-}
-
-/// Sets the tag if `f` answers true for what the cell keeps, and answers what `f` did. It is called once.
-#[tactic(auto, using(crate::proofs::FrameLemmas::shared_cell_used))]
-pub fn update_tag_if<T, J: Deferred, P: Found<T>, F: FnOnce(P) -> bool>(
-    w: &mut World<T, J>,
-    cell: &AtomicShared<T>,
-    tag: Tag,
-    f: F,
-) -> bool
-    requires cell { IsSharedCell w.old (shared_cell cell.now) }
-    requires callable { F.IsAlwaysCallable f }
-    ensures asked { (r : P) × (cell_at w.old (shared_cell cell.now) ≡ Cell.OfShared (P.names r) (P.tagged r)) × F.post f r result }
-    ensures tagged { IsTrue result → w.new ≡ with_cell (shared_cell cell.now) (with_tag tag (cell_at w.old (shared_cell cell.now))) w.old }
-    ensures kept { IsFalse result → w.new ≡ w.old }
-    ensures used { IsSharedCell w.new (shared_cell cell.now) }
-    ensures keeps { Frame w.old w.new }
-{
-    let number = tokens::number_of_shared_cell(cell);
-    match w.table.cell(number) {
-        Cell::OfShared(slot, old) => {
-            if !f(P::found(slot, old, Finder { own: () })) {
-                return false;
-            }
-            w.table.set_cell(number, Cell::OfShared(slot, tag));
-            true
-        }
-        _ => unreachable!(),
-    }
-}
-
-/// Puts another item and tag into the cell if item and tag are both those of `current`, and gives the old owner and
-/// the new pointer; else returns the new owner, with the pointer found.
-pub fn compare_exchange<T, J: Deferred>(
-    w: &mut World<T, J>,
-    cell: &AtomicShared<T>,
-    current: Ptr<'static, T>,
-    new: (Option<Shared<T>>, Tag),
-    _guard: &WorldGuard,
-) -> Result<(Option<Shared<T>>, Ptr<'static, T>), (Option<Shared<T>>, Ptr<'static, T>)>
-    requires { IsSharedCell w.old (shared_cell cell.now) }
-    ensures was { OnOk result (cell_at w.old (shared_cell cell.now) ≡ Cell.OfShared (ptr_slot current.entry) (ptr_tag current.entry)) }
-    ensures now { OnOk result (w.new ≡ with_cell (shared_cell cell.now) (Cell.OfShared (shared_slots new.0) new.1) w.old) }
-    ensures given { IfOk result (λ r. (shared_slots r.0 ≡ ptr_slot current.entry) × (ptr_slot r.1 ≡ shared_slots new.0) × (ptr_tag r.1 ≡ new.1)) }
-    ensures found { IfErr result (λ r. (cell_at w.old (shared_cell cell.now) ≡ Cell.OfShared (ptr_slot r.1) (ptr_tag r.1)) × (shared_slots r.0 ≡ shared_slots new.0) × (w.new ≡ w.old)) }
-    ensures differs { OnErr result (cell_at w.old (shared_cell cell.now) ≢ Cell.OfShared (ptr_slot current.entry) (ptr_tag current.entry)) }
-    ensures used { IsSharedCell w.new (shared_cell cell.now) }
-    ensures keeps { Frame w.old w.new }
-{
-    let number = tokens::number_of_shared_cell(cell);
-    match w.table.cell(number) {
-        Cell::OfShared(old, old_tag) => {
-            let (item, tag) = new;
-            if old != current.slot || old_tag != current.tag {
-                return Err((
-                    item,
-                    Ptr {
-                        slot: old,
-                        tag: old_tag,
-                        of: PhantomData,
-                    },
-                ));
-            }
-            let slot = into_slot(item);
-            w.table.set_cell(number, Cell::OfShared(slot, tag));
-            Ok((
-                of_slot(old),
-                Ptr {
-                    slot,
-                    tag,
-                    of: PhantomData,
-                },
-            ))
-        }
-        _ => unreachable!(),
-    }
-}
-
-/// As `compare_exchange`: it fails for no other reason.
-pub fn compare_exchange_weak<T, J: Deferred>(
-    w: &mut World<T, J>,
-    cell: &AtomicShared<T>,
-    current: Ptr<'static, T>,
-    new: (Option<Shared<T>>, Tag),
-    guard: &WorldGuard,
-) -> Result<(Option<Shared<T>>, Ptr<'static, T>), (Option<Shared<T>>, Ptr<'static, T>)>
-    requires { IsSharedCell w.old (shared_cell cell.now) }
-    ensures was { OnOk result (cell_at w.old (shared_cell cell.now) ≡ Cell.OfShared (ptr_slot current.entry) (ptr_tag current.entry)) }
-    ensures now { OnOk result (w.new ≡ with_cell (shared_cell cell.now) (Cell.OfShared (shared_slots new.0) new.1) w.old) }
-    ensures given { IfOk result (λ r. (shared_slots r.0 ≡ ptr_slot current.entry) × (ptr_slot r.1 ≡ shared_slots new.0) × (ptr_tag r.1 ≡ new.1)) }
-    ensures found { IfErr result (λ r. (cell_at w.old (shared_cell cell.now) ≡ Cell.OfShared (ptr_slot r.1) (ptr_tag r.1)) × (shared_slots r.0 ≡ shared_slots new.0) × (w.new ≡ w.old)) }
-    ensures differs { OnErr result (cell_at w.old (shared_cell cell.now) ≢ Cell.OfShared (ptr_slot current.entry) (ptr_tag current.entry)) }
-    ensures used { IsSharedCell w.new (shared_cell cell.now) }
-    ensures keeps { Frame w.old w.new }
-{
-    compare_exchange(w, cell, current, new, guard)
 }
 
 /// One more owner of the item that the cell keeps; none where it keeps none, and at the greatest count of owners.
@@ -322,58 +153,8 @@ pub fn clone<T, J: Deferred>(
     }
     let tag = tag(w, cell);
     let shared = get_shared(w, cell, guard);
-    match w.table.claim_cell(Cell::OfShared(into_slot(shared), tag)) {
+    match w.table.claim_cell(Cell::OfShared(into_slot::<T, AtomicShared<T>>(shared), tag)) {
         Some(cell) => Ok(tokens::shared_cell_at(cell)),
         None => unreachable!(),
-    }
-}
-
-/// Ends the cell, and gives the owner that it kept.
-pub fn into_shared<T, J: Deferred>(w: &mut World<T, J>, cell: AtomicShared<T>) -> Option<Shared<T>>
-    requires { IsSharedCell w.old (shared_cell cell) }
-    ensures was { (tag : Tag) × (cell_at w.old (shared_cell cell) ≡ Cell.OfShared (shared_slots result) tag) }
-    ensures ended { w.new ≡ with_cell (shared_cell cell) Cell.Free w.old }
-    ensures keeps { Frame w.old w.new }
-{
-    let cell = tokens::spend_shared_cell(cell);
-    match w.table.cell(cell) {
-        Cell::OfShared(slot, _) => {
-            w.table.free_cell(cell);
-            of_slot(slot)
-        }
-        _ => unreachable!(),
-    }
-}
-
-/// Ends the cell, and gives the owner that it kept back: a last owner is retired by participant `p`.
-pub fn retire<T, J: Deferred>(w: &mut World<T, J>, cell: AtomicShared<T>, p: usize)
-    requires participant { p < length w.old.participants }
-    requires cell { IsSharedCell w.old (shared_cell cell) }
-    ensures ended { w.new ≡ shared_ended p (shared_cell cell) w.old }
-    ensures nests { (q : ℕ) → (local_at w.new q).nesting ≡ (local_at w.old q).nesting }
-    ensures keeps { Frame w.old w.new }
-    ensures only { OnlyParticipant p w.old w.new }
-{
-    let cell = tokens::spend_shared_cell(cell);
-    reclaim::end_shared(&mut w.table, p, cell);
-}
-
-/// The slot of an owner that may be there, which is spent.
-fn into_slot<T>(item: Option<Shared<T>>) -> Option<usize>
-    ensures { result ≡ shared_slots item }
-{
-    match item {
-        None => None,
-        Some(shared) => Some(tokens::spend_shared(shared)),
-    }
-}
-
-/// The owner that a cell kept.
-fn of_slot<T>(slot: Option<usize>) -> Option<Shared<T>>
-    ensures { shared_slots result ≡ slot }
-{
-    match slot {
-        None => None,
-        Some(slot) => Some(tokens::shared_at(slot)),
     }
 }
