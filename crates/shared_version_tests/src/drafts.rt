@@ -6,15 +6,11 @@ use std::alloc::{AllocError, Global};
 use std::ops::Bound;
 use std::process::Abort;
 use std::test::Fail;
-use version_drafts::plans::OwnersRoom;
 use version_views::{Reply, Write};
 
-/// How many slots a draft takes, which isn't placed and is ended.
+/// How many slots a draft takes, which isn't placed and is dropped.
 fn slots_of(draft: Draft<u64, u64, 4>) -> usize {
-    let slots = draft.slots();
-    let (_, _, room) = draft.into_parts();
-    room.end();
-    slots
+    draft.slots()
 }
 
 #[test]

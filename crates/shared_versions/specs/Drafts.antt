@@ -5,7 +5,7 @@ use Rattle.version_views.specs.Cuts.{pairs_in}
 pub use Rattle.version_drafts.specs.Drafts.{Plan, slots_for}
 use Rattle.version_drafts.specs.Drafts as drafts
 use Rattle.shared_versions.specs.Sight.{Sight}
-use Rattle.shared_versions.specs.declared.room.Room.{Room}
+use Rattle.shared_versions.specs.declared.room.Rows.{Rows}
 
 module _ {K V : Type 0} where
   -- a version without segments
@@ -27,13 +27,13 @@ module _ {K V : Type 0} where
   abbrev pub IsPlaceable : (K → K → Ordering) → (s : ℕ) → Sight K V → Plan K V s → Type 0
   IsPlaceable cmp s old p = drafts.IsPlanned cmp old.blocks p
 
--- nothing is in it, and it has room for n owners of each kind
-pub record IsRoomFor {K V : Type 0} (n : ℕ) (room : Room K V) : Type 0 where
-  pub no_owners : room.owners.items ≡ []
-  pub none_to_keep : room.to_keep.items ≡ []
-  pub no_held : room.held.items ≡ []
-  pub no_kept : room.kept.items ≡ []
-  pub owners : n ≤ vec_capacity room.owners
-  pub to_keep : n ≤ vec_capacity room.to_keep
-  pub held : n ≤ vec_capacity room.held
-  pub kept : n ≤ vec_capacity room.kept
+-- nothing is in the rows, and each has room for n owners
+pub record HaveRoomFor {K V : Type 0} (n : ℕ) (rows : Rows K V) : Type 0 where
+  pub no_owners : rows.owners.items ≡ []
+  pub none_to_keep : rows.to_keep.items ≡ []
+  pub no_held : rows.held.items ≡ []
+  pub no_kept : rows.kept.items ≡ []
+  pub owners : n ≤ vec_capacity rows.owners
+  pub to_keep : n ≤ vec_capacity rows.to_keep
+  pub held : n ≤ vec_capacity rows.held
+  pub kept : n ≤ vec_capacity rows.kept

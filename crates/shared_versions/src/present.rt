@@ -16,7 +16,7 @@ use crate::lending::view_of;
 use crate::node::{Node, Version};
 use crate::owners::{let_go, place_two, take_back};
 use crate::pairs::{all_owners, hold_all};
-use crate::room::Room;
+use crate::room::Rows;
 use sdd_domain::atomic_shared::AtomicShared;
 use sdd_domain::domain::Domain;
 use sdd_domain::holds::Holds;
@@ -209,12 +209,12 @@ fn place_draft<K: Ord + Drop, V: Drop, const S: usize>(
         separators,
         length,
     } = planned;
-    let Room {
+    let Rows {
         owners,
         to_keep,
         mut held,
         kept,
-    } = room;
+    } = room.into_rows();
     let all = all_owners(domain, parts, owners, to_keep, segments, local);
     let Some((owners, to_keep)) = all else {
         held.destroy_empty();

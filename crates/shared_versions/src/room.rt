@@ -1,35 +1,66 @@
 //! Room for the owners of the segments of a version to be placed.
 
+ghost use Rattle.std.specs.Prelude.{◌≡◌};
+ghost use Rattle.shared_versions.specs.Drafts.{HaveRoomFor};
+
 use crate::keeping::ToKeep;
 use crate::kept::WriterOwner;
 use crate::node::Node;
 use sdd_domain::held::Held;
 use sdd_domain::shared::Shared;
 use std::alloc::{AllocError, Global};
+use std::marker::Model;
 use version_drafts::plans::OwnersRoom;
 
-/// Room for the owners of a number of segments: for one of each and what is to be kept of it, until their version is placed; for
-/// those that the version holds, and those that the writer keeps.
+/// Room for the owners of a number of segments, until their version is placed. To be filled, it is taken apart.
 pub struct Room<K: Ord, V> {
+    segments: usize,
+    rows: Rows<K, V>,
+}
+
+/// Rows for the owners of segments: for one of each and what is to be kept of it; for those that the version holds, and those
+/// that the writer keeps.
+pub(crate) struct Rows<K: Ord, V> {
     pub(crate) owners: Vec<Shared<Node<K, V>>>,
     pub(crate) to_keep: Vec<ToKeep<K, V>>,
     pub(crate) held: Vec<Held<Node<K, V>>>,
     pub(crate) kept: Vec<WriterOwner<K, V>>,
 }
 
-/// Four rows, each with room for all segments.
-impl<K: Ord, V> OwnersRoom for Room<K, V> {
-    ghost use Rattle.shared_versions.specs.Drafts.{IsRoomFor};
+/// Invariant: specs/Drafts.antt, HaveRoomFor: nothing is in the rows, and each has room for all segments.
+impl<K: Ord, V> Model for Room<K, V> {
+    ghost use Rattle.std.specs.Prelude.{ℕ};
+    ghost use Rattle.shared_versions.specs.Drafts.{HaveRoomFor};
 
-    ghost fits = { λ room n. IsRoomFor n room };
+    ghost Value = { ℕ };
+
+    ghost view = { λ room. room.segments };
+
+    ghost invariant = { λ room. HaveRoomFor room.segments room.rows };
+}
+
+impl<K: Ord, V> Room<K, V> {
+    /// Its rows, to be filled.
+    pub(crate) fn into_rows(self) -> Rows<K, V>
+        ensures { HaveRoomFor self result }
+    {
+        let Room { segments: _, rows } = self;
+        rows
+    }
+}
+
+/// It shows for how many segments it is.
+impl<K: Ord, V> OwnersRoom for Room<K, V> {
+    ghost fits = { λ room n. room ≡ n };
 
     fn none(alloc: Global) -> Self {
-        Room {
+        let rows = Rows {
             owners: Vec::new(alloc),
             to_keep: Vec::new(alloc),
             held: Vec::new(alloc),
             kept: Vec::new(alloc),
-        }
+        };
+        Room { segments: 0, rows }
     }
 
     fn with_room(alloc: Global, segments: usize) -> Result<Self, AllocError> {
@@ -49,24 +80,31 @@ impl<K: Ord, V> OwnersRoom for Room<K, V> {
             held.destroy_empty();
             return Err(AllocError);
         };
-        Ok(Room {
+        let rows = Rows {
             owners,
             to_keep,
             held,
             kept,
-        })
+        };
+        Ok(Room { segments, rows })
     }
 
     fn end(self) {
-        let Room {
+        let Rows {
             owners,
             to_keep,
             held,
             kept,
-        } = self;
+        } = self.into_rows();
         owners.destroy_empty();
         to_keep.destroy_empty();
         held.destroy_empty();
         kept.destroy_empty();
+    }
+}
+
+impl<K: Ord, V> Drop for Room<K, V> {
+    fn drop(self) {
+        self.end();
     }
 }

@@ -40,7 +40,8 @@ hold_all-requires-clause-room g c =
     let many = length-map (units_of parts) (unit_pairs named) in
     let count = units_many parts in
     let room = c.into_parts-number.ensures.room in
-    omega (arith, each, owners, turned, many, count, room.held)
+    let rows = c.into_rows-owners.ensures in
+    omega (arith, each, owners, turned, many, count, room, rows.held)
 
 pub new-requires : goal.new-requires
 new-requires g c =
@@ -92,7 +93,8 @@ keep_all-requires-clause-room g c =
     let many = length-map (units_of parts) (unit_pairs named) in
     let count = units_many parts in
     let room = c.into_parts-number.ensures.room in
-    omega (arith, each, to_keep, turned, many, count, room.kept)
+    let rows = c.into_rows-owners.ensures in
+    omega (arith, each, to_keep, turned, many, count, room, rows.kept)
 
 pub release_new-requires-clause-home : goal.release_new-requires-clause-home
 release_new-requires-clause-home g c = c.place_two.ensures.same.0 ∙ (c.hold_all.ensures.same.0 ∙ (c.all_owners-all.ensures.same.0 ∙ c.requires.home))
@@ -158,4 +160,5 @@ pub all_owners-all-requires-clause-room : goal.all_owners-all-requires-clause-ro
 all_owners-all-requires-clause-room g c =
     let many = units_many c.into_parts-number.result.1.parts.items in
     let room = c.into_parts-number.ensures.room in
-    (omega (arith, many, room.owners), omega (arith, many, room.to_keep))
+    let rows = c.into_rows-owners.ensures in
+    (omega (arith, many, room, rows.owners), omega (arith, many, room, rows.to_keep))
