@@ -8,7 +8,6 @@ use Rattle.sdd_world.specs.Frame.{IsLive}
 use Rattle.sdd_world.specs.Place.{kept_in}
 use Rattle.sdd_world.specs.State.{State, value_at}
 use Rattle.sdd_world.specs.declared.owner.Kept.{Kept}
-use Rattle.version_views.specs.Cuts.{IsCut}
 use Rattle.version_views.specs.Items.{slots_kept, slots_of}
 use Rattle.version_views.specs.Versions.{IsVersion, blocks_of, segment_pairs}
 use Rattle.version_views.specs.declared.directory.Directory.{Directory}
@@ -18,7 +17,7 @@ use Rattle.version_drafts.specs.Drafts.{IsPlanned}
 use Rattle.version_drafts.specs.Parts.{LiesWithin, between}
 use Rattle.version_drafts.specs.declared.segments.Part.{Part}
 use Rattle.version_drafts.specs.declared.segments.Part.TheVariants as parts
-use Rattle.local_versions.specs.Placing.{CanBeShared, IsPlaceable, IsTakeable, Plan, StandsAlone, blocks_at, blocks_planned, list_planned, taken_slots}
+use Rattle.local_versions.specs.Placing.{CanBeShared, IsPlaceable, IsTakeable, Plan, StandsAlone, blocks_at, list_planned, taken_slots}
 
 -- what holds of all slots holds of those that parts take over
 all_taken : {K V : Type 0} (P : ℕ → Type 0) (slots : List ℕ) (ps : List (Part K V)) → All P slots → All P (taken_slots slots ps)
@@ -38,8 +37,7 @@ module _ {K V : Type 0} {s : ℕ} (cmp : K → K → Ordering) (w : State (Item 
       let long = length-map (slots_of d) (λ j. segment_pairs (value_at w j)) in
       let takeable : All (IsTakeable w) (slots_of d) = λ k e h. record { shared = can k e h; segment = whole.segments k e h } in
       record {
-        cut = subst (λ bs. IsCut cmp s (blocks_planned bs p) p.separators) (sym blocks) planned.cut;
-        counted = planned.counted ∙ ap (λ bs. length (list_planned bs p)) (sym blocks);
+        planned = subst (λ bs. IsPlanned cmp bs p) (sym blocks) planned;
         there = record {
           live = live;
           within = subst (λ n. All (LiesWithin n) p.parts) (sym (ap length at ∙ sym long)) planned.there;
@@ -57,7 +55,7 @@ pub stands_alone : {K V E : Type 0} {s : ℕ} (cmp : K → K → Ordering) (pair
 stands_alone cmp pairs (Ok p) list planned = record {
   placeable = λ w.
       let one = planned [] in
-      record { cut = one.cut; counted = one.counted; there = record { live = tt; within = one.there; segments = none_taken (IsTakeable w) p.parts one.there } };
+      record { planned = one; there = record { live = tt; within = one.there; segments = none_taken (IsTakeable w) p.parts one.there } };
   list = λ blocks. list blocks ∙ sym (list []);
 }
 stands_alone cmp pairs (Err e) list planned = tt

@@ -208,8 +208,11 @@ module _ {K V : Type 0} {s : ℕ} (cmp : K → K → Ordering) where
   pub empty_alone : StandsAlone {K = K} {V = V} {s = s} cmp (record { number = 0; parts = []; separators = []; length = 0 })
   empty_alone = record {
     placeable = λ w. record {
-      cut = record { sizes = λ k d h. absurd (omega (arith, h)); tight = tt; rising = rising_none V cmp; separated = refl };
-      counted = refl;
+      planned = record {
+        cut = record { sizes = λ k d h. absurd (omega (arith, h)); tight = tt; rising = rising_none V cmp; separated = refl };
+        counted = refl;
+        there = λ k d h. absurd (omega (arith, h));
+      };
       there = record {
         live = tt;
         within = λ k d h. absurd (omega (arith, h));

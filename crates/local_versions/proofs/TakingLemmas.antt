@@ -68,7 +68,7 @@ module _ {K V : Type 0} {s : ℕ} where
 
       -- one part more is placed
       pub stands_part : (n : ℕ) (v w : State (Item K V s)) (xs ys : List ℕ) (bs : List (List (K × V))) → StandsIn n xs bs u v → (p : Part K V) → All (IsTakeable u) (part_slots slots p) → HasPlaced slots p ys v w → StandsIn (n + makes p) (xs ++ ys) (bs ++ part_blocks blocks p) u w
-      stands_part n v w xs ys bs st (parts.Made t) there h = subst (λ zs. StandsIn (n + 1) (xs ++ zs) (bs ++ t.value.pairs ∷ []) u w) (sym h.1) (stands_more n u v w xs bs h.0 t.value st h.2 h.3 h.4 h.5)
+      stands_part n v w xs ys bs st (parts.Made t) there h = subst (λ zs. StandsIn (n + 1) (xs ++ zs) (bs ++ t.pairs ∷ []) u w) (sym h.1) (stands_more n u v w xs bs h.0 t st h.2 h.3 h.4 h.5)
       stands_part n v w xs ys bs st (parts.Taken from upto) there h =
           let none : n + 0 ≡ n = omega arith in
           let whole = stands_row n ys xs bs v w (subst (All (IsTakeable u)) (sym h.0) there) st h.1 in
@@ -125,7 +125,7 @@ module _ {K V : Type 0} where
   abbrev units : List ℕ → List (Part K V) → List (ℕ ⊎ List (K × V))
   units slots [] = []
   units slots (parts.Taken from upto ∷ ps) = map inl (between from upto slots) ++ units slots ps
-  units slots (parts.Made t ∷ ps) = inr t.value.pairs ∷ units slots ps
+  units slots (parts.Made t ∷ ps) = inr t.pairs ∷ units slots ps
 
   slots_taken : (slots : List ℕ) (ps : List (Part K V)) → slots_by unit_slot (units slots ps) ≡ taken_slots slots ps
   slots_taken slots [] = refl
@@ -146,7 +146,7 @@ module _ {K V : Type 0} where
       row : (xs : List ℕ) → map (unit_pairs at) (map inl xs) ≡ map at xs
       row [] = refl
       row (x ∷ xs) = ap (λ bs. at x ∷ bs) (row xs)
-  blocks_taken at slots (parts.Made t ∷ ps) = ap (λ bs. t.value.pairs ∷ bs) (blocks_taken at slots ps)
+  blocks_taken at slots (parts.Made t ∷ ps) = ap (λ bs. t.pairs ∷ bs) (blocks_taken at slots ps)
 
   named_unit : (at : ℕ → List (K × V)) (x : ℕ ⊎ List (K × V)) (i : ℕ) → unit_slot x ≡ Some i → unit_pairs at x ≡ at i
   named_unit at (inl j) i e = let same : j ≡ i = cc in ap at same

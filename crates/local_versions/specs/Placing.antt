@@ -14,12 +14,12 @@ use Rattle.sdd_world.specs.declared.pointer.Loaded.{Loaded}
 use Rattle.sdd_world.specs.declared.status.Cell.TheVariants as cell
 use Rattle.sdd_world.specs.declared.status.Status.TheVariants as status
 use Rattle.sdd_world.specs.declared.tag.Tag.TheVariants as tag
-use Rattle.version_views.specs.Cuts.{IsCut}
 use Rattle.version_views.specs.Items.{held_by, slots_kept, slots_of}
 use Rattle.version_views.specs.Versions.{IsSegment, IsVersion, segment_pairs, list_of}
 use Rattle.sdd_world.specs.declared.owner.Kept.{Kept}
 use Rattle.version_views.specs.declared.directory.Directory.{Directory}
 pub use Rattle.version_drafts.specs.Drafts.{Plan, blocks_planned, list_planned, slots_for}
+use Rattle.version_drafts.specs.Drafts.{IsPlanned}
 use Rattle.version_drafts.specs.Parts.{LiesWithin, between}
 use Rattle.version_drafts.specs.declared.segments.Part.{Part}
 use Rattle.version_drafts.specs.declared.segments.Part.TheVariants as parts
@@ -100,11 +100,10 @@ module _ {K V : Type 0} {s : ℕ} where
     pub within : All (LiesWithin (length (slots_at w older))) ps
     pub segments : All (IsTakeable w) (taken_slots (slots_at w older) ps)
 
-  -- a version that can be placed beside the older one in this slot: its segments are cut as they should be, and those that it
-  -- takes over are there
+  -- a version that can be placed beside the older one in this slot: it is planned of that one's segments, and those that it takes
+  -- over are there
   pub record IsPlaceable (cmp : K → K → Ordering) (w : State (Item K V s)) (older : Option ℕ) (p : Plan K V s) : Type 0 where
-    pub cut : IsCut cmp s (blocks_planned (blocks_at w older) p) p.separators
-    pub counted : p.length ≡ length (list_planned (blocks_at w older) p)
+    pub planned : IsPlanned cmp (blocks_at w older) p
     pub there : CanTakeOver w older p.parts
 
   -- the list of a version that takes nothing over
@@ -119,7 +118,7 @@ module _ {K V : Type 0} {s : ℕ} where
   -- a part of a version is placed in slots: a new segment, or segments that were there and have one more owner each
   abbrev pub HasPlaced : List ℕ → Part K V → List ℕ → State (Item K V s) → State (Item K V s) → Type 0
   HasPlaced slots (parts.Taken from upto) xs w w' = (xs ≡ between from upto slots) × AddsOwners xs w w'
-  HasPlaced slots (parts.Made t) xs w w' = (i : ℕ) × (xs ≡ i ∷ []) × IsPlace w × IsFree w i × (w' ≡ placed i (items.Segment t.value) (status.Shared 1) w) × Frame w w'
+  HasPlaced slots (parts.Made t) xs w w' = (i : ℕ) × (xs ≡ i ∷ []) × IsPlace w × IsFree w i × (w' ≡ placed i (items.Segment t) (status.Shared 1) w) × Frame w w'
 
   -- segments with these pairs are in these slots, n of which are new, and their owners are in hand
   pub record StandsIn (n : ℕ) (slots : List ℕ) (blocks : List (List (K × V))) (w w' : State (Item K V s)) : Type 0 where

@@ -90,7 +90,7 @@ fn place_part<K: Ord + Drop, V: Drop, const S: usize>(
 {
     w.laws();
     match part {
-        Part::Made(tree) => owners.push_reserved(place_segment(w, Box::into_inner(tree))),
+        Part::Made(tree) => owners.push_reserved(place_segment(w, tree)),
         Part::Taken { from, upto } => match older {
             Some(at) => shared::keep_row(w, &at, from, upto, owners),
             None => unreachable!(),

@@ -78,7 +78,7 @@ module _ {K V : Type 0} where
         let up : from + (upto - from) ≡ upto = omega (arith, here.0) in
         let row : map (unit_pairs named) (stretch_units from upto) ≡ between from upto blocks = row_blocks from (upto - from) (omega (arith, up, here.1)) ∙ ap (λ m. between from m blocks) up in
         map-append (unit_pairs named) (stretch_units from upto) (units_of ps) ∙ (ap (λ bs. bs ++ blocks_of_units named (units_of ps)) row ∙ ap (λ bs. between from upto blocks ++ bs) rest)
-    units_blocks (parts.Made t ∷ ps) lies = ap (λ bs. t.value.pairs ∷ bs) (units_blocks ps (All-tail (LiesWithin (length blocks)) (parts.Made t) ps lies))
+    units_blocks (parts.Made t ∷ ps) lies = ap (λ bs. t.pairs ∷ bs) (units_blocks ps (All-tail (LiesWithin (length blocks)) (parts.Made t) ps lies))
 
   -- each is within the older version
   row_within : (n from m : ℕ) → from + m ≤ n → All (IsWithinVersion {K = K} {V = V} n) (map one.Taken (places from m))

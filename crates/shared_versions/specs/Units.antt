@@ -31,7 +31,7 @@ module _ {K V : Type 0} where
   -- the pairs of a segment, where older ones have these by their places
   abbrev pub unit_pairs : (ℕ → List (K × V)) → One K V → List (K × V)
   unit_pairs named (one.Taken place) = named place
-  unit_pairs named (one.Made tree) = tree.value.pairs
+  unit_pairs named (one.Made tree) = tree.pairs
 
   abbrev pub blocks_of_units : (ℕ → List (K × V)) → List (One K V) → List (List (K × V))
   blocks_of_units named us = map (unit_pairs named) us

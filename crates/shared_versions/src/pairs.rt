@@ -80,7 +80,7 @@ fn owner_for<K: Ord + Drop, V: Drop>(
             Some(owner) => Some((owner, ToKeep::Old(place))),
             None => None,
         },
-        One::Made(segment) => match place_segment(domain, Box::into_inner(segment), local) {
+        One::Made(segment) => match place_segment(domain, segment, local) {
             Some((owner, other)) => Some((owner, ToKeep::New(other))),
             None => None,
         },

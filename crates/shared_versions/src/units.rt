@@ -13,7 +13,7 @@ use version_views::Segment;
 #[derive(Drop)]
 pub(crate) enum One<K: Ord, V> {
     Taken(usize),
-    Made(Box<Segment<K, V>>),
+    Made(Segment<K, V>),
 }
 
 /// The segments of parts, taken from the last one on: those of parts, and behind them those from one place up to another.

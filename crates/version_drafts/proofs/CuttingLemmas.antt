@@ -11,9 +11,8 @@ use Rattle.std.specs.List.{All}
 use Rattle.leaf_array.specs.Pairs.{IsAscending}
 use Rattle.tree_index.specs.Depth.{IsAbove}
 use Rattle.version_views.specs.Cuts.{greatest_key, pairs_in, IsTight}
-use Rattle.version_drafts.specs.Cutting.{CountsFrom, CountsGiven, GivesNoMoreThanRead, IsClosing, IsCutting, IsHeld, IsHeldAt, IsSegmentRow, IsSegmentSized, StaysApart, given_pairs, last_size, one_open, room_spent, trees}
-use Rattle.tree_index.specs.Tree.{Tree}
-use Rattle.version_drafts.specs.Parts.{HasMadeTree, LiesWithin, between, blocks_of_parts, made_in, makes, part_blocks, stretch_of}
+use Rattle.version_drafts.specs.Cutting.{CountsFrom, CountsGiven, GivesNoMoreThanRead, IsClosing, IsCutting, IsHeld, IsHeldAt, IsSegmentRow, IsSegmentSized, given_pairs, last_size, one_open, room_spent}
+use Rattle.version_drafts.specs.Parts.{LiesWithin, between, blocks_of_parts, made_in, makes, part_blocks, stretch_of}
 use Rattle.version_drafts.specs.declared.segments.Part.{Part}
 use Rattle.version_drafts.specs.declared.segments.Part.TheVariants as parts
 use Rattle.version_drafts.specs.declared.segments.Row.{Row}
@@ -225,20 +224,6 @@ module _ {K V : Type 0} {blocks : List (List (K × V))} {s : ℕ} (c : SegmentBu
 
   pub made_closed : makes p ≡ 1 → made_in row.parts.items ≡ made_in c.row.parts.items + 1
   made_closed one = let more = made_behind c.row.parts.items p in let is = ap made_in items in omega (arith, more, is, one)
-
--- a part that was made has the pairs of its tree, and counts as one
-module _ {K V : Type 0} (blocks : List (List (K × V))) (tree : Tree K V) where
-  pub made_pairs : (p : Part K V) → HasMadeTree tree p → part_blocks blocks p ≡ tree.pairs ∷ []
-  made_pairs (parts.Taken from upto) h = absurd h
-  made_pairs (parts.Made b) h = ap (λ (t : Tree K V). t.pairs ∷ []) h
-
-  pub made_lies : (p : Part K V) → HasMadeTree tree p → LiesWithin (length blocks) p
-  made_lies (parts.Taken from upto) h = absurd h
-  made_lies (parts.Made b) h = tt
-
-  pub made_one : (p : Part K V) → HasMadeTree tree p → makes p ≡ 1
-  made_one (parts.Taken from upto) h = absurd h
-  made_one (parts.Made b) h = refl
 
 -- a tree that has a pair counts as one
 pub open_one : {X : Type 0} (xs : List X) → 0 < length xs → one_open xs ≡ 1

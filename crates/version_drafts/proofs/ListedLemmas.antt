@@ -37,7 +37,7 @@ module _ {K V : Type 0} where
   pub blocks_new : (blocks : List (List (K × V))) (ps : List (Part K V)) → All (LiesWithin 0) ps → blocks_of_parts [] ps ≡ blocks_of_parts blocks ps
   blocks_new blocks [] lies = refl
   blocks_new blocks (parts.Taken from upto ∷ ps) lies = let some = All-head (LiesWithin 0) (parts.Taken from upto) ps lies in absurd (omega (arith, some.0, some.1))
-  blocks_new blocks (parts.Made tree ∷ ps) lies = ap (λ bs. tree.value.pairs ∷ bs) (blocks_new blocks ps (All-tail (LiesWithin 0) (parts.Made tree) ps lies))
+  blocks_new blocks (parts.Made tree ∷ ps) lies = ap (λ bs. tree.pairs ∷ bs) (blocks_new blocks ps (All-tail (LiesWithin 0) (parts.Made tree) ps lies))
 
   -- the same segments and the same open tree have room for the same pairs
   pub spent_same : (s : ℕ) (c c' : SegmentBuilder K V) → c'.row ≡ c.row → c'.tail.pairs ≡ c.tail.pairs → room_spent s c' ≡ room_spent s c

@@ -1,5 +1,5 @@
 -- A stretch of older segments is taken over.
-use Rattle.std.proofs.Common.{◌≡◌, ◌⊎◌, inl, inr, ℕ, zero, suc, ◌+◌, ◌-◌, ◌≤◌, ◌<◌, List, [], ◌∷◌, ◌++◌, Some, length, map, take, drop, slice_get, append_assoc, append-nil, length-append, refl, sym, ap, ◌∙◌, subst, arith}
+use Rattle.std.proofs.Common.{◌≡◌, ◌⊎◌, inl, inr, ℕ, zero, suc, ◌+◌, ◌-◌, ◌≤◌, ◌<◌, List, [], ◌∷◌, ◌++◌, Some, length, map, take, drop, slice_get, append_assoc, append-nil, refl, sym, ap, ◌∙◌, subst, arith}
 use Rattle.std.proofs.lemmas.Bool.Decides.{eqb_tells}
 use Rattle.std.proofs.lemmas.List.{map-append, take-map, take-take, drop-take}
 use Rattle.std.proofs.lemmas.List.Elements.{All-append, All-drop, All-tail, All-head, All-push, All-take}
@@ -7,7 +7,6 @@ use Rattle.std.specs.declared.cmp.Ordering.{Ordering}
 use Rattle.std.specs.List.{All, AllZip}
 use Rattle.leaf_array.specs.Pairs.{IsAscending}
 use Rattle.leaf_array.specs.Values.{ClonesAreSame}
-use Rattle.tree_index.proofs.WayLemmas.{some_same}
 use Rattle.version_views.specs.Cuts.{IsCut, IsSeparated, IsTight, greatest_key, pairs_in}
 use Rattle.version_views.proofs.BlockListLemmas.{pairs_in-append}
 use Rattle.version_views.proofs.SeparatorSearchLemmas.{get_some}
@@ -15,7 +14,7 @@ use Rattle.version_drafts.specs.Cutting.{IsCutting, IsHeld, IsSegmentRow, IsSegm
 use Rattle.version_drafts.specs.Parts.{LiesWithin, between, blocks_of_parts, made_in}
 use Rattle.version_drafts.specs.declared.segments.Part.TheVariants as parts
 use Rattle.version_drafts.specs.declared.segments.SegmentBuilder.{SegmentBuilder}
-use Rattle.version_drafts.proofs.CuttingLemmas.{blocks_behind, last_behind, made_behind, pairs_behind}
+use Rattle.version_drafts.proofs.CuttingLemmas.{blocks_behind, last_behind, made_behind}
 use Rattle.version_drafts.proofs.StretchLemmas.{between_at, between_more}
 
 -- ---- clones are the values themselves

@@ -1,6 +1,5 @@
 -- parts of a version that is being built
-use Rattle.std.specs.Prelude.{◌≡◌, ℕ, ◌+◌, ◌-◌, ◌<◌, ◌≤◌, List, [], ◌∷◌, ◌++◌, cond, nat_lt, drop, sum_by, take}
-use Rattle.tree_index.specs.Tree.{Tree}
+use Rattle.std.specs.Prelude.{ℕ, ◌+◌, ◌-◌, ◌<◌, ◌≤◌, List, [], ◌∷◌, ◌++◌, cond, nat_lt, drop, sum_by, take}
 use Rattle.version_drafts.specs.declared.segments.Part.{Part}
 use Rattle.version_drafts.specs.declared.segments.Part.TheVariants as parts
 
@@ -12,7 +11,7 @@ module _ {K V : Type 0} where
   -- the pairs of the segments of a part, where the older version has these
   abbrev pub part_blocks : List (List (K × V)) → Part K V → List (List (K × V))
   part_blocks blocks (parts.Taken from upto) = between from upto blocks
-  part_blocks blocks (parts.Made tree) = tree.value.pairs ∷ []
+  part_blocks blocks (parts.Made tree) = tree.pairs ∷ []
 
   abbrev pub blocks_of_parts : List (List (K × V)) → List (Part K V) → List (List (K × V))
   blocks_of_parts blocks [] = []
@@ -40,11 +39,6 @@ module _ {K V : Type 0} where
   abbrev pub makes : Part K V → ℕ
   makes (parts.Taken from upto) = 0
   makes (parts.Made tree) = 1
-
-  -- the part has this tree, which was made
-  abbrev pub HasMadeTree : Tree K V → Part K V → Type 0
-  HasMadeTree tree (parts.Taken from upto) = ⊥
-  HasMadeTree tree (parts.Made made) = made.value ≡ tree
 
   -- how many trees were made
   abbrev pub made_in : List (Part K V) → ℕ

@@ -235,8 +235,7 @@ fn make_ready<K: Ord + Drop, V: Drop, W: Trees<K, V>, const S: usize>(
     expect::<K, V, S>(out, pairs_ahead::<K, V, W, S>(changes, old, place))
 }
 
-/// How many pairs come of the segment at a place and of those behind it, up to one that no change touches, and no further
-/// than two full trees take.
+/// How many pairs come of the segments from a place on, up to one that no change touches, or until they fill two trees.
 fn pairs_ahead<K: Ord, V, W: Trees<K, V>, const S: usize>(
     changes: &ChangeScan<'_, '_, K, V>,
     old: &VersionView<'_, K, V, W>,

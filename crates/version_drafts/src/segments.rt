@@ -5,7 +5,7 @@ ghost use Rattle.leaf_array.specs.Pairs.{IsAscending};
 ghost use Rattle.leaf_array.specs.Values.{ClonesAreSame};
 ghost use Rattle.version_views.specs.Cuts.{IsCut, IsSeparated, greatest_key, pairs_in, separators_of};
 ghost use Rattle.version_drafts.specs.Cutting.{CountsFrom, CountsGiven, IsClosing, IsCutting, IsSegmentRow, StaysApart, given_pairs, room_spent, trees};
-ghost use Rattle.version_drafts.specs.Parts.{HasMadeTree, LiesWithin, between, blocks_of_parts, made_in, segments_in, stretch_of};
+ghost use Rattle.version_drafts.specs.Parts.{LiesWithin, between, blocks_of_parts, made_in, segments_in, stretch_of};
 ghost use Rattle.std.specs.List.{All};
 
 use crate::scans::PairScan;
@@ -24,8 +24,8 @@ pub enum Part<K: Ord, V> {
         /// The place behind the last one.
         upto: usize,
     },
-    /// A segment that was made for it: boxed, since there are few, and parts are moved.
-    Made(Box<Segment<K, V>>),
+    /// A segment that was made for it.
+    Made(Segment<K, V>),
 }
 
 /// The segments of a list, in order, by parts, with the greatest key of each but the last.
@@ -390,7 +390,8 @@ fn shorten<K: Ord + Drop, V: Drop>(
             parts.push(Part::Taken { from, upto: place })?;
             Ok(())
         },
-        _ => unreachable!(),
+        Some(Part::Made(_)) => unreachable!(),
+        None => unreachable!(),
     }
 }
 
@@ -400,7 +401,7 @@ fn close<K: Clone + Ord + Drop, V: Drop>(
     next: Segment<K, V>,
 ) -> Result<(), AllocError>
     requires { ClonesAreSame K.is_clone }
-    ensures parts { OnOk result ((part : Part K V) × HasMadeTree out.old.tail part × (out.new.row.parts.items ≡ out.old.row.parts.items ++ part ∷ [])) }
+    ensures parts { OnOk result (out.new.row.parts.items ≡ out.old.row.parts.items ++ Part.Made out.old.tail ∷ []) }
     ensures separators { OnOk result (map Some out.new.row.separators.items ≡ map Some out.old.row.separators.items ++ greatest_key out.old.tail.pairs ∷ []) }
     ensures last { OnOk result (out.new.row.last ≡ length out.old.tail.pairs) }
     ensures held { OnOk result (out.new.held ≡ None) }
@@ -412,20 +413,10 @@ fn close<K: Clone + Ord + Drop, V: Drop>(
         None => return Err(AllocError),
     };
     let size = out.tail.len();
-    let part = made(out.alloc, mem::replace(&mut out.tail, next))?;
+    let part = Part::Made(mem::replace(&mut out.tail, next));
     give(&mut out.row, part, key, size)?;
     out.held = None;
     Ok(())
-}
-
-/// Wraps a new segment as a part.
-fn made<K: Ord + Drop, V: Drop>(
-    alloc: Global,
-    tree: Segment<K, V>,
-) -> Result<Part<K, V>, AllocError>
-    ensures { IfOk result (λ part. HasMadeTree tree part) }
-{
-    Ok(Part::Made(Box::new(alloc, tree)?))
 }
 
 /// Puts clones of a tree's pairs before those of a segment.

@@ -80,7 +80,7 @@ fn put(
                 }
             }
         },
-        Part::Made(segment) => into.push(Box::into_inner(segment))?,
+        Part::Made(segment) => into.push(segment)?,
     }
     Ok(())
 }

@@ -19,7 +19,7 @@ place_parts-segments-requires g c =
     let same = ap (λ (p : Plan _ _ _). made_in p.parts) e.plan in
     let ready = subst (IsPlaceable g.K.Ord.cmp c.args.w.now (older_slot c.args.older)) (sym e.plan) c.requires in (
       omega arith,
-      (e.room.0, (e.room.1, (omega (arith, room, free, slots, same), (taken_once g.K.Ord.cmp g.met.K.Ord.total (λ i. segment_pairs (value_at c.args.w.now i)) (slots_at c.args.w.now (older_slot c.args.older)) c.into_parts-number.result.1.parts.items ready.cut, ready.there)))),
+      (e.room.0, (e.room.1, (omega (arith, room, free, slots, same), (taken_once g.K.Ord.cmp g.met.K.Ord.total (λ i. segment_pairs (value_at c.args.w.now i)) (slots_at c.args.w.now (older_slot c.args.older)) c.into_parts-number.result.1.parts.items ready.planned.cut, ready.there)))),
     )
 
 pub unreachable-requires : goal.unreachable-requires
@@ -38,7 +38,7 @@ returns-clause-placed g c =
     let ready = subst (IsPlaceable g.K.Ord.cmp c.args.w.now (older_slot c.args.older)) (sym is) c.requires in
     let put = subst (λ d. c.new.new.w ≡ placed (shared_slot c.in-Ok.root) (item.Directory d) (status.Shared 1) c.place_parts-segments.new.w) c.new-directory.ensures c.in-Ok.ensures.placed.1 in
     subst (λ (p : Plan _ _ _). Places g.K.Ord.cmp (older_slot c.args.older) p (shared_slot c.in-Ok.root) c.args.w.now c.new.new.w) is
-    (places_directory g.K.Ord.cmp g.met.K.Ord.total c.args.w.now c.place_parts-segments.new.w c.new.new.w (older_slot c.args.older) _ (shared_slot c.in-Ok.root) _ refl c.place_parts-segments.ensures ready.cut ready.counted c.laws.ensures c.in-Ok.ensures.placed.0 put c.in-Ok.ensures.keeps)
+    (places_directory g.K.Ord.cmp g.met.K.Ord.total c.args.w.now c.place_parts-segments.new.w c.new.new.w (older_slot c.args.older) _ (shared_slot c.in-Ok.root) _ refl c.place_parts-segments.ensures ready.planned.cut ready.planned.counted c.laws.ensures c.in-Ok.ensures.placed.0 put c.in-Ok.ensures.keeps)
 
 pub returns-clause-keeps : goal.returns-clause-keeps
 returns-clause-keeps g c = (returns-clause-placed g c).adds.keeps

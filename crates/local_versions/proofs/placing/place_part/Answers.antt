@@ -1,9 +1,6 @@
 use Rattle.std.proofs.Common.{◌≤◌, ◌+◌, ◌∷◌, [], length, map, refl, sym, ap, ◌∙◌, arith, subst}
 use Rattle.std.proofs.lemmas.List.{map-append}
 use Rattle.std.specs.Prelude.{vec_capacity}
-use Rattle.sdd_world.specs.State.{placed}
-use Rattle.sdd_world.specs.declared.status.Status.TheVariants as status
-use Rattle.version_views.specs.declared.item.Item.TheVariants as items
 use Rattle.sdd_world.specs.Steps.{times}
 use Rattle.sdd_world.specs.Tokens.{kept_slot, loaded_slot}
 use Rattle.version_drafts.specs.Parts.{segments_of}
@@ -28,5 +25,4 @@ returns-in-Made-clause-placed g c =
     let owner = c.place_segment.result in
     let e = c.place_segment.ensures in
     let names = ap (map kept_slot) c.push_reserved.ensures.items ∙ map-append kept_slot c.args.owners.now.items (owner ∷ []) in
-    let put = e.placed ∙ ap (λ t. placed (kept_slot owner) (items.Segment t) (status.Shared 1) c.args.w.now) c.into_inner.ensures in
-    (kept_slot owner ∷ [], names, subst (λ p. HasPlaced (slots_at c.args.w.now (older_slot c.args.older)) p (kept_slot owner ∷ []) c.args.w.now c.place_segment.new.w) (sym c.in-Made.is) (kept_slot owner, refl, c.laws.ensures, e.free, put, e.keeps))
+    (kept_slot owner ∷ [], names, subst (λ p. HasPlaced (slots_at c.args.w.now (older_slot c.args.older)) p (kept_slot owner ∷ []) c.args.w.now c.place_segment.new.w) (sym c.in-Made.is) (kept_slot owner, refl, c.laws.ensures, e.free, e.placed, e.keeps))

@@ -3,7 +3,7 @@ use Rattle.std.proofs.lemmas.List.{take_all, take_more}
 use Rattle.std.specs.List.{All}
 use Rattle.leaf_array.specs.Pairs.{IsAscending}
 use Rattle.version_views.specs.Cuts.{IsCut, pairs_in}
-use Rattle.version_drafts.specs.Parts.{LiesWithin, blocks_of_parts, made_in}
+use Rattle.version_drafts.specs.Parts.{LiesWithin, blocks_of_parts}
 use Rattle.version_drafts.proofs.CuttingLemmas.{counts_on, counts_same, cutting_same, given_same}
 use Rattle.version_drafts.proofs.ListedLemmas.{fewest, none_spent, pair_cloned, rising_taken, spent_same}
 use Rattle.version_drafts.proofs.listed.cut_beside.Goals as goal

@@ -1,4 +1,4 @@
-use Rattle.std.proofs.Common.{◌≡◌, ◌*◌, ◌+◌, ◌<◌, length, sym, ap, ◌∙◌, subst}
+use Rattle.std.proofs.Common.{◌*◌, ◌+◌, ◌<◌, length, sym, ap, ◌∙◌, subst}
 use Rattle.version_views.specs.Cuts.{IsCut, pairs_in}
 use Rattle.version_views.specs.declared.directory.Directory.{Directory}
 use Rattle.version_drafts.proofs.ListedLemmas.{all_new, blocks_new, view_none}

@@ -1,4 +1,4 @@
-use Rattle.std.proofs.Common.{◌≤◌, ◌+◌, ◌*◌, ◌/◌, length, sym, subst, arith}
+use Rattle.std.proofs.Common.{◌≤◌, ◌+◌, ◌*◌, ◌/◌, sym, subst, arith}
 use Rattle.version_views.proofs.BlockListLemmas.{blocks_fit}
 use Rattle.version_drafts.specs.Drafts.{IsPlanned}
 use Rattle.version_drafts.specs.Parts.{segments_in}

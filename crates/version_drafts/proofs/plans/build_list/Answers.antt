@@ -1,7 +1,7 @@
 use Rattle.std.proofs.Common.{◌≡◌, ◌≤◌, ◌+◌, ◌*◌, ◌/◌, [], List, length, sym, ap, ◌∙◌, subst, arith}
 use Rattle.std.proofs.lemmas.Result.{IfOk-weaker}
 use Rattle.version_views.specs.Sizes.{room_for}
-use Rattle.version_drafts.specs.Drafts.{IsPlanned, Plan, list_planned, slots_for}
+use Rattle.version_drafts.specs.Drafts.{IsPlanned, list_planned, slots_for}
 use Rattle.version_drafts.specs.Parts.{segments_in}
 use Rattle.version_drafts.proofs.ListedLemmas.{lies_more}
 use Rattle.version_drafts.proofs.PartLemmas.{few_of, made_fewer}

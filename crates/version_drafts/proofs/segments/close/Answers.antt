@@ -1,11 +1,11 @@
-use Rattle.std.proofs.Common.{◌≡◌, ◌++◌, ◌∷◌, [], Some, map, ap, ◌∙◌, subst}
+use Rattle.std.proofs.Common.{◌≡◌, ◌++◌, ◌∷◌, [], Some, map, ap, ◌∙◌}
 use Rattle.std.proofs.lemmas.List.{map-append}
 use Rattle.version_views.specs.Cuts.{greatest_key}
-use Rattle.version_drafts.specs.Parts.{HasMadeTree}
+use Rattle.version_drafts.specs.declared.segments.Part.TheVariants as parts
 use Rattle.version_drafts.proofs.segments.close.Goals as goal
 
 pub returns-clause-parts : goal.returns-clause-parts
-returns-clause-parts g c = (c.in_ok-part.part, subst (λ t. HasMadeTree t c.in_ok-part.part) c.replace.ensures.value c.in_ok-part.ensures, c.in_ok-give.ensures.parts)
+returns-clause-parts g c = c.in_ok-give.ensures.parts ∙ ap (λ t. c.args.out.now.row.parts.items ++ parts.Made t ∷ []) c.replace.ensures.value
 
 pub returns-clause-separators : goal.returns-clause-separators
 returns-clause-separators g c =

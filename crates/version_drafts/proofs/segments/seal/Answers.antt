@@ -1,9 +1,10 @@
-use Rattle.std.proofs.Common.{◌≡◌, ◌++◌, ◌<◌, ◌==◌, false, length, sym, ap, ◌∙◌, arith, append-nil}
+use Rattle.std.proofs.Common.{◌≡◌, ◌++◌, ◌<◌, ◌==◌, false, length, refl, sym, ap, ◌∙◌, arith, append-nil}
 use Rattle.std.proofs.lemmas.Bool.{eqb-true}
 use Rattle.std.proofs.lemmas.Bool.Decides.{nat_tests}
 use Rattle.version_views.specs.Cuts.{pairs_in}
 use Rattle.version_drafts.specs.Parts.{blocks_of_parts}
-use Rattle.version_drafts.proofs.CuttingLemmas.{empty_of, made_closed, made_lies, made_one, made_pairs, open_none, open_one, pairs_closed, row_closed}
+use Rattle.version_drafts.specs.declared.segments.Part.TheVariants as parts
+use Rattle.version_drafts.proofs.CuttingLemmas.{empty_of, made_closed, open_none, open_one, pairs_closed, row_closed}
 use Rattle.version_drafts.proofs.segments.seal.Goals as goal
 
 pub returns-then-is_empty-clause-row : goal.returns-then-is_empty-clause-row
@@ -32,17 +33,14 @@ join-requires-clause-some g c =
     grind (arith, nat_tests)
 
 pub returns-clause-row : goal.returns-clause-row
-returns-clause-row g c = let p = c.in_ok-close.ensures.parts in row_closed c.join.new.out c.in_ok-join.ensures.closing _ p.0 (made_pairs c.args.old.now c.join.new.out.tail p.0 p.1) p.2 (made_lies c.args.old.now c.join.new.out.tail p.0 p.1) c.in_ok-close.ensures.separators c.in_ok-close.ensures.last
+returns-clause-row g c = row_closed c.join.new.out c.in_ok-join.ensures.closing _ (parts.Made c.join.new.out.tail) refl c.in_ok-close.ensures.parts tt c.in_ok-close.ensures.separators c.in_ok-close.ensures.last
 
 pub returns-clause-pairs : goal.returns-clause-pairs
-returns-clause-pairs g c = let p = c.in_ok-close.ensures.parts in pairs_closed c.join.new.out c.in_ok-join.ensures.closing c.close.new.out.row p.0 (made_pairs c.args.old.now c.join.new.out.tail p.0 p.1) p.2 ∙ c.in_ok-join.ensures.pairs
+returns-clause-pairs g c = pairs_closed c.join.new.out c.in_ok-join.ensures.closing c.close.new.out.row (parts.Made c.join.new.out.tail) refl c.in_ok-close.ensures.parts ∙ c.in_ok-join.ensures.pairs
 
 pub returns-clause-made : goal.returns-clause-made
 returns-clause-made g c =
-    let p = c.in_ok-close.ensures.parts in
-    let blocks = c.args.old.now in
-    let tail = c.join.new.out.tail in
-    let more = made_closed c.join.new.out c.in_ok-join.ensures.closing c.close.new.out.row p.0 (made_pairs blocks tail p.0 p.1) p.2 (made_one blocks tail p.0 p.1) in
+    let more = made_closed c.join.new.out c.in_ok-join.ensures.closing c.close.new.out.row (parts.Made c.join.new.out.tail) refl c.in_ok-close.ensures.parts refl in
     let same = c.in_ok-join.ensures.made in
     let filled : (length c.args.out.now.tail.pairs == 0) ≡ false = sym c.is_empty.ensures ∙ c.if-is_empty.false in
     let one = open_one c.args.out.now.tail.pairs (grind (arith, nat_tests)) in

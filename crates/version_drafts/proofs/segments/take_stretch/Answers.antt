@@ -1,4 +1,4 @@
-use Rattle.std.proofs.Common.{◌+◌, ◌-◌, Some, length, refl, sym, ap, ◌∙◌}
+use Rattle.std.proofs.Common.{◌-◌, Some, length, refl, sym, ap, ◌∙◌}
 use Rattle.tree_index.proofs.WayLemmas.{some_same}
 use Rattle.version_views.specs.Cuts.{separators_of}
 use Rattle.version_drafts.specs.declared.segments.Row.{Row}

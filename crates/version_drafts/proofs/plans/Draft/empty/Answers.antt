@@ -1,4 +1,4 @@
-use Rattle.std.proofs.Common.{length, ap, sym, ◌∙◌, subst, arith}
+use Rattle.std.proofs.Common.{ap, sym, subst, arith}
 use Rattle.version_drafts.specs.Parts.{made_in, segments_in}
 use Rattle.version_drafts.proofs.plans.Draft.empty.Goals as goal
 
