@@ -64,6 +64,42 @@ fn two_runs_fill_their_leaves(rt: HostRuntime) {
     }
 }
 
+/// A place to begin at, the key to stop before, and how many of a hundred keys from 0 on lie between, in leaves of fifteen.
+const BETWEEN: &[(usize, Option<u64>, usize)] = &[
+    (0, Some(0), 0),
+    (0, Some(1), 1),
+    (0, Some(14), 14),
+    (0, Some(15), 15),
+    (0, Some(16), 16),
+    (0, Some(47), 47),
+    (0, Some(99), 99),
+    (0, Some(100), 100),
+    (0, None, 100),
+    (14, Some(14), 0),
+    (14, Some(16), 2),
+    (20, Some(10), 0),
+    (20, Some(61), 41),
+    (99, Some(100), 1),
+    (99, None, 1),
+];
+
+/// Whether a cursor that passed so many pairs of a tree counts as many as given below a key.
+fn counts(source: &Tree, passed: usize, upto: Option<u64>, count: usize) -> bool {
+    let mut cursor = started(source);
+    for _ in 0..passed {
+        let _ = cursor.next();
+    }
+    cursor.run(upto.as_ref()) == count
+}
+
+#[test]
+fn a_run_goes_from_leaf_to_leaf_up_to_its_key(rt: HostRuntime) {
+    let (source, _) = rising(rt.alloc(), 100);
+    for (passed, upto, count) in BETWEEN {
+        assert!(rt; counts(&source, *passed, *upto, *count));
+    }
+}
+
 /// Whether an empty tree has no pair where memory is refused to one of two runs, and takes all by a second try.
 fn tries_two(alloc: Global, count: u64) -> bool {
     let (source, _) = rising(alloc, count);
