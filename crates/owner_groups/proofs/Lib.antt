@@ -1,0 +1,11 @@
+pub mod GroupLemmas
+pub mod ArenaLemmas
+pub mod VersionLemmas
+pub mod GrownLemmas
+pub mod RowLemmas
+pub mod CountLemmas
+pub mod PlaceLemmas
+pub mod ResultLemmas
+pub mod CopyLemmas
+pub mod TierLemmas
+pub mod PathLemmas

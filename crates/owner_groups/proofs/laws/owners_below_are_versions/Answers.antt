@@ -1,0 +1,5 @@
+use Rattle.owner_groups.proofs.VersionLemmas.{owners_two}
+use Rattle.owner_groups.proofs.laws.owners_below_are_versions.Goals as goal
+
+pub returns : goal.returns
+returns c = owners_two

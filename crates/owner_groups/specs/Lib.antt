@@ -1,0 +1,5 @@
+pub mod Groups
+pub mod Arena
+pub mod Versions
+pub mod Grown
+pub mod Tiered
