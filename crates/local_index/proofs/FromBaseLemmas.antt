@@ -34,7 +34,10 @@ module _ {K V : Type 0} (cmp : K → K → Ordering) (width places slots number 
 -- a version that takes nothing over does so under another number
 pub renumbered : {K V : Type 0} {s : ℕ} (cmp : K → K → Ordering) (p : Plan K V s) (number : ℕ) → StandsAlone cmp p → StandsAlone cmp (record p { number = number })
 renumbered cmp p number alone = record {
-  placeable = λ w. let placeable = alone.placeable w in record { cut = placeable.cut; counted = placeable.counted; there = placeable.there };
+  placeable = λ w.
+      let placeable = alone.placeable w in
+      let planned = placeable.planned in
+      record { planned = record { cut = planned.cut; counted = planned.counted; there = planned.there }; there = placeable.there };
   list = alone.list;
 }
 
