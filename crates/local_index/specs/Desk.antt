@@ -24,6 +24,9 @@ pub record Machine (K V : Type 0) : Type 0 where
   pub index : State K V
   pub desk : List (Option (Ticket K V))
 
+abbrev pub machine : {K V : Type 0} → State K V → List (Option (Ticket K V)) → Machine K V
+machine index desk = record { index = index; desk = desk }
+
 module _ {K V : Type 0} where
   -- the reply that says that nothing was done
   abbrev pub reply_of : DeskRefused K V → DeskReply K V

@@ -1,5 +1,5 @@
 -- The state of an index, and its steps.
-use Rattle.std.specs.Prelude.{◌≡◌, ◌≢◌, ℕ, ◌+◌, ◌-◌, ◌<◌, ◌≤◌, ◌^◌, List, [], ◌∷◌, ◌++◌, length, Option, Some, None, Result, Ok, Err, slice_get, slice_set, IsSome}
+use Rattle.std.specs.Prelude.{◌≡◌, ◌≢◌, ℕ, ◌+◌, ◌-◌, ◌<◌, ◌≤◌, ◌^◌, List, [], ◌∷◌, ◌++◌, length, Option, Some, None, Result, Ok, Err, replicate, slice_get, slice_set, IsSome}
 use Rattle.std.specs.declared.cmp.Ordering.{Ordering}
 use Rattle.std.specs.List.{All}
 use Rattle.version_views.specs.Writes.{after_writes, replies_to}
@@ -7,7 +7,7 @@ use Rattle.serial_history.specs.Histories.{transaction_on}
 use Rattle.serial_history.specs.Histories as histories
 use Rattle.version_views.specs.declared.write.Write.{Write}
 use Rattle.serial_history.specs.Answers.{answer_to}
-use Rattle.serial_history.specs.Serial.{Base, HasNumber, Read, RefusesCheckpoint, base_at, history_behind, latest, list_numbered}
+use Rattle.serial_history.specs.Serial.{Base, HasNumber, Read, RefusesCheckpoint, base_at, history_behind, latest, list_numbered, with_read}
 use Rattle.version_views.specs.Sizes.{room_for}
 use Rattle.serial_history.specs.declared.query.Query.{Query}
 use Rattle.serial_history.specs.declared.query.Answer.{Answer}
@@ -31,6 +31,10 @@ pub record State (K V : Type 0) : Type 0 where
   pub slots : ℕ
   pub used : ℕ
   pub raises : ℕ
+
+-- an index of this base, without history, and with no session at any place
+abbrev pub fresh_index : {K V : Type 0} → Base K V → (places last slots used : ℕ) → State K V
+fresh_index base places last slots used = record { base = base; history = []; places = replicate places None; last = last; slots = slots; used = used; raises = 0 }
 
 -- an open session: its place, and its receipt, which has its number
 pub record OpenSession (K V : Type 0) : Type 0 where
@@ -104,10 +108,14 @@ module _ {K V : Type 0} where
     abbrev pub transaction_of : State K V → List (Read K V) → List (Write K V) → Transaction K V
     transaction_of s reads writes = transaction_on cmp (present s) reads writes
 
+    -- that transaction comes behind the others
+    abbrev pub with_commit : List (Read K V) → List (Write K V) → State K V → State K V
+    with_commit reads writes s = record s { history = s.history ++ transaction_of s reads writes ∷ [] }
+
     -- a query is answered on the session's list, and put at the end of its receipt with the answer
     pub record Reads (s : State K V) (old : OpenSession K V) (query : Query K) (answer : Answer K V) (new : OpenSession K V) : Type 0 where
       pub told : answer ≡ answer_to cmp query (list_read s old)
-      pub recorded : new ≡ record old { receipt = record old.receipt { reads = old.receipt.reads ++ (query, answer) ∷ [] } }
+      pub recorded : new ≡ record old { receipt = with_read query answer old.receipt }
 
     -- whether the reads of a receipt hold of the list of its number, if the index has that
     abbrev pub Audits : State K V → Receipt K V → Audit → Type 0

@@ -2,7 +2,7 @@
 
 ghost use Rattle.std.specs.Prelude.{◌≡◌, ◌≢◌, None, Some, IfOk, IsTrue, IsFalse, IfSome, IfNone, MatchOption, ℕ, replicate, slice_get, slice_set};
 ghost use Rattle.local_index.specs.State.{IsSessionOf, Closes};
-ghost use Rattle.local_index.specs.Desk.{Clears, Serves, IsTicketAt, IsUnknown};
+ghost use Rattle.local_index.specs.Desk.{machine, Clears, Serves, IsTicketAt, IsUnknown};
 
 use crate::index::LocalIndex;
 use crate::session::Session;
@@ -90,7 +90,7 @@ impl<K, V> Desk<K, V> {
 impl<K: Clone + Ord, V: Clone + Eq> Desk<K, V> {
     /// Closes the sessions that the desk keeps. Other sessions of the index stay open.
     pub fn end<const S: usize>(self, index: &mut LocalIndex<K, V, S>)
-        requires { Serves (record { index = index.old; desk = self }) }
+        requires { Serves (machine index.old self) }
         ensures { Clears index.old self index.new }
     {
         let Desk { mut tickets } = self;

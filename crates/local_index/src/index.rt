@@ -13,10 +13,10 @@ ghost use Rattle.version_views.specs.Views.{cursor_within};
 ghost use Rattle.version_views.specs.Writes.{after_writes, replies_to};
 ghost use Rattle.std.specs.List.{All, sum_by};
 ghost use Rattle.serial_history.specs.Answers.{answer_to};
-ghost use Rattle.serial_history.specs.Serial.{Holds, IsFirstConflict};
+ghost use Rattle.serial_history.specs.Serial.{Holds, IsFirstConflict, empty_base};
 ghost use Rattle.version_views.specs.Sizes.{IsStoreSized, room_for, segments_for};
 ghost use Rattle.local_versions.specs.Store.{Version, gap};
-ghost use Rattle.local_index.specs.State.{State, Has, latest_number, IsOpenAt, IsSessionAt, IsSessionOf, HasNoPlace, HasNoSession, Opens, Closes, list_at, list_open, list_read, present, transaction_of, MayAccept, MayRefuse, Commits, Refuses, Reads, Audits, Reclaims};
+ghost use Rattle.local_index.specs.State.{State, Has, fresh_index, latest_number, IsOpenAt, IsSessionAt, IsSessionOf, HasNoPlace, HasNoSession, Opens, Closes, list_at, list_open, list_read, present, with_commit, MayAccept, MayRefuse, Commits, Refuses, Reads, Audits, Reclaims};
 
 pub mod from_base;
 pub mod past;
@@ -79,7 +79,7 @@ impl<K: Clone + Ord, V: Clone + Eq, const S: usize> LocalIndex<K, V, S> {
     /// version takes one. Its last number is `2^64 - 1`. Fails only if an allocation fails.
     pub fn new(alloc: Global, places: usize, slots: usize) -> Result<Self, AllocError>
         requires { IsStoreSized places slots S }
-        ensures { IfOk result (λ index. index ≡ record { base = record { number = 0; pairs = [] }; history = []; places = replicate places None; last = 2 ^ 64 - 1; slots = slots; used = 1; raises = 0 }) }
+        ensures { IfOk result (λ index. index ≡ fresh_index empty_base places (2 ^ 64 - 1) slots 1) }
     {
         Self::with_last(alloc, places, slots, u64::MAX)
     }
@@ -93,7 +93,7 @@ impl<K: Clone + Ord, V: Clone + Eq, const S: usize> LocalIndex<K, V, S> {
         last: u64,
     ) -> Result<Self, AllocError>
         requires { IsStoreSized places slots S }
-        ensures { IfOk result (λ index. index ≡ record { base = record { number = 0; pairs = [] }; history = []; places = replicate places None; last = last; slots = slots; used = 1; raises = 0 }) }
+        ensures { IfOk result (λ index. index ≡ fresh_index empty_base places last slots 1) }
     {
         Ok(LocalIndex {
             alloc,
@@ -531,7 +531,7 @@ impl<K: Clone + Ord, V: Clone + Eq, const S: usize> LocalIndex<K, V, S> {
         requires fits { length writes.items ≤ vec_capacity prepared.replies }
         requires accepted { MayAccept K.cmp self.old prepared.reads }
         ensures told { IfOk result (λ told. told.items ≡ replies_to K.cmp writes.items (present K.cmp self.old)) }
-        ensures ok { OnOk result (self.new ≡ record self.old { history = self.old.history ++ transaction_of K.cmp self.old prepared.reads writes.items ∷ []; used = self.new.used }) }
+        ensures ok { OnOk result (self.new ≡ record (with_commit K.cmp prepared.reads writes.items self.old) { used = self.new.used }) }
         ensures room { OnOk result (self.new.used ≤ self.old.used + room_for S (length (after_writes K.cmp writes.items (present K.cmp self.old)))) }
         ensures few { OnOk result (self.new.used ≤ self.old.used + (2 * length writes.items + 1)) }
         ensures refused { IfErr result (λ back. Refuses K.cmp S self.old prepared.reads writes.items back self.new) }

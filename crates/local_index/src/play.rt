@@ -2,7 +2,7 @@
 
 ghost use Rattle.std.specs.Prelude.{◌≡◌, ◌<◌, ◌≤◌, [], IfOk, IfErr, IfSome, IfNone, OnErr};
 ghost use Rattle.leaf_array.specs.Values.{ClonesAreSame, EqualsAreSame};
-ghost use Rattle.local_index.specs.Desk.{Serves, KeepsAll, RestsOn, RestsOnNone, OpenStep, CloseStep, ReadStep, AuditStep, NumberStep, LenStep, CommitStep, CheckpointStep, IsKnown, MayWantMemory, Step, Run, RunsUpTo};
+ghost use Rattle.local_index.specs.Desk.{machine, Serves, KeepsAll, RestsOn, RestsOnNone, OpenStep, CloseStep, ReadStep, AuditStep, NumberStep, LenStep, CommitStep, CheckpointStep, IsKnown, MayWantMemory, Step, Run, RunsUpTo};
 ghost use Rattle.local_index.specs.State.{Has, MayAccept, latest_number};
 
 use crate::desk::{Desk, Ticket};
@@ -107,15 +107,15 @@ pub fn play_all<K: Clone + Ord, V: Clone + Eq, const S: usize>(
     desk: &mut Desk<K, V>,
     calls: Vec<DeskCall<K, V>>,
 ) -> Result<Vec<DeskReply<K, V>>, (Vec<DeskReply<K, V>>, AllocError)>
-    requires serves { Serves (record { index = index.old; desk = desk.old }) }
+    requires serves { Serves (machine index.old desk.old) }
     requires keys { ClonesAreSame K.is_clone }
     requires values { ClonesAreSame V.is_clone }
     requires equal_keys { EqualsAreSame K.eq }
     requires equal_values { EqualsAreSame V.eq }
-    ensures run { IfOk result (λ replies. Run K.cmp S (record { index = index.old; desk = desk.old }) calls.items replies.items (record { index = index.new; desk = desk.new })) }
-    ensures stopped { IfErr result (λ stop. RunsUpTo K.cmp S (record { index = index.old; desk = desk.old }) calls.items stop.0.items (record { index = index.new; desk = desk.new })) }
-    ensures serves { Serves (record { index = index.new; desk = desk.new }) }
-    ensures keeps_all { KeepsAll (record { index = index.old; desk = desk.old }) → KeepsAll (record { index = index.new; desk = desk.new }) }
+    ensures run { IfOk result (λ replies. Run K.cmp S (machine index.old desk.old) calls.items replies.items (machine index.new desk.new)) }
+    ensures stopped { IfErr result (λ stop. RunsUpTo K.cmp S (machine index.old desk.old) calls.items stop.0.items (machine index.new desk.new)) }
+    ensures serves { Serves (machine index.new desk.new) }
+    ensures keeps_all { KeepsAll (machine index.old desk.old) → KeepsAll (machine index.new desk.new) }
 {
     let mut replies = Vec::new(alloc);
     for call in calls {
@@ -141,17 +141,17 @@ pub fn play_one<K: Clone + Ord, V: Clone + Eq, const S: usize>(
     desk: &mut Desk<K, V>,
     call: DeskCall<K, V>,
 ) -> Result<DeskReply<K, V>, AllocError>
-    requires serves { Serves (record { index = index.old; desk = desk.old }) }
+    requires serves { Serves (machine index.old desk.old) }
     requires keys { ClonesAreSame K.is_clone }
     requires values { ClonesAreSame V.is_clone }
     requires equal_keys { EqualsAreSame K.eq }
     requires equal_values { EqualsAreSame V.eq }
-    ensures step { IfOk result (λ reply. Step K.cmp S (record { index = index.old; desk = desk.old }) call reply (record { index = index.new; desk = desk.new })) }
-    ensures memory { OnErr result (MayWantMemory K.cmp S (record { index = index.old; desk = desk.old }) call) }
+    ensures step { IfOk result (λ reply. Step K.cmp S (machine index.old desk.old) call reply (machine index.new desk.new)) }
+    ensures memory { OnErr result (MayWantMemory K.cmp S (machine index.old desk.old) call) }
     ensures index_kept { OnErr result (index.new ≡ index.old) }
     ensures desk_kept { OnErr result (desk.new ≡ desk.old) }
-    ensures serves { Serves (record { index = index.new; desk = desk.new }) }
-    ensures keeps_all { KeepsAll (record { index = index.old; desk = desk.old }) → KeepsAll (record { index = index.new; desk = desk.new }) }
+    ensures serves { Serves (machine index.new desk.new) }
+    ensures keeps_all { KeepsAll (machine index.old desk.old) → KeepsAll (machine index.new desk.new) }
 {
     match call {
         DeskCall::Open(label) => Ok(play_open(index, desk, label)),
@@ -193,10 +193,10 @@ fn play_open<K: Clone + Ord, V: Clone + Eq, const S: usize>(
     desk: &mut Desk<K, V>,
     label: u64,
 ) -> DeskReply<K, V>
-    requires { Serves (record { index = index.old; desk = desk.old }) }
-    ensures step { OpenStep K.cmp S (record { index = index.old; desk = desk.old }) label result (record { index = index.new; desk = desk.new }) }
-    ensures serves { Serves (record { index = index.new; desk = desk.new }) }
-    ensures keeps_all { KeepsAll (record { index = index.old; desk = desk.old }) → KeepsAll (record { index = index.new; desk = desk.new }) }
+    requires { Serves (machine index.old desk.old) }
+    ensures step { OpenStep K.cmp S (machine index.old desk.old) label result (machine index.new desk.new) }
+    ensures serves { Serves (machine index.new desk.new) }
+    ensures keeps_all { KeepsAll (machine index.old desk.old) → KeepsAll (machine index.new desk.new) }
 {
     if let Some(_) = desk.ticket(label) {
         return DeskReply::Busy;
@@ -218,10 +218,10 @@ fn play_close<K: Clone + Ord, V: Clone + Eq, const S: usize>(
     desk: &mut Desk<K, V>,
     label: u64,
 ) -> DeskReply<K, V>
-    requires { Serves (record { index = index.old; desk = desk.old }) }
-    ensures step { CloseStep K.cmp S (record { index = index.old; desk = desk.old }) label result (record { index = index.new; desk = desk.new }) }
-    ensures serves { Serves (record { index = index.new; desk = desk.new }) }
-    ensures keeps_all { KeepsAll (record { index = index.old; desk = desk.old }) → KeepsAll (record { index = index.new; desk = desk.new }) }
+    requires { Serves (machine index.old desk.old) }
+    ensures step { CloseStep K.cmp S (machine index.old desk.old) label result (machine index.new desk.new) }
+    ensures serves { Serves (machine index.new desk.new) }
+    ensures keeps_all { KeepsAll (machine index.old desk.old) → KeepsAll (machine index.new desk.new) }
 {
     match desk.leave(label) {
         Some(Ticket { label: _, session }) => DeskReply::Closed(index.close_session(session)),
@@ -237,14 +237,14 @@ fn play_read<K: Clone + Ord, V: Clone + Eq, const S: usize>(
     label: u64,
     query: Query<K>,
 ) -> Result<DeskReply<K, V>, AllocError>
-    requires serves { Serves (record { index = index.now; desk = desk.old }) }
+    requires serves { Serves (machine index.now desk.old) }
     requires keys { ClonesAreSame K.is_clone }
     requires values { ClonesAreSame V.is_clone }
-    ensures step { IfOk result (λ reply. ReadStep K.cmp S (record { index = index.now; desk = desk.old }) label query reply (record { index = index.now; desk = desk.new })) }
+    ensures step { IfOk result (λ reply. ReadStep K.cmp S (machine index.now desk.old) label query reply (machine index.now desk.new)) }
     ensures memory { OnErr result (IsKnown desk.old label) }
     ensures err { OnErr result (desk.new ≡ desk.old) }
-    ensures serves { Serves (record { index = index.now; desk = desk.new }) }
-    ensures keeps_all { KeepsAll (record { index = index.now; desk = desk.old }) → KeepsAll (record { index = index.now; desk = desk.new }) }
+    ensures serves { Serves (machine index.now desk.new) }
+    ensures keeps_all { KeepsAll (machine index.now desk.old) → KeepsAll (machine index.now desk.new) }
 {
     let Some(Ticket { label, mut session }) = desk.leave(label) else {
         return Ok(DeskReply::NoSession(Vec::new(alloc)));
@@ -269,7 +269,7 @@ fn play_audit<K: Clone + Ord, V: Clone + Eq, const S: usize>(
     requires equal_keys { EqualsAreSame K.eq }
     requires equal_values { EqualsAreSame V.eq }
     ensures memory { OnErr result ((receipt : Receipt K V) × RestsOn desk.now on.now receipt × Has index.now receipt.number) }
-    ensures step { IfOk result (λ reply. AuditStep K.cmp S (record { index = index.now; desk = desk.now }) on.now reply (record { index = index.now; desk = desk.now })) }
+    ensures step { IfOk result (λ reply. AuditStep K.cmp S (machine index.now desk.now) on.now reply (machine index.now desk.now)) }
 {
     let blank = Receipt::blank(alloc);
     let Some(receipt) = reads_of(desk, on, &blank) else {
@@ -285,7 +285,7 @@ fn play_number<K: Clone + Ord, V: Clone + Eq, const S: usize>(
     desk: &Desk<K, V>,
     label: u64,
 ) -> DeskReply<K, V>
-    ensures { NumberStep K.cmp S (record { index = index.now; desk = desk.now }) label result (record { index = index.now; desk = desk.now }) }
+    ensures { NumberStep K.cmp S (machine index.now desk.now) label result (machine index.now desk.now) }
 {
     let Some(ticket) = desk.ticket(label) else {
         return DeskReply::NoSession(Vec::new(alloc));
@@ -300,8 +300,8 @@ fn play_len<K: Clone + Ord, V: Clone + Eq, const S: usize>(
     desk: &Desk<K, V>,
     label: u64,
 ) -> DeskReply<K, V>
-    requires { Serves (record { index = index.now; desk = desk.now }) }
-    ensures { LenStep K.cmp S (record { index = index.now; desk = desk.now }) label result (record { index = index.now; desk = desk.now }) }
+    requires { Serves (machine index.now desk.now) }
+    ensures { LenStep K.cmp S (machine index.now desk.now) label result (machine index.now desk.now) }
 {
     let Some(ticket) = desk.ticket(label) else {
         return DeskReply::NoSession(Vec::new(alloc));
@@ -317,16 +317,16 @@ fn play_commit<K: Clone + Ord, V: Clone + Eq, const S: usize>(
     on: &ReadSet<K, V>,
     writes: Vec<Write<K, V>>,
 ) -> Result<DeskReply<K, V>, AllocError>
-    requires serves { Serves (record { index = index.old; desk = desk.now }) }
+    requires serves { Serves (machine index.old desk.now) }
     requires keys { ClonesAreSame K.is_clone }
     requires values { ClonesAreSame V.is_clone }
     requires equal_keys { EqualsAreSame K.eq }
     requires equal_values { EqualsAreSame V.eq }
-    ensures step { IfOk result (λ reply. CommitStep K.cmp S (record { index = index.old; desk = desk.now }) on.now writes.items reply (record { index = index.new; desk = desk.now })) }
+    ensures step { IfOk result (λ reply. CommitStep K.cmp S (machine index.old desk.now) on.now writes.items reply (machine index.new desk.now)) }
     ensures memory { OnErr result ((receipt : Receipt K V) × RestsOn desk.now on.now receipt × MayAccept K.cmp index.old receipt.reads) }
     ensures err { OnErr result (index.new ≡ index.old) }
-    ensures serves { Serves (record { index = index.new; desk = desk.now }) }
-    ensures keeps_all { KeepsAll (record { index = index.old; desk = desk.now }) → KeepsAll (record { index = index.new; desk = desk.now }) }
+    ensures serves { Serves (machine index.new desk.now) }
+    ensures keeps_all { KeepsAll (machine index.old desk.now) → KeepsAll (machine index.new desk.now) }
 {
     let blank = Receipt::blank(alloc);
     let Some(receipt) = reads_of(desk, on, &blank) else {
@@ -347,14 +347,14 @@ fn play_checkpoint<K: Clone + Ord, V: Clone + Eq, const S: usize>(
     desk: &Desk<K, V>,
     upto: u64,
 ) -> Result<DeskReply<K, V>, AllocError>
-    requires serves { Serves (record { index = index.old; desk = desk.now }) }
+    requires serves { Serves (machine index.old desk.now) }
     requires keys { ClonesAreSame K.is_clone }
     requires values { ClonesAreSame V.is_clone }
-    ensures step { IfOk result (λ reply. CheckpointStep K.cmp S (record { index = index.old; desk = desk.now }) upto reply (record { index = index.new; desk = desk.now })) }
+    ensures step { IfOk result (λ reply. CheckpointStep K.cmp S (machine index.old desk.now) upto reply (machine index.new desk.now)) }
     ensures memory { OnErr result ((index.old.base.number < upto) × (upto ≤ latest_number index.old)) }
     ensures err { OnErr result (index.new ≡ index.old) }
-    ensures serves { Serves (record { index = index.new; desk = desk.now }) }
-    ensures keeps_all { KeepsAll (record { index = index.old; desk = desk.now }) → KeepsAll (record { index = index.new; desk = desk.now }) }
+    ensures serves { Serves (machine index.new desk.now) }
+    ensures keeps_all { KeepsAll (machine index.old desk.now) → KeepsAll (machine index.new desk.now) }
 {
     match index.checkpoint(upto) {
         Ok(()) => Ok(DeskReply::Checkpointed(upto)),

@@ -3,7 +3,9 @@
 ghost use Rattle.std.specs.Prelude.{◌≡◌, ◌≤◌, ◌-◌, ◌^◌, [], None, IfErr, IfOk, length, replicate};
 ghost use Rattle.leaf_array.specs.Values.{ClonesAreSame};
 ghost use Rattle.version_views.specs.Sizes.{IsStoreSized, room_for};
+ghost use Rattle.serial_history.specs.Serial.{empty_base};
 ghost use Rattle.local_index.specs.FromBase.{MayRefuseBase};
+ghost use Rattle.local_index.specs.State.{fresh_index};
 
 use crate::index::LocalIndex;
 use crate::index::from_base::BaseRefused;
@@ -19,7 +21,7 @@ impl<K: Clone + Ord, V: Clone + Eq, const S: usize> ScopedIndex<K, V, S> {
     /// An empty index, as [`LocalIndex::new`] makes it. Fails only if an allocation fails.
     pub fn new(alloc: Global, places: usize, slots: usize) -> Result<Self, AllocError>
         requires { IsStoreSized places slots S }
-        ensures { IfOk result (λ scope. scope.index ≡ record { base = record { number = 0; pairs = [] }; history = []; places = replicate places None; last = 2 ^ 64 - 1; slots = slots; used = 1; raises = 0 }) }
+        ensures { IfOk result (λ scope. scope.index ≡ fresh_index empty_base places (2 ^ 64 - 1) slots 1) }
     {
         Ok(ScopedIndex {
             index: LocalIndex::new(alloc, places, slots)?,
@@ -37,7 +39,7 @@ impl<K: Clone + Ord, V: Clone + Eq, const S: usize> ScopedIndex<K, V, S> {
         requires size { IsStoreSized places slots S }
         requires keys { ClonesAreSame K.is_clone }
         requires values { ClonesAreSame V.is_clone }
-        ensures begins { IfOk result (λ scope. scope.index ≡ record { base = record { number = number; pairs = pairs.items }; history = []; places = replicate places None; last = 2 ^ 64 - 1; slots = slots; used = scope.index.used; raises = 0 }) }
+        ensures begins { IfOk result (λ scope. scope.index ≡ fresh_index (record { number = number; pairs = pairs.items }) places (2 ^ 64 - 1) slots scope.index.used) }
         ensures room { IfOk result (λ scope. scope.index.used ≤ room_for S (length pairs.items)) }
         ensures cause { IfErr result (λ back. MayRefuseBase K.cmp S slots pairs.items back.cause) }
         ensures back { IfErr result (λ back. back.pairs.items ≡ pairs.items) }

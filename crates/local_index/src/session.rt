@@ -2,6 +2,7 @@
 
 ghost use Rattle.std.specs.Prelude.{◌≡◌, ◌∷◌, ◌++◌, [], OnOk, OnErr};
 ghost use Rattle.leaf_array.specs.Values.{ClonesAreSame};
+ghost use Rattle.serial_history.specs.Serial.{with_read};
 
 use serial_history::{Answer, Query, Receipt};
 use std::alloc::AllocError;
@@ -64,7 +65,7 @@ impl<K: Clone + Drop, V: Clone + Drop> Session<K, V> {
     pub(crate) fn note(&mut self, query: Query<K>, told: &Answer<K, V>) -> Result<(), AllocError>
         requires keys { ClonesAreSame K.is_clone }
         requires values { ClonesAreSame V.is_clone }
-        ensures ok { OnOk result (self.new ≡ record self.old { receipt = record self.old.receipt { reads = self.old.receipt.reads ++ (query, told.now) ∷ [] } }) }
+        ensures ok { OnOk result (self.new ≡ record self.old { receipt = with_read query told.now self.old.receipt }) }
         ensures err { OnErr result (self.new ≡ self.old) }
     {
         self.receipt.note(query, told)

@@ -7,15 +7,16 @@ use Rattle.sdd_world.specs.Frame.{Frame, IsLive}
 use Rattle.sdd_world.specs.Holding.{Hold, SharedItem}
 use Rattle.sdd_world.specs.Passing.{IsPlain}
 use Rattle.sdd_world.specs.Place.{AddsOwners, IsPlace, IsShared, kept_at}
-use Rattle.sdd_world.specs.State.{IsFree, State, in_use, placed, status_at, vacancy, value_at, with_cell}
+use Rattle.sdd_world.specs.State.{IsFree, State, cell_at, in_use, placed, status_at, vacancy, value_at, with_cell}
 use Rattle.sdd_world.specs.Steps.{released, times}
 use Rattle.sdd_world.specs.Tokens.{loaded_slot}
 use Rattle.sdd_world.specs.declared.pointer.Loaded.{Loaded}
 use Rattle.sdd_world.specs.declared.status.Cell.TheVariants as cell
 use Rattle.sdd_world.specs.declared.status.Status.TheVariants as status
+use Rattle.sdd_world.specs.declared.tag.Tag.{Tag}
 use Rattle.sdd_world.specs.declared.tag.Tag.TheVariants as tag
 use Rattle.version_views.specs.Items.{held_by, slots_kept, slots_of}
-use Rattle.version_views.specs.Versions.{IsSegment, IsVersion, segment_pairs, list_of}
+use Rattle.version_views.specs.Versions.{IsSegment, IsVersion, blocks_of, segment_pairs, list_of}
 use Rattle.sdd_world.specs.declared.owner.Kept.{Kept}
 use Rattle.version_views.specs.declared.directory.Directory.{Directory}
 pub use Rattle.version_drafts.specs.Drafts.{Plan, blocks_planned, list_planned, slots_for}
@@ -106,6 +107,14 @@ module _ {K V : Type 0} {s : ℕ} where
     pub planned : IsPlanned cmp (blocks_at w older) p
     pub there : CanTakeOver w older p.parts
 
+  -- it can be placed beside this directory, wherever that is and has an owner
+  abbrev pub IsPlaceableBeside : (K → K → Ordering) → State (Item K V s) → Directory K Kept → Plan K V s → Type 0
+  IsPlaceableBeside cmp w d p = (i : ℕ) → IsLive w i → value_at w i ≡ Some (items.Directory d) → IsPlaceable cmp w (Some i) p
+
+  -- the list of a version that takes over of this directory
+  abbrev pub list_beside : State (Item K V s) → Directory K Kept → Plan K V s → List (K × V)
+  list_beside w d p = list_planned (blocks_of (value_at w) d) p
+
   -- the list of a version that takes nothing over
   abbrev pub list_alone : Plan K V s → List (K × V)
   list_alone p = list_planned [] p
@@ -119,6 +128,10 @@ module _ {K V : Type 0} {s : ℕ} where
   abbrev pub HasPlaced : List ℕ → Part K V → List ℕ → State (Item K V s) → State (Item K V s) → Type 0
   HasPlaced slots (parts.Taken from upto) xs w w' = (xs ≡ between from upto slots) × AddsOwners xs w w'
   HasPlaced slots (parts.Made t) xs w w' = (i : ℕ) × (xs ≡ i ∷ []) × IsPlace w × IsFree w i × (w' ≡ placed i (items.Segment t) (status.Shared 1) w) × Frame w w'
+
+  -- the slots of a part that is placed come behind those that are kept
+  abbrev pub KeepsPlaced : List ℕ → Part K V → (old new : List ℕ) → State (Item K V s) → State (Item K V s) → Type 0
+  KeepsPlaced slots part old new w w' = (xs : List ℕ) × (new ≡ old ++ xs) × HasPlaced slots part xs w w'
 
   -- segments with these pairs are in these slots, n of which are new, and their owners are in hand
   pub record StandsIn (n : ℕ) (slots : List ℕ) (blocks : List (List (K × V))) (w w' : State (Item K V s)) : Type 0 where
@@ -136,6 +149,10 @@ module _ {K V : Type 0} {s : ℕ} where
     pub numbered : directory.number ≡ number
     pub list : list_of (value_at w) directory ≡ pairs
 
+  -- the directory is the version of this number with this list
+  abbrev pub IsOf : State (Item K V s) → ℕ → List (K × V) → Directory K Kept → Type 0
+  IsOf w number pairs d = (list_of (value_at w) d ≡ pairs) × (d.number ≡ number)
+
   -- the version is placed beside the older one in a slot, and its one owner is in hand
   pub record Places (cmp : K → K → Ordering) (older : Option ℕ) (plan : Plan K V s) (slot : ℕ) (w w' : State (Item K V s)) : Type 0 where
     pub adds : AddsItems (slots_for plan) w w'
@@ -151,3 +168,7 @@ owner_given_back p (Some i) w = released p i w
 -- cell c names the item in slot i, without a tag, and p gives back what the cell kept
 abbrev pub root_set : {T : Type 0} → ℕ → ℕ → ℕ → Option ℕ → State T → State T
 root_set p c i kept w = owner_given_back p kept (with_cell c (cell.OfShared (Some i) tag.None) w)
+
+-- that is all that has become of the place, whatever the cell kept
+abbrev pub Publishes : {T : Type 0} → ℕ → ℕ → ℕ → State T → State T → Type 0
+Publishes p c i w w' = (kept : Option ℕ) (tag : Tag) → cell_at w c ≡ cell.OfShared kept tag → w' ≡ root_set p c i kept w

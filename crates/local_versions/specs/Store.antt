@@ -1,18 +1,21 @@
 -- the versions that a store keeps in a place: the present one, which a root names, and those that readers have open
-use Rattle.std.specs.Prelude.{◌≡◌, ◌≢◌, ℕ, ◌+◌, ◌≤◌, ◌^◌, List, [], ◌∷◌, Option, None, Some, get_or, length, map, slice_get, ◌⊎◌}
+use Rattle.std.specs.Prelude.{◌≡◌, ◌≢◌, ℕ, ◌+◌, ◌<◌, ◌≤◌, ◌^◌, List, [], ◌∷◌, Option, None, Some, get_or, length, map, replicate, slice_get, ◌⊎◌}
 use Rattle.std.specs.Option.{option_map}
 use Rattle.std.specs.declared.cmp.Ordering.{Ordering}
 use Rattle.sdd_world.specs.Counting.{Counted}
 use Rattle.sdd_world.specs.Holding.{SharedIn}
 use Rattle.sdd_world.specs.Passing.{IsPlain, IsQuiet, slot_kept}
+use Rattle.sdd_world.specs.Frame.{IsLive}
 use Rattle.sdd_world.specs.Place.{IsPlace}
 use Rattle.sdd_world.specs.State.{State, cell_at, in_use, local_at, value_at}
 use Rattle.sdd_world.specs.Tokens.{loaded_slot, guard_participant}
 use Rattle.sdd_world.specs.declared.status.Cell.TheVariants as cell
+use Rattle.sdd_world.specs.declared.tag.Tag.{Tag}
 use Rattle.sdd_world.specs.declared.tag.Tag.TheVariants as tag
 use Rattle.version_views.specs.Items.{held_by}
 use Rattle.local_versions.specs.Placing.{HasVersion, IsLevelled}
 use Rattle.local_versions.specs.Staying.{IsSeen}
+use Rattle.version_views.specs.Sizes.{room_for}
 use Rattle.version_views.specs.Versions.{list_of}
 use Rattle.sdd_world.specs.declared.owner.Kept.{Kept}
 use Rattle.version_views.specs.Writes.{after_writes}
@@ -40,9 +43,17 @@ pub record Store (K V : Type 0) : Type 0 where
   pub used : ℕ
   pub raises : ℕ
 
+-- a store of this version, with no reader at any place
+abbrev pub fresh_store : {K V : Type 0} → Version K V → (readers slots used : ℕ) → Store K V
+fresh_store version readers slots used = record { present = version; readers = replicate readers None; slots = slots; used = used; raises = 0 }
+
 -- the version is the present one, or a reader's
 abbrev pub IsKeptHere : {K V : Type 0} → Version K V → Store K V → Type 0
 IsKeptHere v s = (v ≡ s.present) ⊎ (place : ℕ) × (slice_get s.readers place ≡ Some (Some v))
+
+-- fewer slots are free than segments of up to s pairs and a directory take at most, where they hold these pairs
+abbrev pub LacksRoom : {K V : Type 0} → (s : ℕ) → List (K × V) → Store K V → Type 0
+LacksRoom s pairs store = store.slots < store.used + room_for s (length pairs)
 
 -- 1 for a place without a reader
 abbrev pub gap : {X : Type 0} → Option X → ℕ
@@ -69,6 +80,14 @@ module _ {K V : Type 0} {s : ℕ} where
 
   abbrev pub read_by : State (Item K V s) → Opened K V s → Version K V
   read_by w o = version_in w (loaded_slot o.root)
+
+  -- the reader of a place has this version open
+  abbrev pub HasOpen : State (Item K V s) → List (Option (Opened K V s)) → ℕ → Version K V → Type 0
+  HasOpen w readers place version = slice_get (map (option_map (read_by w)) readers) place ≡ Some (Some version)
+
+  -- the version that a cell names is this directory, and has an owner
+  abbrev pub IsNamedBy : State (Item K V s) → ℕ → Directory K Kept → Type 0
+  IsNamedBy w c d = (i : ℕ) (tag : Tag) → cell_at w c ≡ cell.OfShared (Some i) tag → IsLive w i × (value_at w i ≡ Some (items.Directory d))
 
   -- what a place, the cell of its root, and the guards of readers are
   abbrev pub store_of : State (Item K V s) → ℕ → List (Option (Opened K V s)) → Store K V

@@ -8,7 +8,7 @@ ghost use Rattle.sdd_world.specs.State.{value_at};
 ghost use Rattle.std.specs.List.{All};
 ghost use Rattle.version_views.specs.Items.{slots_of};
 ghost use Rattle.version_views.specs.Sizes.{room_for};
-ghost use Rattle.local_versions.specs.Placing.{CanBeShared, IsPlaceable, StandsAlone, list_alone, list_planned, slots_for};
+ghost use Rattle.local_versions.specs.Placing.{CanBeShared, IsPlaceableBeside, StandsAlone, list_alone, list_beside, list_planned, slots_for};
 ghost use Rattle.version_views.specs.Versions.{IsVersion, blocks_of, list_of};
 ghost use Rattle.version_views.specs.Writes.{after_writes, replies_to};
 
@@ -38,9 +38,9 @@ pub fn build<K: Clone + Ord + Drop, V: Clone + Drop, const S: usize>(
     requires keys { ClonesAreSame K.is_clone }
     requires values { ClonesAreSame V.is_clone }
     ensures number { IfOk result (λ made. made.0.number ≡ dir.now.number + 1) }
-    ensures list { IfOk result (λ made. list_planned (blocks_of (value_at w.now) dir.now) made.0 ≡ after_writes K.cmp writes.now (list_of (value_at w.now) dir.now)) }
+    ensures list { IfOk result (λ made. list_beside w.now dir.now made.0 ≡ after_writes K.cmp writes.now (list_of (value_at w.now) dir.now)) }
     ensures few { IfOk result (λ made. slots_for made.0 ≤ 2 * length writes.now + 1) }
-    ensures placeable { IfOk result (λ made. All (CanBeShared w.now) (slots_of dir.now) → (i : ℕ) → IsLive w.now i → value_at w.now i ≡ Some (Item.Directory dir.now) → IsPlaceable K.cmp w.now (Some i) made.0) }
+    ensures placeable { IfOk result (λ made. All (CanBeShared w.now) (slots_of dir.now) → IsPlaceableBeside K.cmp w.now dir.now made.0) }
     ensures replies { IfOk result (λ made. made.1.items ≡ replies_to K.cmp writes.now (list_of (value_at w.now) dir.now)) }
 {
     let old = view_of(w, dir);

@@ -7,7 +7,7 @@ ghost use Rattle.sdd_world.specs.State.{IsFree, cell_at, placed, vacancy};
 ghost use Rattle.sdd_world.specs.Tokens.{kept_slot, shared_cell, shared_slot};
 ghost use Rattle.sdd_world.specs.Steps.{times};
 ghost use Rattle.version_drafts.specs.Parts.{blocks_of_parts, made_in, makes, segments_in, segments_of};
-ghost use Rattle.local_versions.specs.Placing.{CanTakeOver, HasPlaced, IsPlaceable, Places, StandsIn, blocks_at, older_slot, part_slots, root_set, slots_at, slots_for, taken_slots};
+ghost use Rattle.local_versions.specs.Placing.{CanTakeOver, IsPlaceable, KeepsPlaced, Places, Publishes, StandsIn, blocks_at, older_slot, part_slots, slots_at, slots_for, taken_slots};
 
 use crate::built::Built;
 use sdd_world::cell::AtomicShared;
@@ -84,7 +84,7 @@ fn place_part<K: Ord + Drop, V: Drop, const S: usize>(
     requires free { makes part ≤ sum_by vacancy w.old.states }
     requires once { (i : ℕ) → times i (part_slots (slots_at w.old (older_slot older)) part) ≤ 1 }
     requires there { CanTakeOver w.old (older_slot older) (part ∷ []) }
-    ensures placed { (xs : List ℕ) × (map kept_slot owners.new.items ≡ map kept_slot owners.old.items ++ xs) × HasPlaced (slots_at w.old (older_slot older)) part xs w.old w.new }
+    ensures placed { KeepsPlaced (slots_at w.old (older_slot older)) part (map kept_slot owners.old.items) (map kept_slot owners.new.items) w.old w.new }
     ensures long { length owners.new.items ≡ length owners.old.items + segments_of part }
     ensures room { vec_capacity owners.old ≤ vec_capacity owners.new }
 {
@@ -127,7 +127,7 @@ pub fn publish<K: Ord, V, const S: usize>(
     requires participant { p < length w.old.participants }
     requires root { IsSharedCell w.old (shared_cell root.now) }
     requires owned { (i : ℕ) (tag : Tag) → cell_at w.old (shared_cell root.now) ≡ Cell.OfShared (Some i) tag → IsShared w.old i }
-    ensures published { (o : Option ℕ) (tag : Tag) → cell_at w.old (shared_cell root.now) ≡ Cell.OfShared o tag → w.new ≡ root_set p (shared_cell root.now) (shared_slot new) o w.old }
+    ensures published { Publishes p (shared_cell root.now) (shared_slot new) w.old w.new }
     ensures used { IsSharedCell w.new (shared_cell root.now) }
     ensures keeps { Frame w.old w.new }
     ensures only { OnlyParticipant p w.old w.new }

@@ -1,10 +1,10 @@
 -- What is seen of a history, and how commits and audits on it may be answered.
-use Rattle.std.specs.Prelude.{◌≡◌, ◌≢◌, ℕ, ◌<◌, ◌≤◌, List}
+use Rattle.std.specs.Prelude.{◌≡◌, ◌≢◌, ℕ, ◌<◌, ◌≤◌, List, [], ◌∷◌, ◌++◌}
 use Rattle.std.specs.declared.cmp.Ordering.{Ordering}
 use Rattle.std.specs.List.{All}
 use Rattle.version_views.specs.Writes.{replies_to}
 use Rattle.version_views.specs.declared.write.Write.{Write}
-use Rattle.serial_history.specs.Serial.{Base, HasNumber, Holds, IsFirstConflict, IsSerial, Read, latest, list_numbered}
+use Rattle.serial_history.specs.Serial.{Base, HasNumber, Holds, IsFirstConflict, IsSerial, Read, after_all, base_at, history_behind, latest, list_numbered}
 use Rattle.serial_history.specs.declared.commit.Cause.{Cause}
 use Rattle.serial_history.specs.declared.commit.Cause.TheVariants as causes
 use Rattle.serial_history.specs.declared.transaction.Audit.{Audit}
@@ -47,6 +47,14 @@ module _ {K V : Type 0} (cmp : K → K → Ordering) where
   -- the transaction of these reads and writes, with the replies that the writes get on the present list
   abbrev pub transaction_on : List (K × V) → List (Read K V) → List (Write K V) → Transaction K V
   transaction_on present reads writes = record { reads = reads; writes = writes; replies = replies_to cmp writes present }
+
+  -- the transaction of these reads and writes comes behind the others
+  abbrev pub with_transaction : List (Read K V) → List (Write K V) → HistoryState K V → HistoryState K V
+  with_transaction reads writes h = record h { transactions = h.transactions ++ transaction_on (after_all cmp h.transactions h.base.pairs) reads writes ∷ [] }
+
+  -- the list of this number becomes the base, and the transactions up to it are dropped
+  abbrev pub begun_at : ℕ → HistoryState K V → HistoryState K V
+  begun_at upto h = record h { base = base_at cmp h.base h.transactions upto; transactions = history_behind h.base h.transactions upto }
 
   -- whether the reads of a receipt hold of the list of its number, if the history has that: a number below the base's is too
   -- old, and no list has a number above the present one yet

@@ -1,6 +1,6 @@
 -- The pairs that a cursor is yet to give, where it moves in one direction only.
 use Rattle.std.specs.Prelude.{◌≡◌, ℕ, zero, suc, ◌+◌, cond, List, [], ◌∷◌, Option, Some, None, drop, slice_get}
-use Rattle.std.specs.BTreeMap.Range.{is_from_start, is_past_end}
+use Rattle.std.specs.BTreeMap.Range.{entries_between, is_from_start, is_past_end}
 use Rattle.std.specs.declared.cmp.Ordering.{Ordering}
 use Rattle.std.specs.declared.ops.Bound.{Bound}
 use Rattle.leaf_array.specs.Pairs.{IsAscending}
@@ -26,6 +26,10 @@ IsAlone (parts.Last most) c = c.forward ≡ Unopened
 IsAlone part c = c.backward ≡ Unopened
 
 module _ {K V : Type 0} (cmp : K → K → Ordering) where
+  -- the pairs within the bounds of a cursor
+  abbrev pub pairs_within : Cursor K V → List (K × V)
+  pairs_within c = entries_between cmp c.lower c.upper c.pairs
+
   -- the pairs at the front that lie within an upper bound
   abbrev pub run_within : Bound K → List (K × V) → List (K × V)
   run_within upper [] = []

@@ -1,11 +1,12 @@
 -- Recorded reads, transactions and serial runs, on lists of pairs.
-use Rattle.std.specs.Prelude.{◌≡◌, ℕ, ◌+◌, ◌-◌, ◌<◌, ◌≤◌, List, [], ◌∷◌, length, take, drop}
+use Rattle.std.specs.Prelude.{◌≡◌, ℕ, ◌+◌, ◌-◌, ◌<◌, ◌≤◌, List, [], ◌∷◌, ◌++◌, length, take, drop}
 use Rattle.std.specs.declared.cmp.Ordering.{Ordering}
 use Rattle.std.specs.List.{All, AllWithin, HoldsAt}
 use Rattle.version_views.specs.Writes.{after_writes, replies_to}
 use Rattle.serial_history.specs.Answers.{answer_to}
 use Rattle.serial_history.specs.declared.query.Query.{Query}
 use Rattle.serial_history.specs.declared.query.Answer.{Answer}
+use Rattle.serial_history.specs.declared.transaction.Receipt.{Receipt}
 use Rattle.serial_history.specs.declared.transaction.Transaction.{Transaction}
 use Rattle.serial_history.specs.declared.commit.CheckpointRefused.{CheckpointRefused}
 use Rattle.serial_history.specs.declared.commit.CheckpointRefused.TheVariants as checkpoints
@@ -20,6 +21,14 @@ Read K V = Query K × Answer K V
 pub record Base (K V : Type 0) : Type 0 where
   pub number : ℕ
   pub pairs : List (K × V)
+
+-- a receipt with one more read
+abbrev pub with_read : {K V : Type 0} → Query K → Answer K V → Receipt K V → Receipt K V
+with_read query answer receipt = record receipt { reads = receipt.reads ++ (query, answer) ∷ [] }
+
+-- the empty list, with the number 0
+abbrev pub empty_base : {K V : Type 0} → Base K V
+empty_base = record { number = 0; pairs = [] }
 
 -- the number of the list that a history leaves: the base's, and one more for each transaction
 abbrev pub latest : {K V : Type 0} → Base K V → List (Transaction K V) → ℕ

@@ -8,8 +8,8 @@ ghost use Rattle.std.specs.List.{All};
 ghost use Rattle.leaf_array.specs.Pairs.{IsAscending};
 ghost use Rattle.leaf_array.specs.Values.{ClonesAreSame, EqualsAreSame};
 ghost use Rattle.version_views.specs.Writes.{replies_to};
-ghost use Rattle.serial_history.specs.Serial.{HasNumber, Holds, IsSerial, RefusesCheckpoint, RefusesSince, after_all, base_at, history_behind, latest, list_numbered};
-ghost use Rattle.serial_history.specs.Histories.{Audits, IsDecidedFirst, MayAccept, MayRefuse, transaction_on};
+ghost use Rattle.serial_history.specs.Serial.{HasNumber, Holds, IsSerial, RefusesCheckpoint, RefusesSince, after_all, base_at, empty_base, history_behind, latest, list_numbered};
+ghost use Rattle.serial_history.specs.Histories.{Audits, IsDecidedFirst, MayAccept, MayRefuse, begun_at, with_transaction};
 
 use crate::base::{Base, drop_first, pairs_of};
 use crate::commit::{Cause, CheckpointRefused, SinceRefused};
@@ -45,7 +45,7 @@ impl<K: Ord, V> Model for History<K, V> {
 impl<K: Ord, V> History<K, V> {
     /// The history of the empty list, which has number 0. It takes no memory.
     pub fn empty(alloc: Global, last: u64) -> Self
-        ensures { result ≡ record { base = record { number = 0; pairs = [] }; transactions = []; last = last; room = result.room } }
+        ensures { result ≡ record { base = empty_base; transactions = []; last = last; room = result.room } }
     {
         History {
             base: Base::empty(alloc),
@@ -256,7 +256,7 @@ impl<K: Ord, V> History<K, V> {
         requires list { list.now.pairs ≡ list_numbered K.cmp self.old.base self.old.transactions upto }
         requires keys { ClonesAreSame K.is_clone }
         requires values { ClonesAreSame V.is_clone }
-        ensures begins { OnOk result (self.new ≡ record self.old { base = base_at K.cmp self.old.base self.old.transactions upto; transactions = history_behind self.old.base self.old.transactions upto; room = self.new.room }) }
+        ensures begins { OnOk result (self.new ≡ record (begun_at K.cmp upto self.old) { room = self.new.room }) }
         ensures err { OnErr result (self.new ≡ self.old) }
     {
         // what is asked here shows the proof that the keys rise
@@ -274,7 +274,7 @@ impl<K: Ord, V> History<K, V> {
         requires has { HasNumber self.old.base self.old.transactions upto }
         requires pairs { pairs.items ≡ list_numbered K.cmp self.old.base self.old.transactions upto }
         requires rising { IsAscending K.cmp pairs.items }
-        ensures { self.new ≡ record self.old { base = base_at K.cmp self.old.base self.old.transactions upto; transactions = history_behind self.old.base self.old.transactions upto; room = self.new.room } }
+        ensures { self.new ≡ record (begun_at K.cmp upto self.old) { room = self.new.room } }
     {
         let count = (upto - self.base.number()) as usize;
         drop_first(&mut self.transactions, count);
@@ -298,7 +298,7 @@ impl<K: Ord, V> History<K, V> {
         requires not_last { latest self.old.base self.old.transactions ≢ self.old.last }
         requires reads { All (Holds K.cmp (after_all K.cmp self.old.transactions self.old.base.pairs)) prepared.reads }
         requires told { told.now ≡ replies_to K.cmp writes.items (after_all K.cmp self.old.transactions self.old.base.pairs) }
-        ensures { self.new ≡ record self.old { transactions = self.old.transactions ++ transaction_on K.cmp (after_all K.cmp self.old.transactions self.old.base.pairs) prepared.reads writes.items ∷ []; room = self.new.room } }
+        ensures { self.new ≡ record (with_transaction K.cmp prepared.reads writes.items self.old) { room = self.new.room } }
     {
         let replies = copied_replies(prepared.replies, told);
         self.transactions.push_reserved(Transaction {

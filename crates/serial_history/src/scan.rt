@@ -2,12 +2,11 @@
 
 ghost use Rattle.std.specs.Prelude.{◌≡◌, ◌↔◌, ◌++◌, List, IsTrue, IfOk, IsSome, Some, drop, slice_get};
 ghost use Rattle.std.specs.Bool.{OnFalse};
-ghost use Rattle.std.specs.BTreeMap.Range.{entries_between};
 ghost use Rattle.leaf_array.specs.Values.{ClonesAreSame, EqualsAreSame};
 ghost use Rattle.tree_index.specs.Cursor.{Cursor, GoesBack, GoesForth, deref_pair};
 ghost use Rattle.tree_index.specs.declared.cursor.End.TheVariants.{Unopened};
 ghost use Rattle.serial_history.specs.Parts.{part_of, turned};
-ghost use Rattle.serial_history.specs.RemainingPairs.{IsAlone, IsStart, remaining_back, remaining_of, remaining_pairs};
+ghost use Rattle.serial_history.specs.RemainingPairs.{IsAlone, IsStart, pairs_within, remaining_back, remaining_of, remaining_pairs};
 
 use crate::query::Part;
 use std::alloc::{AllocError, Global};
@@ -47,7 +46,7 @@ pub(crate) fn matches<'t, K: Ord + 't, V: Eq + 't, C: PairCursor<'t, K, V>>(
     requires start { IsStart K.cmp (C.cursor cursor) }
     requires keys { EqualsAreSame K.eq }
     requires values { EqualsAreSame V.eq }
-    ensures { IsTrue result ↔ (told.now ≡ part_of part (entries_between K.cmp (C.cursor cursor).lower (C.cursor cursor).upper (C.cursor cursor).pairs)) }
+    ensures { IsTrue result ↔ (told.now ≡ part_of part (pairs_within K.cmp (C.cursor cursor))) }
 {
     let mut cursor = cursor;
     if part.is_over(told.len()) {
@@ -93,7 +92,7 @@ pub(crate) fn collect<'t, K: Clone + Ord + 't, V: Clone + 't, C: PairCursor<'t, 
     requires start { IsStart K.cmp (C.cursor cursor) }
     requires keys { ClonesAreSame K.is_clone }
     requires values { ClonesAreSame V.is_clone }
-    ensures { IfOk result (λ copy. copy.items ≡ part_of part (entries_between K.cmp (C.cursor cursor).lower (C.cursor cursor).upper (C.cursor cursor).pairs)) }
+    ensures { IfOk result (λ copy. copy.items ≡ part_of part (pairs_within K.cmp (C.cursor cursor))) }
 {
     let mut copy = given(alloc, cursor, part)?;
     if let Part::Last(_) = part {
@@ -111,7 +110,7 @@ fn given<'t, K: Clone + Ord + 't, V: Clone + 't, C: PairCursor<'t, K, V>>(
     requires start { IsStart K.cmp (C.cursor cursor) }
     requires keys { ClonesAreSame K.is_clone }
     requires values { ClonesAreSame V.is_clone }
-    ensures { IfOk result (λ copy. turned part copy.items ≡ part_of part (entries_between K.cmp (C.cursor cursor).lower (C.cursor cursor).upper (C.cursor cursor).pairs)) }
+    ensures { IfOk result (λ copy. turned part copy.items ≡ part_of part (pairs_within K.cmp (C.cursor cursor))) }
 {
     let mut cursor = cursor;
     let mut copy = Vec::new(alloc);

@@ -2,6 +2,7 @@
 
 ghost use Rattle.std.specs.Prelude.{◌≡◌, ◌≤◌, ◌∷◌, ◌++◌, [], IfOk, OnOk, OnErr, length, vec_capacity};
 ghost use Rattle.leaf_array.specs.Values.{ClonesAreSame};
+ghost use Rattle.serial_history.specs.Serial.{with_read};
 
 use crate::query::{Answer, Query};
 use crate::reads::Reads;
@@ -42,7 +43,7 @@ impl<K: Clone + Drop, V: Clone + Drop> Receipt<K, V> {
     pub fn note(&mut self, query: Query<K>, told: &Answer<K, V>) -> Result<(), AllocError>
         requires keys { ClonesAreSame K.is_clone }
         requires values { ClonesAreSame V.is_clone }
-        ensures ok { OnOk result (self.new ≡ record self.old { reads = self.old.reads ++ (query, told.now) ∷ [] }) }
+        ensures ok { OnOk result (self.new ≡ with_read query told.now self.old) }
         ensures err { OnErr result (self.new ≡ self.old) }
     {
         note(&mut self.reads, query, told)

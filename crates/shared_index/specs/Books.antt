@@ -12,7 +12,7 @@ use Rattle.serial_history.specs.Histories as histories
 use Rattle.version_views.specs.declared.write.Write.{Write}
 use Rattle.version_views.specs.declared.write.WriteRefused.{WriteRefused}
 use Rattle.version_views.specs.declared.write.WriteRefused.TheVariants as writes
-use Rattle.serial_history.specs.Serial.{Base, Read, after_all, latest, list_numbered}
+use Rattle.serial_history.specs.Serial.{Base, Read, after_all, base_at, history_behind, latest, list_numbered}
 use Rattle.serial_history.specs.declared.transaction.Audit.{Audit}
 use Rattle.serial_history.specs.declared.transaction.Receipt.{Receipt}
 use Rattle.serial_history.specs.declared.transaction.Transaction.{Transaction}
@@ -31,6 +31,10 @@ pub record BookState (K V : Type 0) : Type 0 where
   pub last : ℕ
   pub misses : ℕ
   pub cell_steps : List CellStep
+
+-- a book of this base, without history
+abbrev pub fresh_book : {K V : Type 0} → Base K V → (last misses : ℕ) → List CellStep → BookState K V
+fresh_book base last misses steps = record { base = base; history = []; last = last; misses = misses; cell_steps = steps }
 
 -- what the misses are after a commit that was refused for this cause: one more for want of a slot, else as many
 abbrev pub misses_after : Cause → ℕ → ℕ
@@ -74,6 +78,14 @@ module _ {K V : Type 0} (cmp : K → K → Ordering) where
   -- the transaction of these reads and writes, with the replies that the writes get on the present list
   abbrev pub transaction_of : BookState K V → List (Read K V) → List (Write K V) → Transaction K V
   transaction_of b reads writes = transaction_on cmp (present_list b) reads writes
+
+  -- that transaction comes behind the others
+  abbrev pub with_commit : List (Read K V) → List (Write K V) → BookState K V → BookState K V
+  with_commit reads writes b = record b { history = b.history ++ transaction_of b reads writes ∷ [] }
+
+  -- the list of this number becomes the base, and the transactions up to it are dropped
+  abbrev pub begun_at : ℕ → BookState K V → BookState K V
+  begun_at upto b = record b { base = base_at cmp b.base b.history upto; history = history_behind b.base b.history upto }
 
   -- each read holds of the present list, and the last number isn't reached
   abbrev pub MayAccept : BookState K V → List (Read K V) → Type 0

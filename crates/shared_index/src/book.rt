@@ -4,10 +4,10 @@ ghost use Rattle.std.specs.Prelude.{◌≡◌, ℕ, ◌≤◌, ◌<◌, ◌+◌,
 ghost use Rattle.std.specs.List.{All};
 ghost use Rattle.leaf_array.specs.Values.{ClonesAreSame, EqualsAreSame};
 ghost use Rattle.leaf_array.specs.Pairs.{IsAscending};
-ghost use Rattle.serial_history.specs.Serial.{HasNumber, Holds, IsFirstConflict, IsSerial, RefusesCheckpoint, base_at, history_behind};
+ghost use Rattle.serial_history.specs.Serial.{HasNumber, Holds, IsFirstConflict, IsSerial, RefusesCheckpoint, empty_base};
 ghost use Rattle.sdd_domain.specs.Cells.{cell_number};
 ghost use Rattle.sdd_domain.specs.Tokens.{place_of, misses_of, cell_count};
-ghost use Rattle.shared_index.specs.Books.{MayAccept, MayRefuse, HasPutItem, Audits, list_at, misses_after, misses_without, transaction_of, latest_number, present_list};
+ghost use Rattle.shared_index.specs.Books.{MayAccept, MayRefuse, HasPutItem, Audits, begun_at, fresh_book, list_at, misses_after, misses_without, with_commit, latest_number, present_list};
 ghost use Rattle.shared_index.specs.SharedInvariant.{IsUnengaged};
 ghost use Rattle.version_views.specs.Writes.{replies_to};
 
@@ -94,7 +94,7 @@ impl<L: Naming, K: Clone + Ord, V: Clone + Eq, const S: usize> Book<L, K, V, S> 
         requires name { blank.name ≡ L.name }
         requires parts { (blank.parts ≡ L.parts) × (blank.parts ≡ shares) }
         requires last { last ≡ L.last }
-        ensures book { IfOk result (λ made. made.0 ≡ record { base = record { number = 0; pairs = [] }; history = []; last = last; misses = misses_of local; cell_steps = made.0.cell_steps }) }
+        ensures book { IfOk result (λ made. made.0 ≡ fresh_book empty_base last (misses_of local) made.0.cell_steps) }
         ensures root { IfOk result (λ made. cell_number made.1 < cell_count domain.now) }
         ensures shares { IfOk result (λ made. made.2.items ≡ replicate shares 0) }
         ensures local { IfErr result (λ back. IsUnengaged L.place back.0) }
@@ -179,7 +179,7 @@ impl<L: Naming, K: Clone + Ord, V: Clone + Eq, const S: usize> Book<L, K, V, S> 
         requires equal_keys { EqualsAreSame K.eq }
         requires equal_values { EqualsAreSame V.eq }
         ensures can { OnOk result (MayAccept K.cmp self.old receipt.now.reads) }
-        ensures added { OnOk result (self.new ≡ record self.old { history = self.old.history ++ transaction_of K.cmp self.old receipt.now.reads writes.items ∷ []; cell_steps = self.new.cell_steps }) }
+        ensures added { OnOk result (self.new ≡ record (with_commit K.cmp receipt.now.reads writes.items self.old) { cell_steps = self.new.cell_steps }) }
         ensures published { OnOk result (HasPutItem L.place (cell_number root.now) self.old self.new) }
         ensures number { IfOk result (λ told. told.number ≡ latest_number self.old + 1) }
         ensures last { IfOk result (λ told. told.number ≤ L.last) }
@@ -240,7 +240,7 @@ impl<L: Naming, K: Clone + Ord, V: Clone + Eq, const S: usize> Book<L, K, V, S> 
         requires keys { ClonesAreSame K.is_clone }
         requires values { ClonesAreSame V.is_clone }
         ensures has { OnOk result (HasNumber self.old.base self.old.history upto) }
-        ensures rebased { OnOk result (self.new ≡ record self.old { base = base_at K.cmp self.old.base self.old.history upto; history = history_behind self.old.base self.old.history upto }) }
+        ensures rebased { OnOk result (self.new ≡ begun_at K.cmp upto self.old) }
         ensures refused { IfErr result (RefusesCheckpoint self.old.base self.old.history upto) }
         ensures err { OnErr result (self.new ≡ self.old) }
     {
@@ -339,7 +339,7 @@ impl<L: Naming, K: Clone + Ord, V: Clone + Eq, const S: usize> Book<L, K, V, S> 
         requires fits { length writes.items ≤ vec_capacity prepared.replies }
         requires can { MayAccept K.cmp self.old prepared.reads }
         ensures told { IfOk result (λ told. told.items ≡ replies_to K.cmp writes.items (present_list K.cmp self.old)) }
-        ensures added { OnOk result (self.new ≡ record self.old { history = self.old.history ++ transaction_of K.cmp self.old prepared.reads writes.items ∷ []; cell_steps = self.new.cell_steps }) }
+        ensures added { OnOk result (self.new ≡ record (with_commit K.cmp prepared.reads writes.items self.old) { cell_steps = self.new.cell_steps }) }
         ensures published { OnOk result (HasPutItem L.place (cell_number root.now) self.old self.new) }
         ensures counted { OnOk result (share.new ≡ share.old + 1) }
         ensures cause { IfErr result (λ back. MayRefuse K.cmp self.old prepared.reads back.cause) }
@@ -410,7 +410,7 @@ impl<L: Naming, K: Clone + Ord, V: Clone + Eq, const S: usize> Book<L, K, V, S> 
         requires has { HasNumber self.old.base self.old.history upto }
         requires keys { ClonesAreSame K.is_clone }
         requires values { ClonesAreSame V.is_clone }
-        ensures rebased { OnOk result (self.new ≡ record self.old { base = base_at K.cmp self.old.base self.old.history upto; history = history_behind self.old.base self.old.history upto }) }
+        ensures rebased { OnOk result (self.new ≡ begun_at K.cmp upto self.old) }
         ensures err { OnErr result (self.new ≡ self.old) }
     {
         let list = self.rebuild_at(upto)?;

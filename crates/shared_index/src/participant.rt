@@ -5,6 +5,7 @@ ghost use Rattle.leaf_array.specs.Values.{ClonesAreSame};
 ghost use Rattle.serial_history.specs.Answers.{answer_to};
 ghost use Rattle.shared_sessions.specs.Openings.{IsBelow};
 ghost use Rattle.shared_index.specs.Participants.{list_in, number_in, reads_in};
+ghost use Rattle.serial_history.specs.Serial.{with_read};
 
 use crate::index::SharedIndex;
 use crate::naming::Naming;
@@ -181,7 +182,7 @@ impl<'i, 'd, L: Naming, K: Clone + Ord, V: Clone + Eq, const S: usize> Participa
         requires values { ClonesAreSame V.is_clone }
         ensures open { IsSome self.new }
         ensures told { IfOk result (λ answer. answer ≡ answer_to K.cmp query (list_in self.old)) }
-        ensures recorded { IfOk result (λ answer. reads_in self.new ≡ record (reads_in self.old) { reads = (reads_in self.old).reads ++ (query, answer) ∷ [] }) }
+        ensures recorded { IfOk result (λ answer. reads_in self.new ≡ with_read query answer (reads_in self.old)) }
         ensures refused { OnErr result (self.new ≡ self.old) }
         ensures same_list { list_in self.new ≡ list_in self.old }
     {

@@ -10,6 +10,7 @@ ghost use Rattle.tree_index.specs.declared.cursor.End.TheVariants.{Unopened};
 ghost use Rattle.version_views.specs.Nearby.{as_proximity};
 ghost use Rattle.version_views.specs.Views.{cursor_within};
 ghost use Rattle.serial_history.specs.Answers.{answer_to};
+ghost use Rattle.serial_history.specs.Serial.{with_read};
 
 use crate::naming::Naming;
 use crate::participant::Participant;
@@ -104,7 +105,7 @@ impl<'a, 'i, 'd, L: Naming, K: Clone + Ord, V: Clone + Eq, const S: usize> Share
         requires keys { ClonesAreSame K.is_clone }
         requires values { ClonesAreSame V.is_clone }
         ensures told { IfOk result (λ answer. answer ≡ answer_to K.cmp query (list_read self.old)) }
-        ensures recorded { IfOk result (λ answer. receipt_of self.new ≡ record (receipt_of self.old) { reads = (receipt_of self.old).reads ++ (query, answer) ∷ [] }) }
+        ensures recorded { IfOk result (λ answer. receipt_of self.new ≡ with_read query answer (receipt_of self.old)) }
         ensures refused { OnErr result (receipt_of self.new ≡ receipt_of self.old) }
         ensures same_list { list_read self.new ≡ list_read self.old }
         ensures same_reference { reference_of self.new ≡ reference_of self.old }

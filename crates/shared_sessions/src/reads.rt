@@ -12,6 +12,7 @@ ghost use Rattle.version_views.specs.Nearby.{as_proximity};
 ghost use Rattle.version_views.specs.Sizes.{segments_for};
 ghost use Rattle.version_views.specs.Views.{cursor_within};
 ghost use Rattle.serial_history.specs.Answers.{answer_to};
+ghost use Rattle.serial_history.specs.Serial.{with_read};
 
 use crate::session::SharedSession;
 use serial_history::ordered_view::answer;
@@ -103,7 +104,7 @@ impl<K: Clone + Ord, V: Clone + Eq, const S: usize> SharedSession<K, V, S> {
         requires keys { ClonesAreSame K.is_clone }
         requires values { ClonesAreSame V.is_clone }
         ensures told { IfOk result (λ answer. answer ≡ answer_to K.cmp query self.old.list) }
-        ensures recorded { IfOk result (λ answer. self.new ≡ record self.old { receipt = record self.old.receipt { reads = self.old.receipt.reads ++ (query, answer) ∷ [] } }) }
+        ensures recorded { IfOk result (λ answer. self.new ≡ record self.old { receipt = with_read query answer self.old.receipt }) }
         ensures refused { OnErr result (self.new ≡ self.old) }
     {
         let told = answer(self.alloc, &self.view(), &query)?;

@@ -2,7 +2,7 @@
 use Rattle.std.specs.List.{All}
 use Rattle.std.specs.Mem.{manually_drop_value}
 use Rattle.std.specs.Option.{option_map}
-use Rattle.std.specs.Prelude.{◌≡◌, ◌≢◌, ℕ, ◌<◌, List, [], map, set, get_or, Option, None, Some}
+use Rattle.std.specs.Prelude.{◌≡◌, ◌≢◌, ℕ, ◌<◌, List, [], map, reverse, set, get_or, Option, None, Some}
 use Rattle.atomic_table.specs.Seated.{TableId}
 use Rattle.sdd_domain.specs.CellSteps.{HasStored}
 use Rattle.sdd_domain.specs.Comparing.{owner_code}
@@ -98,6 +98,10 @@ module _ {K V : Type 0} where
   abbrev pub pairs_to_keep : (ℕ → List (K × V)) → ToKeep K V → List (K × V)
   pairs_to_keep named (to_keep.New s) = pairs_owned s
   pairs_to_keep named (to_keep.Old at) = named at
+
+  -- the segments to be kept, which come from the last one on, have these pairs
+  abbrev pub KeepPairs : (ℕ → List (K × V)) → List (ToKeep K V) → List (List (K × V)) → Type 0
+  KeepPairs named all blocks = reverse (map (pairs_to_keep named) all) ≡ blocks
 
   -- the place that it is moved from
   abbrev pub moved_from : ToKeep K V → Option ℕ

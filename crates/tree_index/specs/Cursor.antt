@@ -7,6 +7,7 @@ use Rattle.std.specs.declared.cmp.Ordering.{Ordering}
 use Rattle.std.specs.declared.ops.Bound.{Bound}
 use Rattle.std.specs.declared.ops.Bound.TheVariants.{Included, Excluded, Unbounded}
 pub use Rattle.tree_nodes.specs.Bounds.{before_start, up_to_end}
+use Rattle.leaf_array.specs.Lookups.{deref_bound}
 use Rattle.tree_index.specs.declared.cursor.End.{End}
 use Rattle.tree_index.specs.declared.cursor.End.TheVariants.{Unopened, At, Done}
 use Rattle.std.specs.BTreeMap.Range.{is_from_start, is_past_end}
@@ -21,6 +22,10 @@ pub record Cursor (K V : Type 0) : Type 0 where
 -- a cursor over a whole list
 abbrev pub whole : {K V : Type 0} → List (K × V) → End ℕ → End ℕ → Cursor K V
 whole pairs forward backward = record { pairs = pairs; lower = Unbounded; upper = Unbounded; forward = forward; backward = backward }
+
+-- a cursor over a list that hasn't been asked, within bounds on lent keys
+abbrev pub cursor_within : {K V : Type 0} → List (K × V) → Bound (Bor K) → Bound (Bor K) → Cursor K V
+cursor_within pairs lower upper = record { pairs = pairs; lower = deref_bound lower; upper = deref_bound upper; forward = Unopened; backward = Unopened }
 
 -- a lies before b, provided that both are at places
 abbrev pub lies_before : End ℕ → End ℕ → Bool

@@ -1,7 +1,9 @@
 -- The two ends of a cursor in the leaves of a tree.
-use Rattle.std.specs.Prelude.{ℕ, cond, slice_get, Option, None}
+use Rattle.std.specs.Prelude.{ℕ, List, cond, slice_get, Option, None}
 use Rattle.std.specs.declared.cmp.Ordering.{Ordering}
+use Rattle.std.specs.Borrow.{Bor}
 use Rattle.std.specs.declared.ops.Bound.{Bound}
+use Rattle.leaf_array.specs.Lookups.{deref_bound}
 use Rattle.tree_nodes.specs.declared.arenas.Arenas.{Arenas}
 use Rattle.tree_nodes.specs.declared.walk.Position.{Position}
 use Rattle.tree_index.specs.declared.cursor.End.{End}
@@ -9,7 +11,7 @@ use Rattle.tree_index.specs.declared.cursor.End.TheVariants.{Unopened, At, Done}
 use Rattle.tree_index.specs.declared.cursor.Ends.{Ends}
 use Rattle.tree_nodes.specs.Content.{pairs_of, IsSound}
 use Rattle.tree_nodes.specs.Walk.{position, IsPosition}
-use Rattle.tree_index.specs.Cursor.{Cursor, forth, back, lies_before, kept_below}
+use Rattle.tree_index.specs.Cursor.{Cursor, forth, back, lies_before, kept_below, pair_at, pairs_from}
 
 module _ {K V : Type 0} where
   -- an end that is at a place is at a pair
@@ -42,3 +44,18 @@ module _ {K V : Type 0} where
   -- the cursor that two ends and two bounds make
   abbrev pub cursor_of : Ends K V → Bound K → Bound K → Cursor K V
   cursor_of e lower upper = record { pairs = pairs_of e.arenas.now; lower = lower; upper = upper; forward = end_position e.arenas.now e.forward; backward = end_position e.arenas.now e.backward }
+
+  -- the same, by bounds on lent keys
+  abbrev pub cursor_between : Bound (Bor K) → Bound (Bor K) → Ends K V → Cursor K V
+  cursor_between lower upper e = cursor_of e (deref_bound lower) (deref_bound upper)
+
+  -- the pair at the forward end, and at the backward one
+  abbrev pub front_pair : Ends K V → Option (K × V)
+  front_pair e = pair_at (pairs_of e.arenas.now) (end_position e.arenas.now e.forward)
+
+  abbrev pub back_pair : Ends K V → Option (K × V)
+  back_pair e = pair_at (pairs_of e.arenas.now) (end_position e.arenas.now e.backward)
+
+  -- the pairs from the forward end on
+  abbrev pub ahead : Ends K V → List (K × V)
+  ahead e = pairs_from (pairs_of e.arenas.now) (end_position e.arenas.now e.forward)

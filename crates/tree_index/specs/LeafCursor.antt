@@ -5,7 +5,12 @@ use Rattle.std.specs.Option.{option_or}
 use Rattle.std.specs.Coded.{Coded, code_by, coded×, coded_ℕ, coded_list, coded_option}
 use Rattle.leaf_array.specs.Cells.{Cells, newest}
 use Rattle.std.specs.declared.cmp.Ordering.{Ordering}
+use Rattle.std.specs.declared.ops.Bound.{Bound}
 use Rattle.std.specs.declared.ops.Bound.TheVariants.{Excluded}
+use Rattle.tree_nodes.specs.declared.arenas.Arenas.{Arenas}
+use Rattle.tree_nodes.specs.declared.walk.Position.{Position}
+use Rattle.tree_nodes.specs.Content.{pairs_of}
+use Rattle.tree_nodes.specs.Walk.{IsFirstPosition, IsLastPosition}
 use Rattle.tree_index.specs.Cursor.{deref_pair, before_start, up_to_end}
 use Rattle.tree_nodes.specs.SplitPoints.{key_at}
 use Rattle.tree_index.specs.declared.leaf.leaf_position.LeafPosition.{LeafPosition}
@@ -82,3 +87,20 @@ module _ {K V : Type 0} where
 
   abbrev pub IsLastBelow : (K → K → Ordering) → K → LeafCursor K V → Type 0
   IsLastBelow cmp key c = c.rank ≡ up_to_end cmp (Excluded key) c.pairs
+
+-- how a place in a tree and a rank in its leaf tell of each other
+module _ {K V : Type 0} (cmp : K → K → Ordering) (a : Arenas K V) where
+  -- where the place is the first within a lower bound, the rank is that of the leaf's first pair within it
+  abbrev pub IsRankOfFirst : ℕ → LeafPosition K V → Type 0
+  IsRankOfFirst at s = (b : Bound K) → at ≡ before_start cmp b (pairs_of a) → s.rank ≡ before_start cmp b s.leaf.now.array.pairs + 1
+
+  -- where it is the last within an upper bound, the rank is that of the leaf's last pair within it
+  abbrev pub IsRankOfLast : ℕ → LeafPosition K V → Type 0
+  IsRankOfLast at s = (b : Bound K) → at + 1 ≡ up_to_end cmp b (pairs_of a) → s.rank ≡ up_to_end cmp b s.leaf.now.array.pairs
+
+  -- the first place behind the pairs of a leaf, and the last one before them
+  abbrev pub IsFirstBehind : Cells K V → Option (Position K V) → Type 0
+  IsFirstBehind leaf spot = MatchOption (key_behind (at_start leaf)) (spot ≡ None) (λ k. IsFirstPosition a (before_start cmp (Excluded k) (pairs_of a)) spot)
+
+  abbrev pub IsLastBefore : Cells K V → Option (Position K V) → Type 0
+  IsLastBefore leaf spot = MatchOption (key_before (at_start leaf)) (spot ≡ None) (λ k. IsLastPosition a (up_to_end cmp (Excluded k) (pairs_of a)) spot)

@@ -11,7 +11,7 @@ ghost use Rattle.tree_nodes.specs.Shape.{AllKeys};
 ghost use Rattle.tree_nodes.specs.Content.{pairs_of, IsSound};
 ghost use Rattle.tree_index.specs.Cursor.{lies_before, pair_at, kept_below, kept_above, moved_forth, moved_back, pairs_from, passed, next_of, next_back_of, shown_back, can_turn, turned, deref_pair};
 ghost use Rattle.tree_index.specs.declared.cursor.End.TheVariants.{Unopened, At};
-ghost use Rattle.tree_index.specs.Ends.{IsEnd, IsReady, end_position, cursor_of, forth_of, back_of, given_pair};
+ghost use Rattle.tree_index.specs.Ends.{IsEnd, IsReady, ahead, back_pair, cursor_between, cursor_of, end_position, front_pair, forth_of, back_of, given_pair};
 ghost use Rattle.tree_nodes.specs.Walk.{position, IsPosition};
 
 use std::alloc::AllocError;
@@ -60,8 +60,8 @@ impl<'t, K: Ord, V> Ends<'t, K, V> {
     ) -> Option<(&'t K, &'t V)>
         requires { IsReady K.cmp self.old }
         ensures ready { IsReady K.cmp self.new }
-        ensures moved { cursor_of self.new (deref_bound lower.entry) (deref_bound upper.entry) ≡ moved_forth K.cmp (cursor_of self.old (deref_bound lower.entry) (deref_bound upper.entry)) }
-        ensures answer { deref_pair result ≡ next_of K.cmp (cursor_of self.old (deref_bound lower.entry) (deref_bound upper.entry)) }
+        ensures moved { cursor_between lower.entry upper.entry self.new ≡ moved_forth K.cmp (cursor_between lower.entry upper.entry self.old) }
+        ensures answer { deref_pair result ≡ next_of K.cmp (cursor_between lower.entry upper.entry self.old) }
     {
         // Most steps stay in their leaf: there one look at the place says whether a pair is there and finds it.
         if let Some((spot, pair)) = self.beside() {
@@ -85,8 +85,8 @@ impl<'t, K: Ord, V> Ends<'t, K, V> {
     ) -> Option<(&'t K, &'t V)>
         requires { IsReady K.cmp self.old }
         ensures ready { IsReady K.cmp self.new }
-        ensures moved { cursor_of self.new (deref_bound lower.entry) (deref_bound upper.entry) ≡ moved_back K.cmp (cursor_of self.old (deref_bound lower.entry) (deref_bound upper.entry)) }
-        ensures answer { deref_pair result ≡ next_back_of K.cmp (cursor_of self.old (deref_bound lower.entry) (deref_bound upper.entry)) }
+        ensures moved { cursor_between lower.entry upper.entry self.new ≡ moved_back K.cmp (cursor_between lower.entry upper.entry self.old) }
+        ensures answer { deref_pair result ≡ next_back_of K.cmp (cursor_between lower.entry upper.entry self.old) }
     {
         self.backward = self.back(upper);
         if lies_before(self.arenas, self.forward, self.backward) {
@@ -100,8 +100,8 @@ impl<'t, K: Ord, V> Ends<'t, K, V> {
     #[inline(always)]
     pub(crate) fn run(&self, upto: Option<&K>) -> usize
         requires { IsReady K.cmp self.now }
-        ensures within { result ≤ length (pairs_from (pairs_of self.now.arenas.now) (end_position self.now.arenas.now self.now.forward)) }
-        ensures below { IfSome upto.entry (λ key. AllKeys (λ k. K.cmp k key.now ≡ Less) (take result (pairs_from (pairs_of self.now.arenas.now) (end_position self.now.arenas.now self.now.forward)))) }
+        ensures within { result ≤ length (ahead self.now) }
+        ensures below { IfSome upto.entry (λ key. AllKeys (λ k. K.cmp k key.now ≡ Less) (take result (ahead self.now))) }
     {
         match self.forward {
             End::At(spot) => self.arenas.run_at(spot, upto),
@@ -123,11 +123,11 @@ impl<'t, K: Ord, V> Ends<'t, K, V> {
         requires values { ClonesAreSame V.is_clone }
         requires ready { IsReady K.cmp self.old }
         requires sound { IsSound K.cmp into.old }
-        requires within { count ≤ length (pairs_from (pairs_of self.old.arenas.now) (end_position self.old.arenas.now self.old.forward)) }
-        requires rising { IsAscending K.cmp (pairs_of into.old ++ take count (pairs_from (pairs_of self.old.arenas.now) (end_position self.old.arenas.now self.old.forward))) }
+        requires within { count ≤ length (ahead self.old) }
+        requires rising { IsAscending K.cmp (pairs_of into.old ++ take count (ahead self.old)) }
         ensures ready { IsReady K.cmp self.new }
         ensures sound { IsSound K.cmp into.new }
-        ensures pushed { OnOk result (pairs_of into.new ≡ pairs_of into.old ++ take count (pairs_from (pairs_of self.old.arenas.now) (end_position self.old.arenas.now self.old.forward))) }
+        ensures pushed { OnOk result (pairs_of into.new ≡ pairs_of into.old ++ take count (ahead self.old)) }
         ensures passed { OnOk result ((lower upper : Bound K) → cursor_of self.new lower upper ≡ passed count (cursor_of self.old lower upper)) }
         ensures ascending { OnOk result (ascending_headroom K.cmp into.old ≤ ascending_headroom K.cmp into.new + count) }
         ensures refused { OnErr result (pairs_of into.new ≡ []) }
@@ -149,7 +149,7 @@ impl<'t, K: Ord, V> Ends<'t, K, V> {
     #[inline(always)]
     pub(crate) fn get(&self, upper: Bound<&'t K>) -> Option<(&'t K, &'t V)>
         requires { IsReady K.cmp self.now }
-        ensures { deref_pair result ≡ kept_below K.cmp (deref_bound upper.entry) (pair_at (pairs_of self.now.arenas.now) (end_position self.now.arenas.now self.now.forward)) }
+        ensures { deref_pair result ≡ kept_below K.cmp (deref_bound upper.entry) (front_pair self.now) }
     {
         shown(self.arenas, self.forward, upper)
     }
@@ -157,7 +157,7 @@ impl<'t, K: Ord, V> Ends<'t, K, V> {
     /// The pair of the backward end, if it lies within the lower bound.
     pub(crate) fn get_back(&self, lower: Bound<&'t K>) -> Option<(&'t K, &'t V)>
         requires { IsReady K.cmp self.now }
-        ensures { deref_pair result ≡ kept_above K.cmp (deref_bound lower.entry) (pair_at (pairs_of self.now.arenas.now) (end_position self.now.arenas.now self.now.backward)) }
+        ensures { deref_pair result ≡ kept_above K.cmp (deref_bound lower.entry) (back_pair self.now) }
     {
         shown_back(self.arenas, self.backward, lower)
     }
@@ -166,8 +166,8 @@ impl<'t, K: Ord, V> Ends<'t, K, V> {
     pub(crate) fn flip(&mut self, lower: Bound<&'t K>, upper: Bound<&'t K>) -> bool
         requires { IsReady K.cmp self.old }
         ensures ready { IsReady K.cmp self.new }
-        ensures answer { result ≡ can_turn K.cmp (cursor_of self.old (deref_bound lower.entry) (deref_bound upper.entry)) }
-        ensures turned { cursor_of self.new (deref_bound lower.entry) (deref_bound upper.entry) ≡ turned K.cmp (cursor_of self.old (deref_bound lower.entry) (deref_bound upper.entry)) }
+        ensures answer { result ≡ can_turn K.cmp (cursor_between lower.entry upper.entry self.old) }
+        ensures turned { cursor_between lower.entry upper.entry self.new ≡ turned K.cmp (cursor_between lower.entry upper.entry self.old) }
     {
         let turns = self.can_turn(lower, upper);
         if turns {
@@ -181,7 +181,7 @@ impl<'t, K: Ord, V> Ends<'t, K, V> {
     /// Whether one end alone is open and shows a pair, or none is.
     fn can_turn(&self, lower: Bound<&'t K>, upper: Bound<&'t K>) -> bool
         requires { IsReady K.cmp self.now }
-        ensures { result ≡ can_turn K.cmp (cursor_of self.now (deref_bound lower.entry) (deref_bound upper.entry)) }
+        ensures { result ≡ can_turn K.cmp (cursor_between lower.entry upper.entry self.now) }
     {
         match (&self.forward, &self.backward) {
             (End::Unopened, End::Unopened) => true,

@@ -11,7 +11,7 @@ ghost use Rattle.leaf_array.specs.Lookups.{LendsPair, deref_bound};
 ghost use Rattle.leaf_array.specs.Pairs.{has_key, value_of_key, IsAscending};
 ghost use Rattle.leaf_array.specs.Values.{ClonesAreSame};
 ghost use Rattle.tree_index.specs.declared.cursor.End.TheVariants.{Unopened};
-ghost use Rattle.tree_index.specs.Cursor.{whole};
+ghost use Rattle.tree_index.specs.Cursor.{cursor_within, whole};
 ghost use Rattle.tree_nodes.specs.Nodes.{height_in, is_internal, node_pairs};
 ghost use Rattle.tree_index.specs.Proximity.{IsLocated};
 ghost use Rattle.tree_nodes.specs.Reads.{FnOnceReadsPair, FnOnceTakesPair};
@@ -318,7 +318,7 @@ impl<K: Ord, V> TreeIndex<K, V> {
     /// A cursor over the pairs within two bounds. Reversed bounds contain none.
     pub fn range<'t>(&'t self, lower: Bound<&'t K>, upper: Bound<&'t K>) -> Range<'t, K, V>
         ensures countable { length self.now.pairs < 2 ^ 64 }
-        ensures cursor { result ≡ record { pairs = self.now.pairs; lower = deref_bound lower.entry; upper = deref_bound upper.entry; forward = Unopened; backward = Unopened } }
+        ensures cursor { result ≡ cursor_within self.now.pairs lower.entry upper.entry }
     {
         let _ = self.len();
         Range {

@@ -30,6 +30,10 @@ module _ {K V : Type 0} where
   abbrev pub changed : (K → K → Ordering) → Changes K V → List (K × V) → List (K × V)
   changed cmp c pairs = apply_delta cmp (noted_in c.edits) (without_gone cmp c.gone.items pairs)
 
+  -- the list that they make of a version of these segments
+  abbrev pub list_changed : (K → K → Ordering) → Changes K V → List (List (K × V)) → List (K × V)
+  list_changed cmp c blocks = changed cmp c (pairs_in blocks)
+
   -- the list that edits make of what ranges leave of blocks, from a place on
   abbrev pub ahead : (K → K → Ordering) → List (K × Option V) → List (Gone K) → ℕ → List (List (K × V)) → List (K × V)
   ahead cmp edits gone place blocks = apply_delta cmp edits (without_gone cmp gone (pairs_in (drop place blocks)))

@@ -137,6 +137,10 @@ module _ {K V : Type 0} where
   abbrev pub StaysThrifty : ℕ → (K → Bool) → List (List (K × V)) → ℕ → ℕ → SegmentBuilder K V → ℕ → ℕ → SegmentBuilder K V → Type 0
   StaysThrifty s test blocks place left c place' left' c' = (budget : ℕ) (last : Bool) → IsThrifty s budget test last (drop place blocks) left c → (last' : Bool) × IsThrifty s budget test last' (drop place' blocks) left' c'
 
+-- the same of the block at a place less what is gone, from one number of changes to another
+abbrev pub GivesNoMoreOfBlock : {K V : Type 0} → (K → K → Ordering) → (s : ℕ) → List (Gone K) → List (List (K × V)) → ℕ → ℕ → SegmentBuilder K V → ℕ → SegmentBuilder K V → Type 0
+GivesNoMoreOfBlock cmp s gone blocks place changes c changes' c' = OfBlock blocks place (λ b. GivesNoMoreThanRead s (length (without_gone cmp gone b) + changes) changes' c c')
+
 -- what is left of the block at a place, and of those behind it less what is gone
 abbrev pub rest_behind : {K V : Type 0} → (K → K → Ordering) → List (Gone K) → List (List (K × V)) → ℕ → List (K × V) → List (K × V)
 rest_behind cmp gone blocks place pairs = pairs ++ without_gone cmp gone (pairs_in (drop (place + 1) blocks))
@@ -172,3 +176,7 @@ module _ {K V X : Type 0} (cmp : K → K → Ordering) where
 
   abbrev pub IsTouched : List (K × X) → List (Gone K) → List (K × V) → Type 0
   IsTouched changes gone b = IsReachedBy changes b ⊎ (AllKeys (λ k. is_gone cmp gone k ≡ false) b → ⊥)
+
+  -- where the first change reaches what is left of the block at a place, fewer changes are left then
+  abbrev pub PassesWhatReaches : List (Gone K) → List (List (K × V)) → ℕ → (changes changes' : List (K × X)) → Type 0
+  PassesWhatReaches gone blocks place changes changes' = OfBlock blocks place (λ b. IsReachedBy changes (without_gone cmp gone b) → length changes' < length changes)

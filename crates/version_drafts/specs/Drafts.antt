@@ -33,6 +33,10 @@ module _ {K V : Type 0} {s : ℕ} where
     pub counted : p.length ≡ length (list_planned blocks p)
     pub there : All (LiesWithin (length blocks)) p.parts
 
+-- the version of these segments under a number
+abbrev pub plan_of : {K V : Type 0} {s : ℕ} → ℕ → Segments K V → Plan K V s
+plan_of number segments = record { number = number; parts = segments.parts.items; separators = segments.separators.items; length = segments.length }
+
 -- the segments, of at most s pairs, are few, and those that are new are counted
 pub record IsDrafted {K V : Type 0} (s : ℕ) (segments : Segments K V) (made : ℕ) : Type 0 where
   pub few : segments_in segments.parts.items ≤ 2 * (segments.length / (s + 1)) + 1

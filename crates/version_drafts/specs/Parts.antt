@@ -1,5 +1,6 @@
 -- parts of a version that is being built
-use Rattle.std.specs.Prelude.{ℕ, ◌+◌, ◌-◌, ◌<◌, ◌≤◌, List, [], ◌∷◌, ◌++◌, cond, nat_lt, drop, sum_by, take}
+use Rattle.std.specs.Prelude.{◌≡◌, ℕ, ◌+◌, ◌-◌, ◌<◌, ◌≤◌, List, [], ◌∷◌, ◌++◌, cond, nat_lt, drop, sum_by, take}
+use Rattle.version_views.specs.Cuts.{pairs_in}
 use Rattle.version_drafts.specs.declared.segments.Part.{Part}
 use Rattle.version_drafts.specs.declared.segments.Part.TheVariants as parts
 
@@ -17,6 +18,10 @@ module _ {K V : Type 0} where
   blocks_of_parts blocks [] = []
   blocks_of_parts blocks (p ∷ ps) = part_blocks blocks p ++ blocks_of_parts blocks ps
 
+  -- and their list
+  abbrev pub list_of_parts : List (List (K × V)) → List (Part K V) → List (K × V)
+  list_of_parts blocks ps = pairs_in (blocks_of_parts blocks ps)
+
   -- a stretch has a segment, and the older version has all of it, where it has this many
   abbrev pub LiesWithin : ℕ → Part K V → Type 0
   LiesWithin n (parts.Taken from upto) = (from < upto) × (upto ≤ n)
@@ -25,6 +30,10 @@ module _ {K V : Type 0} where
   -- the stretch of these places, where it has a segment
   abbrev pub stretch_of : ℕ → ℕ → List (Part K V)
   stretch_of from upto = cond (nat_lt from upto) (parts.Taken from upto ∷ []) []
+
+  -- the stretch that came last and ended with the segment at this place ends before it
+  abbrev pub IsShortened : ℕ → (old new : List (Part K V)) → Type 0
+  IsShortened place old new = (front : List (Part K V)) (from : ℕ) → old ≡ front ++ parts.Taken from (place + 1) ∷ [] → new ≡ front ++ stretch_of from place
 
   -- how many segments a part has, and how many parts have
   abbrev pub segments_of : Part K V → ℕ

@@ -4,7 +4,7 @@ ghost use Rattle.std.specs.Prelude.{◌≡◌, ◌≤◌, ◌+◌, [], OnOk, IfO
 ghost use Rattle.std.specs.List.{All};
 ghost use Rattle.leaf_array.specs.Pairs.{has_key};
 ghost use Rattle.leaf_array.specs.Values.{ClonesAreSame};
-ghost use Rattle.version_drafts.specs.Changes.{changed, named_by, noted_in};
+ghost use Rattle.version_drafts.specs.Changes.{list_changed, named_by, noted_in};
 ghost use Rattle.version_views.specs.Cuts.{pairs_in, separators_of};
 ghost use Rattle.version_drafts.specs.Gone.{IsSpan};
 ghost use Rattle.version_views.specs.SeparatorSearch.{IsOrdered};
@@ -58,10 +58,10 @@ pub(crate) fn apply<'w, K: Clone + Ord + Drop, V: Drop, W: Trees<K, V>>(
     requires keys { ClonesAreSame K.is_clone }
     requires ordered { IsOrdered K.cmp old.now (separators_of old.now) }
     requires spans { All (IsSpan K.cmp old.now) changes.old.gone.items }
-    ensures list { OnOk result (changed K.cmp changes.new (pairs_in old.now) ≡ after_write K.cmp write.now (changed K.cmp changes.old (pairs_in old.now))) }
+    ensures list { OnOk result (list_changed K.cmp changes.new old.now ≡ after_write K.cmp write.now (list_changed K.cmp changes.old old.now)) }
     ensures few { OnOk result (named_by changes.new ≤ named_by changes.old + 1) }
     ensures spans { OnOk result (All (IsSpan K.cmp old.now) changes.new.gone.items) }
-    ensures reply { IfOk result (λ reply. reply ≡ reply_to K.cmp write.now (changed K.cmp changes.old (pairs_in old.now))) }
+    ensures reply { IfOk result (λ reply. reply ≡ reply_to K.cmp write.now (list_changed K.cmp changes.old old.now)) }
 {
     match write {
         Write::Insert(key, value) => {
@@ -101,7 +101,7 @@ fn has<K: Ord, V, W: Trees<K, V>>(
     old: &VersionView<'_, K, V, W>,
     key: &K,
 ) -> bool
-    ensures { result ≡ has_key K.cmp key.now (changed K.cmp changes.now (pairs_in old.now)) }
+    ensures { result ≡ has_key K.cmp key.now (list_changed K.cmp changes.now old.now) }
 {
     let _ = changes.edits.len();
     match changes.edits.peek(key) {
@@ -126,7 +126,7 @@ fn remove_range<K: Clone + Ord + Drop, V: Drop, W: Trees<K, V>>(
     requires keys { ClonesAreSame K.is_clone }
     requires ordered { IsOrdered K.cmp old.now (separators_of old.now) }
     requires spans { All (IsSpan K.cmp old.now) changes.old.gone.items }
-    ensures list { OnOk result (changed K.cmp changes.new (pairs_in old.now) ≡ pairs_outside K.cmp lower.now upper.now (changed K.cmp changes.old (pairs_in old.now))) }
+    ensures list { OnOk result (list_changed K.cmp changes.new old.now ≡ pairs_outside K.cmp lower.now upper.now (list_changed K.cmp changes.old old.now)) }
     ensures few { OnOk result (named_by changes.new ≤ named_by changes.old + 1) }
     ensures spans { OnOk result (All (IsSpan K.cmp old.now) changes.new.gone.items) }
 {

@@ -5,7 +5,7 @@ ghost use Rattle.std.specs.Prelude.{◌≡◌, ◌≤◌, ◌*◌, length, IfOk}
 ghost use Rattle.std.specs.List.{All};
 ghost use Rattle.leaf_array.specs.Values.{ClonesAreSame};
 ghost use Rattle.version_views.specs.Cuts.{IsCut, pairs_in, separators_of};
-ghost use Rattle.version_drafts.specs.Parts.{LiesWithin, blocks_of_parts, made_in};
+ghost use Rattle.version_drafts.specs.Parts.{LiesWithin, blocks_of_parts, list_of_parts, made_in};
 ghost use Rattle.version_views.specs.Writes.{after_writes, replies_to};
 
 use crate::changes::{apply, unchanged};
@@ -28,9 +28,9 @@ pub fn drafted<K: Clone + Ord + Drop, V: Clone + Drop, W: Trees<K, V>, const S: 
     requires values { ClonesAreSame V.is_clone }
     requires whole { IsCut K.cmp S old.now (separators_of old.now) }
     ensures cut { IfOk result (λ made. IsCut K.cmp S (blocks_of_parts old.now made.0.parts.items) made.0.separators.items) }
-    ensures list { IfOk result (λ made. pairs_in (blocks_of_parts old.now made.0.parts.items) ≡ after_writes K.cmp writes.now (pairs_in old.now)) }
+    ensures list { IfOk result (λ made. list_of_parts old.now made.0.parts.items ≡ after_writes K.cmp writes.now (pairs_in old.now)) }
     ensures within { IfOk result (λ made. All (LiesWithin (length old.now)) made.0.parts.items) }
-    ensures length { IfOk result (λ made. made.0.length ≡ length (pairs_in (blocks_of_parts old.now made.0.parts.items))) }
+    ensures length { IfOk result (λ made. made.0.length ≡ length (list_of_parts old.now made.0.parts.items)) }
     ensures few { IfOk result (λ made. made_in made.0.parts.items ≤ 2 * length writes.now) }
     ensures replies { IfOk result (λ made. made.1.items ≡ replies_to K.cmp writes.now (pairs_in old.now)) }
 {

@@ -5,7 +5,7 @@ ghost use Rattle.std.specs.List.{All};
 ghost use Rattle.leaf_array.specs.Pairs.{IsAscending};
 ghost use Rattle.leaf_array.specs.Values.{ClonesAreSame};
 ghost use Rattle.version_views.specs.Cuts.{IsCut, pairs_in};
-ghost use Rattle.version_drafts.specs.Parts.{LiesWithin, blocks_of_parts, made_in};
+ghost use Rattle.version_drafts.specs.Parts.{LiesWithin, blocks_of_parts, list_of_parts, made_in};
 
 use crate::segments::{Segments, begun, expect, finish, push};
 use std::alloc::{AllocError, Global};
@@ -43,7 +43,7 @@ pub fn listed<K: Clone + Ord + Drop, V: Clone + Drop, const S: usize>(
     requires values { ClonesAreSame V.is_clone }
     requires rising { IsAscending K.cmp pairs.now }
     ensures cut { IfOk result (λ made. (blocks : List (List (K × V))) → IsCut K.cmp S (blocks_of_parts blocks made.parts.items) made.separators.items) }
-    ensures list { IfOk result (λ made. (blocks : List (List (K × V))) → pairs_in (blocks_of_parts blocks made.parts.items) ≡ pairs.now) }
+    ensures list { IfOk result (λ made. (blocks : List (List (K × V))) → list_of_parts blocks made.parts.items ≡ pairs.now) }
     ensures within { IfOk result (λ made. All (LiesWithin 0) made.parts.items) }
     ensures length { IfOk result (λ made. made.length ≡ length pairs.now) }
     ensures new { IfOk result (λ made. made_in made.parts.items ≡ length made.parts.items) }
@@ -67,7 +67,7 @@ fn cut_beside<K: Clone + Ord + Drop, V: Clone + Drop, W: Trees<K, V>, const S: u
     requires rising { IsAscending K.cmp pairs.now }
     requires none { old.now ≡ [] }
     ensures cut { IfOk result (λ made. IsCut K.cmp S (blocks_of_parts [] made.parts.items) made.separators.items) }
-    ensures list { IfOk result (λ made. pairs_in (blocks_of_parts [] made.parts.items) ≡ pairs.now) }
+    ensures list { IfOk result (λ made. list_of_parts [] made.parts.items ≡ pairs.now) }
     ensures within { IfOk result (λ made. All (LiesWithin 0) made.parts.items) }
     ensures length { IfOk result (λ made. made.length ≡ length pairs.now) }
     ensures fewest { IfOk result (λ made. S * made_in made.parts.items < length pairs.now + S) }

@@ -4,11 +4,11 @@ ghost use Rattle.std.specs.Prelude.{◌≡◌, ◌≤◌, ◌<◌, ◌+◌, ◌*
 ghost use Rattle.leaf_array.specs.Pairs.{IsAscending};
 ghost use Rattle.leaf_array.specs.Values.{ClonesAreSame};
 ghost use Rattle.std.specs.List.{All};
-ghost use Rattle.version_drafts.specs.Changes.{ahead, apply_delta, changed, named_by, pair_left};
+ghost use Rattle.version_drafts.specs.Changes.{ahead, apply_delta, list_changed, named_by, pair_left};
 ghost use Rattle.version_views.specs.Cuts.{IsCut, IsSeparated, pairs_in, separators_of};
-ghost use Rattle.version_drafts.specs.Cutting.{CountsFrom, CountsGiven, IsCutting, GivesNoMoreThanRead, IsPassedBy, IsReachedBy, IsTouched, IsUntouched, Joins, KeepsListFrom, KeepsListWithin, OfBlock, StaysThrifty, given_pairs, rest_behind};
+ghost use Rattle.version_drafts.specs.Cutting.{CountsFrom, CountsGiven, IsCutting, GivesNoMoreOfBlock, GivesNoMoreThanRead, IsPassedBy, IsReachedBy, IsTouched, IsUntouched, Joins, KeepsListFrom, KeepsListWithin, OfBlock, PassesWhatReaches, StaysThrifty, given_pairs, rest_behind};
 ghost use Rattle.version_drafts.specs.Gone.{IsSpan, is_gone, without_gone};
-ghost use Rattle.version_drafts.specs.Parts.{LiesWithin, blocks_of_parts, made_in};
+ghost use Rattle.version_drafts.specs.Parts.{LiesWithin, blocks_of_parts, list_of_parts, made_in};
 ghost use Rattle.version_views.specs.SeparatorSearch.{IsOrdered};
 
 use crate::changes::Changes;
@@ -36,9 +36,9 @@ pub(crate) fn merged<K: Clone + Ord + Drop, V: Clone + Drop, W: Trees<K, V>, con
     requires whole { IsCut K.cmp S old.now (separators_of old.now) }
     requires spans { All (IsSpan K.cmp old.now) changes.now.gone.items }
     ensures cut { IfOk result (λ made. IsCut K.cmp S (blocks_of_parts old.now made.parts.items) made.separators.items) }
-    ensures list { IfOk result (λ made. pairs_in (blocks_of_parts old.now made.parts.items) ≡ changed K.cmp changes.now (pairs_in old.now)) }
+    ensures list { IfOk result (λ made. list_of_parts old.now made.parts.items ≡ list_changed K.cmp changes.now old.now) }
     ensures within { IfOk result (λ made. All (LiesWithin (length old.now)) made.parts.items) }
-    ensures length { IfOk result (λ made. made.length ≡ length (pairs_in (blocks_of_parts old.now made.parts.items))) }
+    ensures length { IfOk result (λ made. made.length ≡ length (list_of_parts old.now made.parts.items)) }
     ensures few { IfOk result (λ made. made_in made.parts.items ≤ 2 * named_by changes.now) }
 {
     match &changes.edits {
@@ -63,9 +63,9 @@ fn merged_with<K: Clone + Ord + Drop, V: Clone + Drop, W: Trees<K, V>, const S: 
     requires whole { IsCut K.cmp S old.now (separators_of old.now) }
     requires spans { All (IsSpan K.cmp old.now) gone.now }
     ensures cut { IfOk result (λ made. IsCut K.cmp S (blocks_of_parts old.now made.parts.items) made.separators.items) }
-    ensures list { IfOk result (λ made. pairs_in (blocks_of_parts old.now made.parts.items) ≡ apply_delta K.cmp edits.now (without_gone K.cmp gone.now (pairs_in old.now))) }
+    ensures list { IfOk result (λ made. list_of_parts old.now made.parts.items ≡ apply_delta K.cmp edits.now (without_gone K.cmp gone.now (pairs_in old.now))) }
     ensures within { IfOk result (λ made. All (LiesWithin (length old.now)) made.parts.items) }
-    ensures length { IfOk result (λ made. made.length ≡ length (pairs_in (blocks_of_parts old.now made.parts.items))) }
+    ensures length { IfOk result (λ made. made.length ≡ length (list_of_parts old.now made.parts.items)) }
     ensures few { IfOk result (λ made. made_in made.parts.items ≤ 2 * (length edits.now + length gone.now)) }
 {
     let named = edits.len().saturating_add(gone.len());
@@ -302,9 +302,9 @@ fn merge_segment<K: Clone + Ord + Drop, V: Clone + Drop, W: Trees<K, V>, const S
     requires counted { CountsFrom old.now place out.old }
     ensures whole { OnOk result (IsCutting K.cmp S old.now out.new) }
     ensures list { OnOk result (KeepsListFrom K.cmp gone.now old.now place changes.old out.old (place + 1) changes.new out.new) }
-    ensures filled { OnOk result (OfBlock old.now place (λ b. GivesNoMoreThanRead S (length (without_gone K.cmp gone.now b) + length changes.old) (length changes.new) out.old out.new)) }
+    ensures filled { OnOk result (GivesNoMoreOfBlock K.cmp S gone.now old.now place (length changes.old) out.old (length changes.new) out.new) }
     ensures fewer { OnOk result (length changes.new ≤ length changes.old) }
-    ensures reached { OnOk result (OfBlock old.now place (λ b. IsReachedBy K.cmp changes.old (without_gone K.cmp gone.now b) → length changes.new < length changes.old)) }
+    ensures reached { OnOk result (PassesWhatReaches K.cmp gone.now old.now place changes.old changes.new) }
     ensures counted { OnOk result (CountsFrom old.now (place + 1) out.new) }
 {
     count_out(out, old, place);

@@ -6,7 +6,7 @@ ghost use Rattle.leaf_array.specs.Values.{ClonesAreSame};
 ghost use Rattle.version_views.specs.Cuts.{IsCut, pairs_in, separators_of};
 ghost use Rattle.version_views.specs.Sizes.{room_for};
 ghost use Rattle.version_views.specs.Writes.{after_writes, replies_to};
-ghost use Rattle.version_drafts.specs.Drafts.{IsPlanned, list_planned, slots_for};
+ghost use Rattle.version_drafts.specs.Drafts.{IsPlanned, list_planned, plan_of, slots_for};
 ghost use Rattle.version_drafts.specs.Parts.{segments_in};
 
 use crate::draft::drafted;
@@ -64,7 +64,7 @@ impl<K: Ord, V, R: OwnersRoom, const S: usize> Draft<K, V, R, S> {
         K: Drop,
         V: Drop,
         requires few { segments_in segments.parts.items ≤ 2 * (segments.length / (S + 1)) + 1 }
-        ensures { IfOk result (λ draft. draft ≡ record { number = number; parts = segments.parts.items; separators = segments.separators.items; length = segments.length }) }
+        ensures { IfOk result (λ draft. draft ≡ plan_of number segments) }
     {
         let Some(count) = count_of(&segments.parts) else {
             return Err(AllocError);

@@ -5,7 +5,7 @@ ghost use Rattle.leaf_array.specs.Pairs.{IsAscending};
 ghost use Rattle.leaf_array.specs.Values.{ClonesAreSame};
 ghost use Rattle.version_views.specs.Cuts.{IsCut, IsSeparated, greatest_key, pairs_in, separators_of};
 ghost use Rattle.version_drafts.specs.Cutting.{CountsFrom, CountsGiven, IsClosing, IsCutting, IsSegmentRow, StaysApart, given_pairs, room_spent, trees};
-ghost use Rattle.version_drafts.specs.Parts.{LiesWithin, between, blocks_of_parts, made_in, segments_in, stretch_of};
+ghost use Rattle.version_drafts.specs.Parts.{IsShortened, LiesWithin, between, blocks_of_parts, list_of_parts, made_in, segments_in, stretch_of};
 ghost use Rattle.std.specs.List.{All};
 
 use crate::scans::PairScan;
@@ -294,9 +294,9 @@ pub(crate) fn finish<K: Clone + Ord + Drop, V: Clone + Drop, W: Trees<K, V>, con
     requires whole { IsCutting K.cmp S old.now out }
     requires counted { out.length ≡ length (given_pairs old.now out) }
     ensures cut { IfOk result (λ made. IsCut K.cmp S (blocks_of_parts old.now made.parts.items) made.separators.items) }
-    ensures list { IfOk result (λ made. pairs_in (blocks_of_parts old.now made.parts.items) ≡ given_pairs old.now out) }
+    ensures list { IfOk result (λ made. list_of_parts old.now made.parts.items ≡ given_pairs old.now out) }
     ensures within { IfOk result (λ made. All (LiesWithin (length old.now)) made.parts.items) }
-    ensures length { IfOk result (λ made. made.length ≡ length (pairs_in (blocks_of_parts old.now made.parts.items))) }
+    ensures length { IfOk result (λ made. made.length ≡ length (list_of_parts old.now made.parts.items)) }
     ensures made { IfOk result (λ made. made_in made.parts.items ≡ trees out) }
 {
     seal::<K, V, W, S>(&mut out, old)?;
@@ -330,7 +330,7 @@ fn seal<K: Clone + Ord + Drop, V: Clone + Drop, W: Trees<K, V>, const S: usize>(
     requires values { ClonesAreSame V.is_clone }
     requires whole { IsCutting K.cmp S old.now out.old }
     ensures row { OnOk result (IsSegmentRow old.now S out.new.row) }
-    ensures pairs { OnOk result (pairs_in (blocks_of_parts old.now out.new.row.parts.items) ≡ given_pairs old.now out.old) }
+    ensures pairs { OnOk result (list_of_parts old.now out.new.row.parts.items ≡ given_pairs old.now out.old) }
     ensures made { OnOk result (made_in out.new.row.parts.items ≡ trees out.old) }
     ensures last { OnOk result (0 < length out.old.tail.pairs → length out.old.tail.pairs ≤ out.new.row.last) }
     ensures same { OnOk result (length out.old.tail.pairs ≡ 0 → out.new.row.last ≡ out.old.row.last) }
@@ -380,7 +380,7 @@ fn shorten<K: Ord + Drop, V: Drop>(
     place: usize,
 ) -> Result<(), AllocError>
     requires { (front : List (Part K V)) × (from : ℕ) × (parts.old.items ≡ front ++ Part.Taken from (place + 1) ∷ []) }
-    ensures { OnOk result ((front : List (Part K V)) (from : ℕ) → parts.old.items ≡ front ++ Part.Taken from (place + 1) ∷ [] → parts.new.items ≡ front ++ stretch_of from place) }
+    ensures { OnOk result (IsShortened place parts.old.items parts.new.items) }
 {
     match parts.pop() {
         Some(Part::Taken { from, upto: _ }) => {

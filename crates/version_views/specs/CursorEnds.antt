@@ -1,5 +1,5 @@
 -- The ends of a walk over blocks.
-use Rattle.std.specs.Prelude.{◌≡◌, ℕ, suc, ◌+◌, ◌-◌, ◌<◌, ◌≤◌, false, List, length, drop, take, slice_get, Some}
+use Rattle.std.specs.Prelude.{◌≡◌, ℕ, suc, ◌+◌, ◌-◌, ◌<◌, ◌≤◌, cond, false, nat_lt, List, length, drop, take, slice_get, Some}
 use Rattle.std.specs.Borrow.{Bor}
 use Rattle.std.specs.declared.cmp.Ordering.{Ordering}
 use Rattle.std.specs.declared.cmp.Ordering.TheVariants.{Less}
@@ -119,6 +119,10 @@ module _ {K V : Type 0} where
 
   abbrev pub count_upto : (K → K → Ordering) → Bound (Bor K) → List (K × V) → ℕ
   count_upto cmp upper pairs = up_to_end cmp (bound_map (λ k. k.now) upper) pairs
+
+  -- the end at a place, if there is a pair, and past all of them else
+  abbrev pub at_or_done : List (List (K × V)) → ℕ → End ℕ
+  at_or_done blocks n = cond (nat_lt n (length (pairs_in blocks))) (At n) Done
 
   -- whatever key no pair has, and n pairs have lesser ones
   abbrev pub OfAbsent : (K → K → Ordering) → List (List (K × V)) → ℕ → (K → Type 0) → Type 0

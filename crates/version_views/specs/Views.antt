@@ -3,12 +3,9 @@ use Rattle.std.specs.Prelude.{◌≡◌, List, Option, None, Some, MatchOption, 
 use Rattle.std.specs.BTreeMap.{is_at}
 use Rattle.std.specs.Borrow.{Bor}
 use Rattle.std.specs.declared.cmp.Ordering.{Ordering}
-use Rattle.std.specs.declared.ops.Bound.{Bound}
 use Rattle.std.specs.List.{All}
 use Rattle.std.specs.Map.{lookup_entry}
-use Rattle.std.specs.Range.Bound.{bound_map}
-use Rattle.tree_index.specs.Cursor.{Cursor}
-use Rattle.tree_index.specs.declared.cursor.End.TheVariants.{Unopened}
+pub use Rattle.tree_index.specs.Cursor.{cursor_within}
 use Rattle.version_views.specs.Cuts.{pairs_in}
 use Rattle.version_views.specs.Items.{segment_owners}
 use Rattle.version_views.specs.SeparatorSearch.{IsOrdered}
@@ -28,13 +25,3 @@ pub record IsView {K V O : Type 0} (cmp : K → K → Ordering) (has : O → Typ
 -- what a look-up gives: the pair with the key, or none where there is none
 abbrev pub LooksUp : {K V : Type 0} → (K → K → Ordering) → K → List (K × V) → Option (Bor K × Bor V) → Type 0
 LooksUp cmp key pairs found = MatchOption found (lookup_entry (is_at (cmp key)) pairs ≡ None) (λ e. lookup_entry (is_at (cmp key)) pairs ≡ Some (e.0.now, e.1.now))
-
--- a cursor over the pairs within two bounds, of which no end is open
-abbrev pub cursor_within : {K V : Type 0} → List (K × V) → Bound (Bor K) → Bound (Bor K) → Cursor K V
-cursor_within pairs lower upper = record {
-  pairs = pairs;
-  lower = bound_map (λ k. k.now) lower;
-  upper = bound_map (λ k. k.now) upper;
-  forward = Unopened;
-  backward = Unopened;
-}

@@ -5,7 +5,7 @@ ghost use Rattle.std.specs.Range.Bound.{bound_map};
 ghost use Rattle.tree_index.specs.Cursor.{forth, back, lies_before, pair_at, deref_pair};
 ghost use Rattle.tree_index.specs.declared.cursor.End.TheVariants.{At, Done, Unopened};
 ghost use Rattle.version_views.specs.Cuts.{pairs_in};
-ghost use Rattle.version_views.specs.CursorEnds.{count_before, pairs_before_block, count_upto, fore_place, rear_place, AreRising, CountsInto, FoundFore, FoundRear, IsForeAlone, IsPairAt, IsRearAlone, StandsFore, StandsRear};
+ghost use Rattle.version_views.specs.CursorEnds.{at_or_done, count_before, pairs_before_block, count_upto, fore_place, rear_place, AreRising, CountsInto, FoundFore, FoundRear, IsForeAlone, IsPairAt, IsRearAlone, StandsFore, StandsRear};
 
 use crate::position::{CursorEnd, Position};
 use crate::trees::Trees;
@@ -54,7 +54,7 @@ impl<'a, K: Ord, V, W: Trees<K, V>> VersionView<'a, K, V, W> {
         requires within { segment < length self.now }
         ensures stands { StandsFore self.now end.new }
         ensures alone { IsForeAlone end.new }
-        ensures place { fore_place self.now end.new ≡ cond (nat_lt (pairs_before_block self.now (segment + 1)) (length (pairs_in self.now))) (At (pairs_before_block self.now (segment + 1))) Done }
+        ensures place { fore_place self.now end.new ≡ at_or_done self.now (pairs_before_block self.now (segment + 1)) }
         ensures pair { deref_pair result ≡ pair_at (pairs_in self.now) (fore_place self.now end.new) }
     {
         let version = self.copy();

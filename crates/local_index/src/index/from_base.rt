@@ -4,7 +4,9 @@ ghost use Rattle.std.specs.Prelude.{◌≡◌, ◌≤◌, ◌<◌, ◌^◌, ◌-
 ghost use Rattle.leaf_array.specs.Pairs.{IsAscending};
 ghost use Rattle.leaf_array.specs.Values.{ClonesAreSame};
 ghost use Rattle.version_views.specs.Sizes.{IsStoreSized, room_for};
+ghost use Rattle.local_versions.specs.Store.{fresh_store};
 ghost use Rattle.local_index.specs.FromBase.{MayRefuseBase};
+ghost use Rattle.local_index.specs.State.{fresh_index};
 
 use crate::index::LocalIndex;
 use local_versions::draft::rising_until;
@@ -54,7 +56,7 @@ impl<K: Clone + Ord, V: Clone + Eq, const S: usize> LocalIndex<K, V, S> {
         requires size { IsStoreSized places slots S }
         requires keys { ClonesAreSame K.is_clone }
         requires values { ClonesAreSame V.is_clone }
-        ensures begins { IfOk result (λ index. index ≡ record { base = record { number = number; pairs = pairs.items }; history = []; places = replicate places None; last = 2 ^ 64 - 1; slots = slots; used = index.used; raises = 0 }) }
+        ensures begins { IfOk result (λ index. index ≡ fresh_index (record { number = number; pairs = pairs.items }) places (2 ^ 64 - 1) slots index.used) }
         ensures room { IfOk result (λ index. index.used ≤ room_for S (length pairs.items)) }
         ensures cause { IfErr result (λ back. MayRefuseBase K.cmp S slots pairs.items back.cause) }
         ensures back { IfErr result (λ back. back.pairs.items ≡ pairs.items) }
@@ -94,7 +96,7 @@ fn stored<K: Clone + Ord, V: Clone, const S: usize>(
     requires keys { ClonesAreSame K.is_clone }
     requires values { ClonesAreSame V.is_clone }
     requires rising { IsAscending K.cmp pairs.now }
-    ensures store { IfOk result (λ s. s ≡ record { present = record { number = number; pairs = pairs.now }; readers = replicate places None; slots = slots; used = s.used; raises = 0 }) }
+    ensures store { IfOk result (λ s. s ≡ fresh_store (record { number = number; pairs = pairs.now }) places slots s.used) }
     ensures room { IfOk result (λ s. s.used ≤ room_for S (length pairs.now)) }
     ensures full { IsErrOf result StoreRefused.NoSlot → slots < room_for S (length pairs.now) }
 {

@@ -12,7 +12,7 @@ ghost use Rattle.version_views.specs.Cuts.{pairs_in};
 ghost use Rattle.version_views.specs.Items.{slots_of};
 ghost use Rattle.local_versions.specs.Placing.{CanBeShared, StandsAlone, list_alone, slots_for};
 ghost use Rattle.version_views.specs.Sizes.{IsStoreSized, room_for, segments_for};
-ghost use Rattle.local_versions.specs.Store.{Version, IsKeptHere, IsStore, gap, next_version, no_version, version_in};
+ghost use Rattle.local_versions.specs.Store.{Version, IsKeptHere, IsNamedBy, IsStore, LacksRoom, directory_version, fresh_store, gap, next_version, no_version, version_in};
 ghost use Rattle.version_views.specs.Versions.{IsVersion, list_of};
 ghost use Rattle.version_views.specs.Writes.{after_writes, replies_to};
 ghost use Rattle.local_versions.specs.declared.store.readers.Opened.{Opened};
@@ -94,7 +94,7 @@ impl<K: Clone + Ord, V: Clone, const S: usize> LocalStore<K, V, S> {
     ) -> Result<Self, StoreRefused>
         requires size { IsStoreSized readers slots S }
         requires alone { StandsAlone K.cmp built }
-        ensures holds { IfOk result (λ s. s ≡ record { present = record { number = built.number; pairs = list_alone built }; readers = replicate readers None; slots = slots; used = slots_for built; raises = 0 }) }
+        ensures holds { IfOk result (λ s. s ≡ fresh_store (record { number = built.number; pairs = list_alone built }) readers slots (slots_for built)) }
         ensures full { IsErrOf result StoreRefused.NoSlot ↔ slots < slots_for built }
     {
         if slots < built.slots() {
@@ -116,7 +116,7 @@ impl<K: Clone + Ord, V: Clone, const S: usize> LocalStore<K, V, S> {
         requires size { IsStoreSized readers slots S }
         requires alone { StandsAlone K.cmp built }
         requires room { slots_for built ≤ slots }
-        ensures { IfOk result (λ s. s ≡ record { present = record { number = built.number; pairs = list_alone built }; readers = replicate readers None; slots = slots; used = slots_for built; raises = 0 }) }
+        ensures { IfOk result (λ s. s ≡ fresh_store (record { number = built.number; pairs = list_alone built }) readers slots (slots_for built)) }
     {
         let mut free = Vec::with_capacity(alloc, readers)?;
         let mut places = Vec::with_capacity(alloc, readers)?;
@@ -244,7 +244,7 @@ impl<K: Clone + Ord, V: Clone, const S: usize> LocalStore<K, V, S> {
         ensures room { OnOk result (self.new.used ≤ self.old.used + room_for S (length (after_writes K.cmp writes.now self.old.present.pairs))) }
         ensures few { OnOk result (self.new.used ≤ self.old.used + (2 * length writes.now + 1)) }
         ensures refused { OnErr result (self.new ≡ self.old) }
-        ensures full { IsErrOf result WriteRefused.NoSlot → self.old.slots < self.old.used + room_for S (length (after_writes K.cmp writes.now self.old.present.pairs)) }
+        ensures full { IsErrOf result WriteRefused.NoSlot → LacksRoom S (next_version K.cmp writes.now self.old.present).pairs self.old }
         ensures short { IsErrOf result WriteRefused.NoSlot → self.old.slots < self.old.used + (2 * length writes.now + 1) }
     {
         let older = present(&self.world, &self.root);
@@ -381,9 +381,9 @@ fn present<'w, K: Ord, V, const S: usize>(
 ) -> &'w Directory<K, Kept>
     requires { (readers : List (Option (Opened K V S))) × IsStore K.cmp w.now (shared_cell root.now) readers }
     ensures version { IsVersion K.cmp (value_at w.now) result.now }
-    ensures is { record { number = result.now.number; pairs = list_of (value_at w.now) result.now } ≡ version_in w.now (slot_kept (cell_at w.now (shared_cell root.now))) }
+    ensures is { directory_version (value_at w.now) result.now ≡ version_in w.now (slot_kept (cell_at w.now (shared_cell root.now))) }
     ensures shared { All (CanBeShared w.now) (slots_of result.now) }
-    ensures there { (i : ℕ) (tag : Tag) → cell_at w.now (shared_cell root.now) ≡ Cell.OfShared (Some i) tag → IsLive w.now i × (value_at w.now i ≡ Some (Item.Directory result.now)) }
+    ensures there { IsNamedBy w.now (shared_cell root.now) result.now }
 {
     match atomic_shared::as_ref(w, root) {
         Some(item) => match item.directory() {

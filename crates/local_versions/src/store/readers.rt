@@ -5,7 +5,7 @@ ghost use Rattle.std.specs.List.{All};
 ghost use Rattle.std.specs.Option.{option_map};
 ghost use Rattle.sdd_world.specs.State.{value_at};
 ghost use Rattle.sdd_world.specs.View.{IsFreeList};
-ghost use Rattle.local_versions.specs.Store.{IsStore, HasVersionOpen, Version, directory_version, gap, read_by};
+ghost use Rattle.local_versions.specs.Store.{HasOpen, IsStore, HasVersionOpen, Version, directory_version, gap, read_by};
 ghost use Rattle.version_views.specs.Versions.{IsVersion, list_of};
 
 use crate::reads::version_at;
@@ -29,10 +29,10 @@ pub(crate) fn read_at<'w, K: Ord, V, const S: usize>(
     place: usize,
 ) -> &'w Directory<K, Kept>
     requires store { (root : ℕ) × IsStore K.cmp w.now root readers.now }
-    requires reader { (v : Version K V) × (slice_get (map (option_map (read_by w.now)) readers.now) place ≡ Some (Some v)) }
+    requires reader { (v : Version K V) × HasOpen w.now readers.now place v }
     ensures version { IsVersion K.cmp (value_at w.now) result.now }
-    ensures is { (v : Version K V) → slice_get (map (option_map (read_by w.now)) readers.now) place ≡ Some (Some v) → list_of (value_at w.now) result.now ≡ v.pairs }
-    ensures number { (v : Version K V) → slice_get (map (option_map (read_by w.now)) readers.now) place ≡ Some (Some v) → result.now.number ≡ v.number }
+    ensures is { (v : Version K V) → HasOpen w.now readers.now place v → list_of (value_at w.now) result.now ≡ v.pairs }
+    ensures number { (v : Version K V) → HasOpen w.now readers.now place v → result.now.number ≡ v.number }
 {
     match &readers[place] {
         Some(opened) => seen(w, opened),
@@ -48,7 +48,7 @@ pub(crate) fn nearest<'w, K: Ord, V, const S: usize>(
 ) -> Option<&'w Directory<K, Kept>>
     requires { (root : ℕ) × IsStore K.cmp w.now root readers.now }
     ensures version { IfSome result (λ d. IsVersion K.cmp (value_at w.now) d.now) }
-    ensures reader { IfSome result (λ d. (place : ℕ) × (slice_get (map (option_map (read_by w.now)) readers.now) place ≡ Some (Some (directory_version (value_at w.now) d.now)))) }
+    ensures reader { IfSome result (λ d. (place : ℕ) × HasOpen w.now readers.now place (directory_version (value_at w.now) d.now)) }
     ensures number { IfSome result (λ d. d.now.number ≤ number) }
 {
     let mut found: Option<&'w Directory<K, Kept>> = None;

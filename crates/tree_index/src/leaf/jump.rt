@@ -5,7 +5,7 @@ ghost use Rattle.std.specs.declared.ops.Bound.{Bound};
 ghost use Rattle.std.specs.declared.ops.Bound.TheVariants.{Excluded};
 ghost use Rattle.tree_nodes.specs.Content.{pairs_of, IsSound};
 ghost use Rattle.tree_index.specs.Cursor.{before_start, up_to_end};
-ghost use Rattle.tree_index.specs.LeafCursor.{at_start, cursor_at, key_before, key_behind, IsFirstAbove, IsLastBelow, IsPart, next_greater, next_lesser, ranked, stood};
+ghost use Rattle.tree_index.specs.LeafCursor.{at_start, cursor_at, key_before, key_behind, IsFirstAbove, IsFirstBehind, IsLastBefore, IsLastBelow, IsPart, IsRankOfFirst, IsRankOfLast, next_greater, next_lesser, ranked, stood};
 ghost use Rattle.tree_nodes.specs.Walk.{position, IsFirstPosition, IsLastPosition, IsPosition};
 
 use crate::leaf::{LeafPosition, ranked};
@@ -52,8 +52,8 @@ fn leaf_position<'t, K: Ord, V>(
     ensures pair { ranked result.rank result.leaf.now.array.pairs ≡ slice_get (pairs_of arenas.now) (position arenas.now spot.entry) }
     ensures there { IsSome (ranked result.rank result.leaf.now.array.pairs) }
     ensures part { IsPart result.leaf.now.array.pairs (pairs_of arenas.now) }
-    ensures first { (b : Bound K) → position arenas.now spot.entry ≡ before_start K.cmp b (pairs_of arenas.now) → result.rank ≡ before_start K.cmp b result.leaf.now.array.pairs + 1 }
-    ensures last { (b : Bound K) → position arenas.now spot.entry + 1 ≡ up_to_end K.cmp b (pairs_of arenas.now) → result.rank ≡ up_to_end K.cmp b result.leaf.now.array.pairs }
+    ensures first { IsRankOfFirst K.cmp arenas.now (position arenas.now spot.entry) result }
+    ensures last { IsRankOfLast K.cmp arenas.now (position arenas.now spot.entry) result }
 {
     let _ = spot.leaf.array.len();
     LeafPosition {
@@ -66,7 +66,7 @@ fn leaf_position<'t, K: Ord, V>(
 fn past<'t, K: Ord, V>(arenas: &'t Arenas<K, V>, leaf: &'t Leaf<K, V>) -> Option<Position<'t, K, V>>
     requires { IsSound K.cmp arenas.now }
     ensures spot { IfSome result (λ s. IsPosition arenas.now s) }
-    ensures there { MatchOption (key_behind (at_start leaf.now.array)) (result ≡ None) (λ k. IsFirstPosition arenas.now (before_start K.cmp (Excluded k) (pairs_of arenas.now)) result) }
+    ensures there { IsFirstBehind K.cmp arenas.now leaf.now.array result }
 {
     match last_key(leaf) {
         Some(key) => arenas.first_within(Bound::Excluded(key)),
@@ -81,7 +81,7 @@ fn short_of<'t, K: Ord, V>(
 ) -> Option<Position<'t, K, V>>
     requires { IsSound K.cmp arenas.now }
     ensures spot { IfSome result (λ s. IsPosition arenas.now s) }
-    ensures there { MatchOption (key_before (at_start leaf.now.array)) (result ≡ None) (λ k. IsLastPosition arenas.now (up_to_end K.cmp (Excluded k) (pairs_of arenas.now)) result) }
+    ensures there { IsLastBefore K.cmp arenas.now leaf.now.array result }
 {
     match first_key(leaf) {
         Some(key) => arenas.last_within(Bound::Excluded(key)),
