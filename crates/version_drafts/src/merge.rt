@@ -317,7 +317,8 @@ fn merge_segment<K: Clone + Ord + Drop, V: Clone + Drop, W: Trees<K, V>, const S
     Ok(())
 }
 
-/// Takes the pairs that come before the next change, or where there is none what is first, and says whether there was a pair.
+/// Copies the pairs that come before the next change, as far as the open tree has room, takes what is first then, and says whether
+/// that was anything.
 fn merge_more<K: Clone + Ord + Drop, V: Clone + Drop, W: Trees<K, V>, const S: usize>(
     out: &mut SegmentBuilder<K, V>,
     changes: &mut ChangeScan<'_, '_, K, V>,
@@ -341,14 +342,11 @@ fn merge_more<K: Clone + Ord + Drop, V: Clone + Drop, W: Trees<K, V>, const S: u
     ensures done { IfOk result (λ more. more ≡ false → pairs.new ≡ []) }
     ensures counted { OnOk result (CountsGiven old.now out.old out.new) }
 {
-    if copy_run::<K, V, W, S>(out, changes, pairs, gone, old, place)? {
-        return Ok(true);
-    }
+    copy_run::<K, V, W, S>(out, changes, pairs, gone, old, place)?;
     merge_next::<K, V, W, S>(out, changes, pairs, gone, old, place)
 }
 
-/// Gives clones of the first pairs that come before the next change, as far as the open tree has room, and says whether there
-/// were any.
+/// Gives clones of the first pairs that come before the next change, as far as the open tree has room.
 fn copy_run<K: Clone + Ord + Drop, V: Clone + Drop, W: Trees<K, V>, const S: usize>(
     out: &mut SegmentBuilder<K, V>,
     changes: &ChangeScan<'_, '_, K, V>,
@@ -356,7 +354,7 @@ fn copy_run<K: Clone + Ord + Drop, V: Clone + Drop, W: Trees<K, V>, const S: usi
     gone: &[Gone<K>],
     old: &VersionView<'_, K, V, W>,
     place: usize,
-) -> Result<bool, AllocError>
+) -> Result<(), AllocError>
     requires keys { ClonesAreSame K.is_clone }
     requires values { ClonesAreSame V.is_clone }
     requires sorted { IsAscending K.cmp (rest_behind K.cmp gone.now old.now place pairs.old) }
@@ -368,7 +366,6 @@ fn copy_run<K: Clone + Ord + Drop, V: Clone + Drop, W: Trees<K, V>, const S: usi
     ensures filled { OnOk result (GivesNoMoreThanRead S (length pairs.old + length changes.now) (length pairs.new + length changes.now) out.old out.new) }
     ensures reached { OnOk result (IsReachedBy K.cmp changes.now pairs.old → IsReachedBy K.cmp changes.now pairs.new) }
     ensures less { OnOk result (length pairs.new ≤ length pairs.old) }
-    ensures fewer { IfOk result (λ some. some ≡ true → length pairs.new < length pairs.old) }
     ensures counted { OnOk result (CountsGiven old.now out.old out.new) }
 {
     let _ = gone;
@@ -379,7 +376,7 @@ fn copy_run<K: Clone + Ord + Drop, V: Clone + Drop, W: Trees<K, V>, const S: usi
         return Err(AllocError);
     };
     out.length = length;
-    Ok(count > 0)
+    Ok(())
 }
 
 /// Takes what is first of changes and the pairs of the segment at a place, or both where they have one key, and says whether

@@ -169,6 +169,9 @@ impl<'t, 'g, K: Ord, V> Sieve<'t, 'g, K, V> {
             return Ok(0);
         }
         let count = self.pairs.run(upto).min(most);
+        if count == 0 {
+            return Ok(0);
+        }
         self.pairs.push_run(into, count)?;
         Ok(count)
     }

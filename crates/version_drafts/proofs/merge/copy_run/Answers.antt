@@ -1,5 +1,4 @@
-use Rattle.std.proofs.Common.{◌<◌, ◌+◌, ◌++◌, drop, length, refl, take, ap, arith}
-use Rattle.std.proofs.lemmas.Bool.Decides.{nat_tests}
+use Rattle.std.proofs.Common.{◌+◌, ◌++◌, drop, length, refl, take, ap, arith}
 use Rattle.std.proofs.lemmas.List.{length-drop, length-take}
 use Rattle.version_drafts.specs.Changes.{apply_delta}
 use Rattle.version_drafts.specs.Cutting.{given_pairs}
@@ -117,11 +116,3 @@ returns-clause-reached g c =
     let e = c.in_ok-count.ensures in
     let passed = passed_of cmp cs (take n ps) c.key.result c.key.ensures e.below in
     run_reached g.met.K.Ord.total cs ps n e.within passed c.push_run.new.self e.passed
-
-pub returns-clause-fewer : goal.returns-clause-fewer
-returns-clause-fewer g c = λ some.
-    let e = c.in_ok-count.ensures in
-    let left = length-drop c.in_ok-count.count c.args.pairs.now in
-    let next = ap length e.passed in
-    let count : 0 < c.in_ok-count.count = grind (arith, nat_tests) in
-    omega (arith, left, next, e.within, count)
