@@ -14,7 +14,7 @@ use Rattle.tree_nodes.specs.declared.leaf.Leaf.{Leaf}
 use Rattle.tree_nodes.specs.declared.arenas.Arenas.{Arenas}
 use Rattle.tree_nodes.specs.Shape.{AllKeys, IsOver, IsUpTo, IsWithin, joined_over}
 use Rattle.tree_nodes.specs.Chain.{times}
-use Rattle.tree_nodes.specs.Content.{pairs_of, leaf_on_way, IsSound}
+use Rattle.tree_nodes.specs.Content.{pairs_of, IsSound}
 use Rattle.tree_nodes.specs.Depth.{IsAbove, ascending_headroom, root_room}
 use Rattle.tree_nodes.specs.Push.{LastLeafHasRoom, LastLeafTakes}
 use Rattle.tree_nodes.specs.Walk.{pairs_in_leaf, position, IsPosition}
@@ -77,6 +77,14 @@ module _ {K V : Type 0} (cmp : K → K → Ordering) (o : IsTotalOrder cmp) wher
       rising_cons o x xs
       (from_keys (λ y. cmp x.0 y ≡ Less) xs (part_of (λ y. cmp x.0 y ≡ Less) xs ys (to_keys (λ y. cmp x.0 y ≡ Less) (xs ++ ys) (sorted_head cmp x.0 (keys_of (xs ++ ys)) up))).0)
       (front_rising xs ys (sorted_tail cmp x.0 (keys_of (xs ++ ys)) up))
+
+  -- a pair whose key is above those of an ascending list may come behind it
+  pub end_rising : (key : K) (val : V) (ps : List (K × V)) → IsAscending cmp ps → AllKeys (λ k. cmp k key ≡ Less) ps → IsAscending cmp (ps ++ (key, val) ∷ [])
+  end_rising key val [] up less = rising_cons o (key, val) [] tt (none_rising cmp)
+  end_rising key val (x ∷ xs) up less =
+      rising_cons o x (xs ++ (key, val) ∷ [])
+      (from_keys (λ y. cmp x.0 y ≡ Less) (xs ++ (key, val) ∷ []) (all_append (λ y. cmp x.0 y ≡ Less) xs ((key, val) ∷ []) (to_keys (λ y. cmp x.0 y ≡ Less) xs (sorted_head cmp x.0 (keys_of xs) up)) (less.0, tt)))
+      (end_rising key val xs (sorted_tail cmp x.0 (keys_of xs) up) less.1)
 
 -- what has pairs isn't retired
 pub living_of : {X : Type 0} (b : Bool) (xs : List X) → (b ≡ true → length xs ≡ 0) → 0 < length xs → b ≡ false

@@ -1,11 +1,12 @@
 //! Leaves that are appended with their pairs, without a descent and without a split.
 
-ghost use Rattle.std.specs.Prelude.{◌≡◌, ◌≢◌, ◌<◌, ◌≤◌, ◌+◌, ◌++◌, IfOk, IfSome, OnOk, length, take, drop};
+ghost use Rattle.std.specs.Prelude.{◌≡◌, ◌≢◌, ◌<◌, ◌≤◌, ◌+◌, ◌++◌, ◌∷◌, [], IfOk, IfSome, IsSome, OnOk, length, take, drop};
 ghost use Rattle.leaf_array.specs.Pairs.{IsAscending};
+ghost use Rattle.leaf_array.specs.Results.{IsSuccess, given_back};
 ghost use Rattle.leaf_array.specs.Values.{ClonesAreSame};
 ghost use Rattle.slab.specs.Slab.{get, HasRoomFor};
 ghost use Rattle.tree_nodes.specs.Content.{pairs_of, IsSound, leaf_on_way};
-ghost use Rattle.tree_nodes.specs.Depth.{ascending_headroom};
+ghost use Rattle.tree_nodes.specs.Depth.{IsAbove, ascending_headroom};
 ghost use Rattle.tree_nodes.specs.Push.{IsAdded, IsFullLast, IsLone};
 
 use crate::arenas::Arenas;
@@ -59,6 +60,60 @@ impl<K: Ord, V> Arenas<K, V> {
             _ => return Err(AllocError),
         }
         Ok(1)
+    }
+
+    /// Appends a pair whose key is greater than all others, in a leaf of its own where nothing is planted, or where the last leaf
+    /// is full and hangs on the root, which has room. Elsewhere it is inserted. It is full as an insertion is.
+    // Out of line: most pairs go into a leaf that is there.
+    #[inline(never)]
+    pub(crate) fn push_apart(&mut self, key: K, val: V) -> InsertResult<K, V>
+    where
+        K: Clone + Drop,
+        V: Drop,
+        requires sound { IsSound K.cmp self.old }
+        requires clones { ClonesAreSame K.is_clone }
+        requires above { IsAbove K.cmp key (pairs_of self.old) }
+        ensures sound { IsSound K.cmp self.new }
+        ensures back { IfSome (given_back result) (λ p. p ≡ (key, val)) }
+        ensures kept { IsSome (given_back result) → pairs_of self.new ≡ pairs_of self.old }
+        ensures depth { IsSome (given_back result) → self.new.height ≡ self.old.height }
+        ensures ascending_headroom { IsSome (given_back result) → ascending_headroom K.cmp self.new ≡ ascending_headroom K.cmp self.old }
+        ensures done { IsSuccess result → pairs_of self.new ≡ pairs_of self.old ++ (key, val) ∷ [] }
+        ensures ascending { IsSuccess result → ascending_headroom K.cmp self.old ≤ ascending_headroom K.cmp self.new + 1 }
+    {
+        if self.spare().is_err() {
+            return InsertResult::Full(key, val);
+        }
+        if self.height == 0 {
+            let first = insert_pair(&mut self.leaves, None, key, val);
+            self.plant(first, 1);
+            return InsertResult::Success;
+        }
+        match self.full_last() {
+            Ok(Some((last, separator))) => {
+                self.append_pair(last, separator, key, val);
+                InsertResult::Success
+            },
+            Ok(None) => self.put::<true>(key, val),
+            Err(AllocError) => InsertResult::Full(key, val),
+        }
+    }
+
+    /// Makes room for one more leaf, and where nothing is planted for a node.
+    fn spare(&mut self) -> Result<(), AllocError>
+        requires { IsSound K.cmp self.old }
+        ensures sound { IsSound K.cmp self.new }
+        ensures pairs { pairs_of self.new ≡ pairs_of self.old }
+        ensures height { self.new.height ≡ self.old.height }
+        ensures ascending { ascending_headroom K.cmp self.new ≡ ascending_headroom K.cmp self.old }
+        ensures leaf { OnOk result (HasRoomFor self.new.leaves 1) }
+        ensures node { OnOk result (self.new.height ≡ 0 → HasRoomFor self.new.nodes 1) }
+    {
+        self.leaves.reserve(1)?;
+        if self.height == 0 {
+            self.nodes.reserve(1)?;
+        }
+        Ok(())
     }
 
     /// Plants a first leaf, which has `len` pairs, under a first node.
@@ -142,6 +197,25 @@ impl<K: Ord, V> Arenas<K, V> {
         }
         Ok(())
     }
+
+    /// Appends a leaf with one pair under the root, with the separator between it and the last one.
+    fn append_pair(&mut self, last: usize, separator: K, key: K, val: V)
+        requires sound { IsSound K.cmp self.old }
+        requires last { IsFullLast self.old last separator }
+        requires room { HasRoomFor self.old.leaves 1 }
+        requires rising { IsAscending K.cmp (pairs_of self.old ++ (key, val) ∷ []) }
+        ensures sound { IsSound K.cmp self.new }
+        ensures pairs { pairs_of self.new ≡ pairs_of self.old ++ (key, val) ∷ [] }
+        ensures ascending { ascending_headroom K.cmp self.old ≤ ascending_headroom K.cmp self.new + 1 }
+    {
+        let added = insert_pair(&mut self.leaves, Some(last), key, val);
+        set_next(&mut self.leaves, last, added);
+        self.len += 1;
+        match self.nodes.get_mut(self.root) {
+            Some(root) => root.append(separator, added),
+            None => unreachable!(),
+        }
+    }
 }
 
 /// Puts a leaf with clones of `count` pairs of another leaf, from a place on, into an arena, behind the leaf `prev`. Returns
@@ -176,4 +250,27 @@ where
         None => unreachable!(),
     }
     Ok(fresh)
+}
+
+/// Puts a leaf with one pair into an arena, behind the leaf `before`. Returns its number.
+#[inline]
+fn insert_pair<K: Ord, V>(
+    leaves: &mut Slab<Leaf<K, V>>,
+    before: Option<usize>,
+    key: K,
+    val: V,
+) -> usize
+    requires { HasRoomFor leaves.old 1 }
+    ensures { IsAdded leaves.old leaves.new result before ((key, val) ∷ []) }
+{
+    let fresh = leaves.insert_reserved(Leaf {
+        array: Array::new(),
+        prev: before,
+        next: None,
+    });
+    match leaves.get_mut(fresh) {
+        Some(leaf) => leaf.push(key, val),
+        None => unreachable!(),
+    }
+    fresh
 }

@@ -35,7 +35,7 @@ impl<K: Ord, V> Arenas<K, V> {
                 return InsertResult::Success;
             }
         }
-        self.put::<true>(key, val)
+        self.push_apart(key, val)
     }
 
     /// The last leaf, if it has pairs, and room for one more.

@@ -1,5 +1,5 @@
-use Rattle.std.proofs.Common.{◌≡◌, ℕ, ◌+◌, [], ◌∷◌, ◌++◌, length, Some, sym, ap, ◌∙◌, subst, arith}
-use Rattle.slab.specs.Slab.{get, with_value}
+use Rattle.std.proofs.Common.{◌≡◌, ℕ, ◌+◌, [], ◌∷◌, ◌++◌, length, sym, ap, ◌∙◌, subst, arith}
+use Rattle.slab.specs.Slab.{with_value}
 use Rattle.leaf_array.specs.Cells.{lesser}
 use Rattle.leaf_array.specs.Pairs.{IsAscending}
 use Rattle.tree_nodes.specs.Content.{pairs_of}

@@ -1,4 +1,4 @@
-use Rattle.std.proofs.Common.{◌≡◌, ◌≤◌, ◌+◌, ◌-◌, ℕ, length, ap, ◌∙◌, subst, arith}
+use Rattle.std.proofs.Common.{◌≡◌, ◌≤◌, ◌+◌, ℕ, length, ap, ◌∙◌, subst, arith}
 use Rattle.tree_nodes.specs.Content.{leaves_of, pairs_of}
 use Rattle.tree_nodes.specs.Depth.{ascending_headroom}
 use Rattle.tree_nodes.specs.Copy.{place, IsExtended, IsPositionOrEnd}

@@ -1,5 +1,4 @@
-use Rattle.std.proofs.Common.{◌≡◌, drop, take, Some, sym, arith}
-use Rattle.slab.specs.Slab.{get}
+use Rattle.std.proofs.Common.{drop, take, sym, arith}
 use Rattle.tree_nodes.specs.declared.leaf.Leaf.{Leaf}
 use Rattle.tree_nodes.proofs.ExtendLemmas.{IsAppended, living_of, found_takes, leaf_rising, run_length, appended, extended_sound, extended_takes, extended_pairs, extended_headroom}
 use Rattle.tree_nodes.proofs.arenas.Arenas.extend_at.Given.{Over}

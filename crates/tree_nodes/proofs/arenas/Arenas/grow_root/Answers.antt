@@ -1,8 +1,8 @@
-use Rattle.std.proofs.Common.{◌≡◌, ◌+◌, ◌-◌, ℕ, suc, Option, Some, None, false, sym, ap, ◌∙◌, refl, arith, inr, subst}
+use Rattle.std.proofs.Common.{◌≡◌, ◌+◌, ◌-◌, ℕ, suc, Option, Some, None, sym, ap, ◌∙◌, refl, arith, inr, subst}
 use Rattle.std.specs.Prelude.{length}
 use Rattle.std.specs.Option.{option_map}
 use Rattle.slab.specs.Slab.{get}
-use Rattle.leaf_array.specs.Cells.{Cells, no_cells}
+use Rattle.leaf_array.specs.Cells.{Cells}
 use Rattle.tree_nodes.specs.declared.node.InnerNode.{InnerNode}
 use Rattle.tree_nodes.specs.Shape.{ArenaContent, way, pairs_under, leaves_under, Stands}
 use Rattle.tree_nodes.specs.Chain.{leaf_links, IsLinked}

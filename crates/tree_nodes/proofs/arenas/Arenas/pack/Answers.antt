@@ -1,4 +1,4 @@
-use Rattle.std.proofs.Common.{refl, ◌≡◌, ◌<◌, Option, sym, ap, ◌∙◌, subst, arith}
+use Rattle.std.proofs.Common.{refl, ◌<◌, Option, sym, ap, ◌∙◌, subst, arith}
 use Rattle.std.specs.Prelude.{length, IfSome}
 use Rattle.slab.specs.Slab.{get}
 use Rattle.tree_nodes.specs.Depth.{root_room}
