@@ -79,9 +79,14 @@ vacant-is status.Deferred h = absurd (omega arith)
 pub filled_same : {T J : Type 0} (a : Inside T J) (i : ℕ) (s : Status) → IsTable a → is_used s ≡ is_used (get_or a.states.items i status.Free) → map is_some a.values.items ≡ map is_used (set a.states.items i s)
 filled_same a i s h e = h.filled ∙ sym (map-set_same is_used a.states.items i s status.Free e)
 
+-- what is asked of the state, of the fields
+pub known_in : {T J : Type 0} (a : Inside T J) (w : State T) (p : ℕ) → state_of a ≡ w → p < length w.participants → p < length a.participants.all
+known_in a w p e h = let P : State _ → Type 0 = λ s. p < length s.participants in subst P (sym e) h
+
 -- participants change, and their bags hold what they held
-pub changed_invariant : {T J : Type 0} (a : Inside T J) (p : ℕ) (f : ParticipantState → ParticipantState) (s : Shown) → IsTable a → p < length a.participants.all → s ≡ changed_in p f a.participants → ((j : ℕ) → held_times j (f (participant_in a.participants.all p)) ≡ held_times j (participant_in a.participants.all p)) → IsTable (record a { participants = s })
-changed_invariant {T} {J} a p f s h known is same =
+pub changed_invariant : {T J : Type 0} (a : Inside T J) (w : State T) (p : ℕ) (f : ParticipantState → ParticipantState) (s : Shown) → IsTable a → state_of a ≡ w → p < length w.participants → s ≡ changed_in p f a.participants → ((j : ℕ) → held_times j (f (participant_in a.participants.all p)) ≡ held_times j (participant_in a.participants.all p)) → IsTable (record a { participants = s })
+changed_invariant {T} {J} a w p f s h v inside is same =
+    let known : p < length a.participants.all = known_in a w p v inside in
     let ms = a.participants.all in
     let whole : IsTable {T = T} {J = J} (record a { participants = changed_in p f a.participants }) = record {
       filled = h.filled;
@@ -96,8 +101,8 @@ changed_invariant {T} {J} a p f s h known is same =
     } in
     subst (λ (z : Shown). IsTable {T = T} {J = J} (record a { participants = z })) (sym is) whole
 
-pub changed_view : {T J : Type 0} (a : Inside T J) (p : ℕ) (f : ParticipantState → ParticipantState) (s : Shown) → s ≡ changed_in p f a.participants → state_of (record a { participants = s }) ≡ changing p f (state_of a)
-changed_view a p f s is = ap (λ (z : Shown). record (state_of a) { participants = z.all }) is
+pub changed_view : {T J : Type 0} (a : Inside T J) (w : State T) (p : ℕ) (f : ParticipantState → ParticipantState) (s : Shown) → state_of a ≡ w → s ≡ changed_in p f a.participants → state_of (record a { participants = s }) ≡ changing p f w
+changed_view a w p f s v is = ap (λ (z : Shown). record (state_of a) { participants = z.all }) is ∙ ap (changing p f) v
 
 -- what the bags hold once place i is used in another way: as before, with i, without i
 pub same_held : {T J : Type 0} (a : Inside T J) (i : ℕ) (s : Status) → IsTable a → i < length a.states.items → weight s ≡ weight (get_or a.states.items i status.Free) → (j : ℕ) → sum_by (held_times j) a.participants.all ≡ weight (get_or (set a.states.items i s) j status.Free)
@@ -157,10 +162,6 @@ retired_invariant a p i m h known inside was light is =
     states_invariant a a.values a.jobs a.used m a.free a.idle i s h refl (sym (used-job _ was)) (filled_same a i s h (sym was)) (omega (arith, t, tallies, one)) (ap (λ (z : Shown). z.places) is) (waiting_held a p i s m h known inside light refl is)
     (lists_same vacancy a.states.items i s status.Free a.free.items inside (sym (used-vacancy _ was)) h.slots.lists) h.slots.room
     (lists_same idleness a.states.items i s status.Free a.idle.items inside (sym (used-idleness _ was)) h.places.lists) h.places.room
-
--- what is asked of the state, of the fields
-pub known_in : {T J : Type 0} (a : Inside T J) (w : State T) (p : ℕ) → state_of a ≡ w → p < length w.participants → p < length a.participants.all
-known_in a w p e h = let P : State _ → Type 0 = λ s. p < length s.participants in subst P (sym e) h
 
 -- a place that doesn't wait is in no bag
 pub in_none : {T J : Type 0} (a : Inside T J) (i : ℕ) → IsTable a → weight (get_or a.states.items i status.Free) ≡ 0 → sum_by (held_times i) a.participants.all ≡ 0

@@ -12,7 +12,7 @@ use Rattle.sdd_table.specs.State.{ParticipantState, no_local, is_present, nobody
 use Rattle.sdd_table.specs.Steps.{hit, times, is_nil, bags_empty}
 use Rattle.sdd_table.specs.Place.{held_times}
 use Rattle.sdd_plain.specs.declared.local_state.LocalState.{LocalState}
-use Rattle.sdd_table.specs.Chains.{Shown, participant_in, follow, Spells, IsChain, participant_of, AreChains, no_participant, shown_of, AreThreaded}
+use Rattle.sdd_table.specs.Chains.{Shown, participant_in, changed_in, follow, Spells, IsChain, participant_of, AreChains, no_participant, shown_of, AreThreaded}
 use Rattle.sdd_table.specs.declared.bags.Participant.{Participant}
 use Rattle.sdd_table.specs.declared.bags.Participants.TheInside.{Inside}
 use Rattle.std.specs.Vec.{with_item}
@@ -389,14 +389,14 @@ module _ (a : Inside) (p : ℕ) (q0 : Participant) (t : AreThreaded a) (known : 
       let base : P q1 (suc i) = let b = inside_of i q1.current (put_in q1 (suc i)) in let len = length-set a.links.items i q1.current in (threaded size b len r.0, shown_at size b (set all0 p (put_participant i (participant_in all0 p))) len r.1) in
       subst (λ k. P q0 k) (sym e) (subst (λ (z : Participant). P z (suc i)) q_is base)
 
-  pub local_set : (k : LocalState) → Changes (changed_to (record q0 { local = k })) (with_local_state k)
+  local_set : (k : LocalState) → Changes (changed_to (record q0 { local = k })) (with_local_state k)
   local_set k = let r = locals size a.links.items a.all.items (threads_of a t) p known refl k in
       let P : Participant → Type 0 = (λ z. Changes (changed_to (record z { local = k })) (with_local_state k)) in
       let base : P q1 = let b = changed_to (record q1 { local = k }) in (threaded size b refl r.0, shown_at size b (set all0 p (with_local_state k (participant_in all0 p))) refl r.1) in
       subst P q_is base
 
   -- a participant that notes f of what it noted
-  pub noted : (f : LocalState → LocalState) → Changes (changed_to (record q0 { local = f q0.local })) (λ m. record m { local = f m.local })
+  noted : (f : LocalState → LocalState) → Changes (changed_to (record q0 { local = f q0.local })) (λ m. record m { local = f m.local })
   noted f = let r = local_set (f q0.local) in
       (r.0, r.1 ∙ ap (λ (k : LocalState). record (shown_of a) { all = set all0 p (with_local_state (f k) (participant_in all0 p)) }) (sym local_inside))
 
@@ -474,6 +474,11 @@ new_inside a m n l q =
 
 pub known_inside : (a : Inside) (w : Shown) (p : ℕ) → shown_of a ≡ w → p < length w.all → p < length a.all.items
 known_inside a w p v l = omega (arith, ap (λ (s : Shown). length s.all) v, length-map a.all.items (participant_of (length a.links.items) a.links.items))
+
+-- participant p of w notes f of what it noted
+pub noted_in : (a : Inside) (w : Shown) (p : ℕ) (q : Participant) (f : LocalState → LocalState) → AreThreaded a → shown_of a ≡ w → p < length w.all → q ≡ get_or a.all.items p q → AreThreaded (record { links = a.links; all = with_item a.all p (record q { local = f q.local }) }) × (shown_of (record { links = a.links; all = with_item a.all p (record q { local = f q.local }) }) ≡ changed_in p (λ m. with_local_state (f m.local) m) w)
+noted_in a w p q f t v l is =
+    let r = noted a p q t (known_inside a w p v l) is f in (r.0, r.1 ∙ ap (λ (s : Shown). changed_in p (λ m. with_local_state (f m.local) m) s) v)
 
 pub set_same : (ms : List ParticipantState) (p : ℕ) → set ms p (participant_in ms p) ≡ ms
 set_same ms p = set-get_or ms p nobody

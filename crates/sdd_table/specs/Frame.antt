@@ -43,6 +43,10 @@ pub record Frame {T : Type 0} (w w' : State T) : Type 0 where
 abbrev pub OnlyParticipant : {T : Type 0} → ℕ → State T → State T → Type 0
 OnlyParticipant p w w' = (k : ℕ) → k ≢ p → participant_at w' k ≡ participant_at w k
 
+-- each participant has as many guards open as before
+abbrev pub SameNesting : {T : Type 0} → State T → State T → Type 0
+SameNesting w w' = (q : ℕ) → (local_at w' q).nesting ≡ (local_at w q).nesting
+
 -- states one after another, each call leaving what it has to leave, with the guard of q open in all of them
 abbrev pub IsRun : {T : Type 0} → ℕ → State T → List (State T) → Type 0
 IsRun q w [] = Unit {0}

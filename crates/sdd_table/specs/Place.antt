@@ -1,11 +1,13 @@
 -- what holds of every place of one thread between two calls
-use Rattle.std.specs.Prelude.{◌≡◌, ◌≢◌, ℕ, ◌+◌, ◌-◌, ◌<◌, ◌≤◌, List, [], ◌∷◌, drop, length, is_some, Option, None, Some, take, true}
+use Rattle.std.specs.Prelude.{◌≡◌, ◌≢◌, ℕ, ◌+◌, ◌-◌, ◌<◌, ◌≤◌, Bool, List, [], ◌∷◌, drop, leb, length, is_some, Option, None, Some, take, true}
 use Rattle.std.specs.List.{All, sum_by}
-use Rattle.sdd_table.specs.State.{State, ParticipantState, status_at, value_at, cell_at, participant_at, local_at, weight, is_used, with_status, with_cell}
+use Rattle.sdd_table.specs.State.{State, ParticipantState, status_at, value_at, cell_at, participant_at, local_at, weight, is_used, IsFree, IsFreeCell, placed, with_status, with_cell}
 use Rattle.sdd_table.specs.Steps.{times}
 use Rattle.sdd_plain.specs.declared.tag.Tag.{Tag}
 use Rattle.sdd_plain.specs.declared.sizes.Sizes.{Sizes}
+use Rattle.sdd_table.specs.declared.status.Status.{Status}
 use Rattle.sdd_table.specs.declared.status.Status.TheVariants as status
+use Rattle.sdd_table.specs.declared.status.Cell.{Cell}
 use Rattle.sdd_table.specs.declared.status.Cell.TheVariants as cell
 
 -- how often place j waits in the bags of m
@@ -33,6 +35,14 @@ pub record IsPlace {T : Type 0} (w : State T) : Type 0 where
   pub began : (k : ℕ) → IsOpen w k → (local_at w k).published ≤ w.count
   pub near : (k : ℕ) → IsOpen w k → w.count ≤ (local_at w k).published + 1
 
+-- an item of value v, used as s, was put into slot i, which was free
+abbrev pub PlacesItem : {T : Type 0} → ℕ → T → Status → State T → State T → Type 0
+PlacesItem i v s w w' = IsFree w i × (w' ≡ placed i v s w)
+
+-- cell c, which was free, keeps k
+abbrev pub ClaimsCell : {T : Type 0} → ℕ → Cell → State T → State T → Type 0
+ClaimsCell c k w w' = IsFreeCell w c × (w' ≡ with_cell c k w)
+
 -- slot i has an item with owners, n of them
 pub record IsShared {T : Type 0} (w : State T) (i : ℕ) : Type 0 where
   pub inside : i < length w.states
@@ -43,6 +53,10 @@ pub record IsShared {T : Type 0} (w : State T) (i : ℕ) : Type 0 where
 pub record IsOwned {T : Type 0} (w : State T) (i : ℕ) : Type 0 where
   pub inside : i < length w.states
   pub is : status_at w i ≡ status.Owned
+
+-- the item in slot i, which was out as a raw pointer, has an owner
+abbrev pub OwnsRaw : {T : Type 0} → ℕ → State T → State T → Type 0
+OwnsRaw i w w' = (status_at w i ≡ status.Raw) × (w' ≡ with_status i status.Owned w)
 
 -- cell c keeps the owner of an item, or none, with a tag
 pub record IsOwnedCell {T : Type 0} (w : State T) (c : ℕ) : Type 0 where
@@ -82,6 +96,10 @@ AddsOwner i w w' = (n : ℕ) × (status_at w i ≡ status.Shared n) × (w' ≡ w
 abbrev pub TakesOwner : {T : Type 0} → ℕ → State T → Type 0
 TakesOwner i w = (n : ℕ) × (status_at w i ≡ status.Shared n) × (n < 4294967295)
 
+-- a shared item in slot i has fewer owners than can be counted
+abbrev pub HasOwnersLeft : {T : Type 0} → ℕ → State T → Type 0
+HasOwnersLeft i w = (n : ℕ) → status_at w i ≡ status.Shared n → n < 4294967295
+
 -- the items in slots have one owner more each, one after the other
 abbrev pub AddsOwners : {T : Type 0} → List ℕ → State T → State T → Type 0
 AddsOwners [] w w' = w' ≡ w
@@ -108,6 +126,10 @@ kept_between kept w o from upto = take (upto - from) (drop from (kept_at kept w 
 -- slot i has a shared item with more than one owner
 abbrev pub HasOtherOwners : {T : Type 0} → State T → ℕ → Type 0
 HasOtherOwners w i = (n : ℕ) × (status_at w i ≡ status.Shared n) × (1 < n)
+
+-- the answer says whether an owner of the shared item in slot i is its last
+abbrev pub SaysLast : {T : Type 0} → Bool → ℕ → State T → Type 0
+SaysLast last i w = (n : ℕ) → status_at w i ≡ status.Shared n → last ≡ leb n 1
 
 -- the item in slot i, which had more than one owner, has one owner less
 abbrev pub LosesOwner : {T : Type 0} → ℕ → State T → State T → Type 0

@@ -217,6 +217,18 @@ changing p f w = record w { participants = set w.participants p (f (participant_
 abbrev pub with_local_state : LocalState → ParticipantState → ParticipantState
 with_local_state k m = record m { local = k }
 
+-- the outermost guard of m opens, and publishes the count n
+abbrev pub published_at : ℕ → ParticipantState → ParticipantState
+published_at n m = with_local_state (record m.local { nesting = 1; published = n; previous = n; accelerated = false }) m
+
+-- the outermost guard of m closes, with so many closings since the last scan
+abbrev pub concluded_with : ℕ → ParticipantState → ParticipantState
+concluded_with closings m = with_local_state (record m.local { nesting = 0; closings = closings }) m
+
+-- m asks that its closing scans
+abbrev pub hastened : ParticipantState → ParticipantState
+hastened m = with_local_state (record m.local { accelerated = true }) m
+
 abbrev pub with_local : {T : Type 0} → ℕ → LocalState → State T → State T
 with_local p k w = changing p (with_local_state k) w
 

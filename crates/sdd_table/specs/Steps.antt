@@ -2,7 +2,7 @@
 use Rattle.std.specs.Prelude.{◌≡◌, ℕ, zero, suc, ◌+◌, ◌-◌, ◌==◌, Bool, true, false, not, ◌&&◌, cond, Option, None, Some, List, [], ◌∷◌, ◌++◌, length, replicate, leb, ltb}
 use Rattle.std.specs.List.{list_all, sum_by}
 use Rattle.sdd_table.specs.Holding.{Hold, OwnedItem, SharedItem, OwnedIn, SharedIn}
-use Rattle.sdd_table.specs.State.{State, ParticipantState, status_at, value_at, cell_at, participant_at, local_at, with_status, with_cell, with_local, retired, slot_freed, rotated_bags, taken, raised, is_present, behind_at}
+use Rattle.sdd_table.specs.State.{State, ParticipantState, status_at, value_at, cell_at, participant_at, local_at, with_status, with_cell, changing, published_at, with_local_state, with_local, retired, slot_freed, rotated_bags, taken, raised, is_present, behind_at}
 use Rattle.sdd_table.specs.declared.status.Status.{Status}
 use Rattle.sdd_table.specs.declared.status.Status.TheVariants as status
 use Rattle.sdd_table.specs.declared.status.Cell.{Cell}
@@ -111,8 +111,11 @@ abbrev pub bags_empty : ParticipantState → Bool
 bags_empty m = is_nil m.current && (is_nil m.prior && is_nil m.oldest)
 
 -- the flag of garbage is cleared where all three bags are empty
+abbrev pub settled_in : ParticipantState → ParticipantState
+settled_in m = with_local_state (record m.local { garbage = m.local.garbage && not (bags_empty m) }) m
+
 abbrev pub settled : {T : Type 0} → ℕ → State T → State T
-settled p w = with_local p (record (local_at w p) { garbage = (local_at w p).garbage && not (bags_empty (participant_at w p)) }) w
+settled p w = changing p settled_in w
 
 -- the bags of p move on once, and what was in the oldest is reclaimed
 abbrev pub participant_rotated : {T : Type 0} → (T → List Hold) → ℕ → State T → State T
@@ -120,7 +123,7 @@ participant_rotated holds p w = settled p (reclaimed holds p (length (participan
 
 -- p publishes the count
 abbrev pub count_published : {T : Type 0} → ℕ → State T → State T
-count_published p w = with_local p (record (local_at w p) { nesting = 1; published = w.count; previous = w.count; accelerated = false }) w
+count_published p w = changing p (published_at w.count) w
 
 -- p opens a guard: an outermost one publishes the count, and rotates where that isn't the one found before
 abbrev pub guard_opened : {T : Type 0} → (T → List Hold) → ℕ → State T → State T
@@ -164,6 +167,10 @@ abbrev pub left_behind : ℕ → List ℕ → List ℕ
 left_behind n [] = []
 left_behind n (i ∷ []) = i ∷ []
 left_behind n (i ∷ j ∷ is) = n ∷ j ∷ is
+
+-- place i was the first of a private bag, and left it since it is overdue
+abbrev pub LeavesOverdue : {T : Type 0} → ℕ → List ℕ → List ℕ → State T → Type 0
+LeavesOverdue i was left w = (is : List ℕ) × (was ≡ i ∷ is) × (left ≡ left_behind (behind_at w i) is) × (overdue w.count (status_at w i) ≡ true)
 
 -- the item in slot i, which waited in no bag of a participant, is reclaimed by p
 abbrev pub noted_reclaimed : {T : Type 0} → (T → List Hold) → ℕ → ℕ → State T → State T
@@ -221,6 +228,10 @@ handed_over_as (status.Collected n b) p i w = retired p i w
 handed_over_as status.Retired p i w = w
 handed_over_as status.Idle p i w = w
 handed_over_as status.Deferred p i w = w
+
+-- the first place of a private bag left it, and p retired what is in it
+abbrev pub HandsFirst : {T : Type 0} → ℕ → List ℕ → List ℕ → State T → State T → Type 0
+HandsFirst p was left w w' = (i : ℕ) × (is : List ℕ) × (was ≡ i ∷ is) × (left ≡ left_behind (behind_at w i) is) × (w' ≡ handed_over_as (status_at w i) p i w)
 
 abbrev pub handed_within : {T : Type 0} → ℕ → ℕ → List ℕ → State T → State T
 handed_within p zero is w = w

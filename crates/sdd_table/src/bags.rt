@@ -4,10 +4,10 @@
 //! that came before it. No place is in two bags, so one word a place serves the bags of all participants, and what
 //! waits takes no memory of its own. A place is put, taken out or recalled, and bags move on, in constant time.
 
-ghost use Rattle.std.specs.Prelude.{◌≡◌, ◌<◌, ◌&&◌, not, true, List, ◌∷◌, [], length, replicate, IfSome, IfNone, IfOk, IsTrue, IsFalse, ℕ, false, sum_by};
+ghost use Rattle.std.specs.Prelude.{◌≡◌, ◌<◌, List, ◌∷◌, [], length, replicate, IfSome, IfNone, IfOk, IsTrue, IsFalse, ℕ, sum_by};
 ghost use Rattle.std.specs.List.{list_all};
-ghost use Rattle.sdd_table.specs.State.{nobody, put_participant, bags_moved_on, left_due, recalled, with_local_state, is_present};
-ghost use Rattle.sdd_table.specs.Steps.{bags_empty};
+ghost use Rattle.sdd_table.specs.State.{nobody, put_participant, bags_moved_on, left_due, recalled, with_local_state, published_at, concluded_with, hastened, is_present};
+ghost use Rattle.sdd_table.specs.Steps.{bags_empty, settled_in};
 ghost use Rattle.sdd_table.specs.Place.{held_times};
 ghost use Rattle.sdd_table.specs.Chains.{participant_in, changed_in};
 
@@ -103,7 +103,7 @@ impl Participants {
     /// The outermost guard of `p` opens, and publishes this count.
     pub(crate) fn publish(&mut self, p: usize, count: u64)
         requires { p < length self.old.all }
-        ensures { self.new ≡ changed_in p (with_local_state (record (participant_in self.old.all p).local { nesting = 1; published = count; previous = count; accelerated = false })) self.old }
+        ensures { self.new ≡ changed_in p (published_at count) self.old }
     {
         let participant = &mut self.all[p];
         participant.local.nesting = 1;
@@ -115,7 +115,7 @@ impl Participants {
     /// The outermost guard of `p` closes, with so many closings since the last scan.
     pub(crate) fn conclude(&mut self, p: usize, closings: u8)
         requires { p < length self.old.all }
-        ensures { self.new ≡ changed_in p (with_local_state (record (participant_in self.old.all p).local { nesting = 0; closings = closings })) self.old }
+        ensures { self.new ≡ changed_in p (concluded_with closings) self.old }
     {
         let participant = &mut self.all[p];
         participant.local.nesting = 0;
@@ -125,7 +125,7 @@ impl Participants {
     /// A guard of `p` is accelerated.
     pub(crate) fn accelerate(&mut self, p: usize)
         requires { p < length self.old.all }
-        ensures { self.new ≡ changed_in p (with_local_state (record (participant_in self.old.all p).local { accelerated = true })) self.old }
+        ensures { self.new ≡ changed_in p hastened self.old }
     {
         let participant = &mut self.all[p];
         participant.local.accelerated = true;
@@ -134,7 +134,7 @@ impl Participants {
     /// The garbage of `p` stays noted only if something waits in its bags.
     pub(crate) fn settle(&mut self, p: usize)
         requires { p < length self.old.all }
-        ensures { self.new ≡ changed_in p (with_local_state (record (participant_in self.old.all p).local { garbage = (participant_in self.old.all p).local.garbage && not (bags_empty (participant_in self.old.all p)) })) self.old }
+        ensures { self.new ≡ changed_in p settled_in self.old }
     {
         let empty = self.are_empty(p);
         let participant = &mut self.all[p];

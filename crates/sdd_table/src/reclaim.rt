@@ -1,10 +1,10 @@
 //! What a rotation, an opening and a closing do to the store, with the bags open in between.
 
-ghost use Rattle.std.specs.Prelude.{◌≡◌, ◌+◌, ◌-◌, ◌<◌, ◌≤◌, ℕ, List, [], ◌∷◌, length, leb, IsTrue, IsFalse, IfSome, IfNone, true};
+ghost use Rattle.std.specs.Prelude.{◌≡◌, ◌+◌, ◌-◌, ◌<◌, ◌≤◌, ℕ, List, [], ◌∷◌, length, IsTrue, IsFalse, IfSome, IfNone, true};
 ghost use Rattle.sdd_table.specs.State.{is_used, mark_of, named_by, behind_at, status_at, participant_at, local_at, weight};
-ghost use Rattle.sdd_table.specs.Steps.{released, disowned, owned_ended, shared_ended, given, given_all, participant_rotated, guard_opened, guard_closed, scanned, IsNext, Swept, AllSwept, purged, left_waiting, left_behind, enqueued, followed, set_aside, handed_over, handed_over_as, overdue, IsTimely, closings_after, scans as scans_at};
+ghost use Rattle.sdd_table.specs.Steps.{released, disowned, owned_ended, shared_ended, given, given_all, participant_rotated, guard_opened, guard_closed, scanned, IsNext, Swept, AllSwept, purged, left_waiting, enqueued, followed, set_aside, handed_over, overdue, IsTimely, LeavesOverdue, HandsFirst, closings_after, scans as scans_at};
 ghost use Rattle.sdd_table.specs.Dropping.{undone, Dropped};
-ghost use Rattle.sdd_table.specs.Place.{Sound, IsPlace, IsOwned, IsShared};
+ghost use Rattle.sdd_table.specs.Place.{Sound, IsPlace, IsOwned, IsShared, SaysLast};
 ghost use Rattle.sdd_table.specs.Frame.{OnlyParticipant};
 ghost use Rattle.sdd_table.specs.Tokens.{hold_of};
 
@@ -22,7 +22,7 @@ pub fn release<T, J: Deferred>(table: &mut Table<T, J>, p: usize, i: usize) -> b
     requires slot { i < length table.old.states }
     requires shared { (n : ℕ) × (status_at table.old i ≡ Status.Shared n) }
     ensures state { table.new ≡ released p i table.old }
-    ensures last { (n : ℕ) → status_at table.old i ≡ Status.Shared n → result ≡ leb n 1 }
+    ensures last { SaysLast result i table.old }
 {
     match table.status(i) {
         Status::Shared(owners) => {
@@ -256,7 +256,7 @@ pub fn leave_shared<T, J: Deferred>(
 ) -> bool
     requires participant { p < length table.old.participants }
     requires slot { slot < length table.old.states }
-    ensures last { (n : ℕ) → status_at table.old slot ≡ Status.Shared n → result ≡ leb n 1 }
+    ensures last { SaysLast result slot table.old }
     ensures shared { IsTrue result → IsShared table.old slot }
     ensures apart { IsTrue result → table.new ≡ set_aside p waiting.old.room waiting.old.items slot table.old }
     ensures bag { IsTrue result → waiting.new.items ≡ enqueued waiting.old.room waiting.old.items slot }
@@ -299,7 +299,7 @@ fn behind(status: Status) -> usize
 
 /// The first place of a private bag leaves it, if it is overdue.
 fn next_overdue<T, J: Deferred>(table: &Table<T, J>, waiting: &mut PrivateBag) -> Option<usize>
-    ensures some { IfSome result (λ i. (is : List ℕ) × (waiting.old.items ≡ i ∷ is) × (waiting.new.items ≡ left_behind (behind_at table.now i) is) × (overdue table.now.count (status_at table.now i) ≡ true)) }
+    ensures some { IfSome result (λ i. LeavesOverdue i waiting.old.items waiting.new.items table.now) }
     ensures none { IfNone result ((waiting.new.items ≡ waiting.old.items) × IsTimely table.now waiting.old.items) }
     ensures room { waiting.new.room ≡ waiting.old.room }
 {
@@ -328,7 +328,7 @@ pub fn purge<T: Holds, J: Deferred>(table: &mut Table<T, J>, p: usize, waiting: 
 /// The first place of a private bag leaves it, and `p` retires what is in it. Whether there was one.
 fn hand_first<T, J: Deferred>(table: &mut Table<T, J>, p: usize, waiting: &mut PrivateBag) -> bool
     requires { p < length table.old.participants }
-    ensures some { IsTrue result → (i : ℕ) × (is : List ℕ) × (waiting.old.items ≡ i ∷ is) × (waiting.new.items ≡ left_behind (behind_at table.old i) is) × (table.new ≡ handed_over_as (status_at table.old i) p i table.old) }
+    ensures some { IsTrue result → HandsFirst p waiting.old.items waiting.new.items table.old table.new }
     ensures none { IsFalse result → (waiting.old.items ≡ []) × (table.new ≡ table.old) }
     ensures known { length table.new.participants ≡ length table.old.participants }
 {

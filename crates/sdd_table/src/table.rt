@@ -4,11 +4,11 @@
 ghost use Rattle.std.specs.Prelude.{◌≡◌, ℕ, ◌+◌, ◌<◌, ◌≤◌, ◌^◌, ◌-◌, List, length, MatchOption, Some, None, OnOk, IfSome, IfNone, IfOk, IfErr, [], ◌∷◌, false, true, replicate, IsTrue, IsFalse, ◌↔◌, sum_by, vec_capacity, vec_len, ◌++◌, map, All, IsSome};
 ghost use Rattle.std.specs.Borrow.{sem};
 ghost use Rattle.std.specs.Option.Follows.{option_follows_value};
-ghost use Rattle.sdd_table.specs.State.{changing, recalled, IsIdle, NoneIdle, with_status, with_local, IsFree, NoneFree, IsFreeCell, NoCellFree, in_use, IsUnused, waiting_as, status_at, participant_at, local_at, value_at, cell_at, rotated_bags, placed, raised, nobody, TakesDue, with_cell, is_present, is_used, weight, idleness, vacancy, emptiness, fresh, slot_freed, usage};
+ghost use Rattle.sdd_table.specs.State.{changing, recalled, concluded_with, hastened, IsIdle, NoneIdle, with_status, with_local, IsFree, NoneFree, IsFreeCell, NoCellFree, in_use, IsUnused, waiting_as, status_at, participant_at, local_at, value_at, cell_at, rotated_bags, placed, raised, nobody, TakesDue, with_cell, is_present, is_used, weight, idleness, vacancy, emptiness, fresh, slot_freed, usage};
 ghost use Rattle.std.specs.List.{list_all};
 ghost use Rattle.sdd_table.specs.View.{Lists, IsFreeList};
 ghost use Rattle.sdd_table.specs.Steps.{bags_empty, NoneOpen, count_published, settled};
-ghost use Rattle.sdd_table.specs.Place.{HasItem, IsOpen, AddsOwner, AddsOwners, HasOtherOwners, LosesOwner, TakeOwners, TakesOwner, kept_at, kept_between};
+ghost use Rattle.sdd_table.specs.Place.{ClaimsCell, HasItem, PlacesItem, IsOpen, AddsOwner, AddsOwners, HasOtherOwners, LosesOwner, TakeOwners, TakesOwner, kept_at, kept_between};
 ghost use Rattle.sdd_table.specs.Tokens.{kept_slot};
 
 use crate::bags::Participants;
@@ -154,7 +154,7 @@ impl<T, J: Deferred> Table<T, J> {
     /// The outermost guard of `p` closes, with so many closings since the last scan.
     pub(crate) fn conclude(&mut self, p: usize, closings: u8)
         requires { p < length self.old.participants }
-        ensures { self.new ≡ with_local p (record (local_at self.old p) { nesting = 0; closings = closings }) self.old }
+        ensures { self.new ≡ changing p (concluded_with closings) self.old }
     {
         self.participants.conclude(p, closings);
     }
@@ -162,7 +162,7 @@ impl<T, J: Deferred> Table<T, J> {
     /// A guard of `p` is accelerated.
     pub fn accelerate(&mut self, p: usize)
         requires { p < length self.old.participants }
-        ensures { self.new ≡ with_local p (record (local_at self.old p) { accelerated = true }) self.old }
+        ensures { self.new ≡ changing p hastened self.old }
     {
         self.participants.accelerate(p);
     }
@@ -230,7 +230,7 @@ impl<T, J: Deferred> Table<T, J> {
     pub fn place(&mut self, value: T, status: Status) -> Result<usize, T>
         requires used { is_used status ≡ true }
         requires waits_not { weight status ≡ 0 }
-        ensures placed { IfOk result (λ i. IsFree self.old i × (self.new ≡ placed i value status self.old)) }
+        ensures placed { IfOk result (λ i. PlacesItem i value status self.old self.new) }
         ensures refused { IfErr result (λ v. (v ≡ value) × (self.new ≡ self.old) × NoneFree self.old) }
     {
         let Some(i) = self.free.pop() else {
@@ -454,7 +454,7 @@ impl<T, J: Deferred> Table<T, J> {
     /// Takes a free cell, if there is one.
     pub fn claim_cell(&mut self, cell: Cell) -> Option<usize>
         requires { emptiness cell ≡ 0 }
-        ensures claimed { IfSome result (λ c. IsFreeCell self.old c × (self.new ≡ with_cell c cell self.old)) }
+        ensures claimed { IfSome result (λ c. ClaimsCell c cell self.old self.new) }
         ensures refused { IfNone result ((self.new ≡ self.old) × NoCellFree self.old) }
     {
         let c = self.free_cells.pop()?;
