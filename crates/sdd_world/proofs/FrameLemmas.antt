@@ -9,14 +9,14 @@ use Rattle.sdd_table.specs.Steps.{times, count_published, participant_rotated, g
 use Rattle.sdd_table.specs.Place.{AddsOwners, Sound, IsPlace, IsOpen, IsShared, IsOwnedCell, IsSharedCell, IsRawCell, held_times}
 use Rattle.sdd_table.specs.declared.tag.Tag.{Tag}
 use Rattle.sdd_table.specs.declared.status.Cell.TheVariants as cell
-use Rattle.sdd_table.specs.Frame.{has_owner, IsLive, Protects, Frame, OnlyParticipant, IsRun, last_of}
+use Rattle.sdd_table.specs.Frame.{has_owner, IsLive, Protects, Frame, OnlyParticipant, SameNesting, IsRun, last_of}
 use Rattle.sdd_table.specs.declared.status.Status.{Status}
 use Rattle.sdd_table.specs.declared.status.Status.TheVariants as status
 use Rattle.sdd_table.specs.declared.status.LocalState.{LocalState}
 use Rattle.sdd_table.proofs.BagInvariantLemmas.{Gives, Leaves, leaves, Calms, calms, Calm, bag_waits, weight_same}
 use Rattle.sdd_table.proofs.KeepingLemmas.{adds_at, adds_only, adds_places}
 use Rattle.sdd_table.proofs.SlotLemmas.{at_most}
-use Rattle.sdd_table.proofs.PlaceLemmas.{calm_at, rotates, place_begun}
+use Rattle.sdd_table.proofs.PlaceLemmas.{calm_at, place_leaves, rotates, place_begun}
 
 pub keeps_refl : {T : Type 0} (w : State T) → Frame w w
 keeps_refl w = record { states = refl; cells = refl; participants = refl; lives = λ i l. refl; protects = λ q i o o' h. (refl, h) }
@@ -62,6 +62,24 @@ keeps_leaves {T} p w w' h g =
 -- what leaves a participant calm leaves its guards
 pub nests_calms : {T : Type 0} (p : ℕ) (w v x y : State T) → w ≡ v → x ≡ y → Calms p w y → (q : ℕ) → (local_at x q).nesting ≡ (local_at v q).nesting
 nests_calms {T} p w v x y e f g q = ap (λ (s : State T). (local_at s q).nesting) f ∙ ap (λ (c : Calm). c.nesting) (calm_at p w y g q) ∙ ap (λ (s : State T). (local_at s q).nesting) e
+
+-- what a call of participant p keeps of a place
+pub record Keeps {T : Type 0} (p : ℕ) (w w' : State T) : Type 0 where
+  pub place : IsPlace w'
+  pub frame : Frame w w'
+  pub only : OnlyParticipant p w w'
+  pub nests : SameNesting w w'
+
+-- so of the place that is seen, where w is seen as u
+pub keeps_seen : {T : Type 0} (p : ℕ) (u w x y : State T) → w ≡ u → x ≡ y → IsPlace w → p < length u.participants → (p < length w.participants → Leaves p w y) → Keeps p u x
+keeps_seen {T} p u w x y e f h known does =
+    let g : Leaves p w y = does (subst (λ (s : State T). p < length s.participants) (sym e) known) in
+    record {
+      place = is_place x y f (place_leaves w y p h g);
+      frame = kept w u x y e f (keeps_leaves p w y h.sound g);
+      only = only_of p w u x y e f g.others;
+      nests = nests_calms p w u x y e f (calms p w y g);
+    }
 
 pub keeps_gives : {T : Type 0} (p : ℕ) (w w' : State T) → Sound w → Gives p w w' → Frame w w'
 keeps_gives p w w' h g = keeps_leaves p w w' h (leaves p w w' g)

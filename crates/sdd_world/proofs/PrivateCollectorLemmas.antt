@@ -6,13 +6,13 @@ use Rattle.sdd_table.specs.Holding.{Hold}
 use Rattle.sdd_table.specs.State.{State, behind_at, status_at, value_at, participant_at, local_at, is_used, weight, with_status, retired, slot_freed}
 use Rattle.sdd_table.specs.Steps.{given_all, held_in, overdue, noted_reclaimed, left_behind, purged, purged_within, followed, followed_as, set_aside, handed_over, handed_over_as, handed_within, times, released, released_as}
 use Rattle.sdd_table.specs.Place.{Sound, IsPlace, IsOpen, IsOwned, IsShared}
-use Rattle.sdd_table.specs.Frame.{has_owner, IsLive, Protects, Frame, OnlyParticipant}
+use Rattle.sdd_table.specs.Frame.{has_owner, IsLive, Protects, Frame, OnlyParticipant, SameNesting}
 use Rattle.sdd_table.specs.declared.status.Status.{Status}
 use Rattle.sdd_table.specs.declared.status.Status.TheVariants as status
 use Rattle.sdd_table.proofs.BagInvariantLemmas.{Leaves, leaves, Calms, calms, leaves_refl, leaves_then, gives_all, gives_retired, gives_status, Calm, calm, weight_same, noted_set, gone_at, inside_by, sound_status}
 use Rattle.sdd_table.proofs.PrivateBagLemmas.{names}
 use Rattle.sdd_table.proofs.PlaceLemmas.{calm_at, place_calms, place_leaves}
-use Rattle.sdd_world.proofs.FrameLemmas.{keeps_leaves, keeps_refl}
+use Rattle.sdd_world.proofs.FrameLemmas.{Keeps, keeps_leaves, keeps_refl}
 
 module _ {T : Type 0} where
   -- a slot that waited in no bag is free
@@ -331,16 +331,16 @@ module _ {T : Type 0} where
     pub place : IsPlace v
     pub keeps : Frame w v
     pub only : OnlyParticipant p w v
-    pub nests : (q : ℕ) → (local_at v q).nesting ≡ (local_at w q).nesting
+    pub nests : SameNesting w v
     pub places : length v.states ≡ length w.states
     pub known : p < length v.participants
 
-  pub clears : (holds : T → List Hold) (p : ℕ) (is : List ℕ) (w v : State T) → IsPlace w → p < length w.participants → v ≡ purged holds p is w → Clears p w v
+  clears : (holds : T → List Hold) (p : ℕ) (is : List ℕ) (w v : State T) → IsPlace w → p < length w.participants → v ≡ purged holds p is w → Clears p w v
   clears holds p is w v h known e =
       let x : State T = purged holds p is w in
       let g = purges holds p is w h.sound known in
       let c = purges_calm p w x g in
-      let nests : (q : ℕ) → (local_at x q).nesting ≡ (local_at w q).nesting = λ q. ap (λ (c : Calm). c.nesting) (calm_at p w x c q) in
+      let nests : SameNesting w x = λ q. ap (λ (c : Calm). c.nesting) (calm_at p w x c q) in
       let all : Clears p w x = record {
         place = place_purged p w x h g;
         keeps = keeps_purged p w w x (keeps_refl w) h (λ i l. live_timely w.count (status_at w i) l) (λ q o. o) g;
@@ -351,8 +351,14 @@ module _ {T : Type 0} where
       } in
       subst (λ (y : State T). Clears p w y) (sym e) all
 
+  -- so of the place that is seen, where slot i is still there
+  pub cleared : (holds : T → List Hold) (p i j : ℕ) (is : List ℕ) (u w v : State T) → w ≡ u → IsPlace w → p < length u.participants → i ≡ j → j < length u.states → v ≡ purged holds p is w → Clears p w v × (i < length v.states)
+  cleared holds p i j is u w v e h known same inside is_v =
+      let all = clears holds p is w v h (subst (λ (x : State T). p < length x.participants) (sym e) known) is_v in
+      (all, omega (arith, all.places, ap (λ (x : State T). length x.states) e, inside, same))
+
   -- what is purged, and then changed in one slot
-  pub keeps_then : (p i : ℕ) (u w v x : State T) → w ≡ u → Clears p w v → Sets p i v x → Frame u x
+  keeps_then : (p i : ℕ) (u w v x : State T) → w ≡ u → Clears p w v → Sets p i v x → Frame u x
   keeps_then p i u w v x e c s = subst (λ (y : State T). Frame y x) e (record {
     states = s.keeps.states ∙ c.keeps.states;
     cells = s.keeps.cells ∙ c.keeps.cells;
@@ -366,11 +372,14 @@ module _ {T : Type 0} where
         (b.0 ∙ a.0, b.1);
   })
 
-  pub only_then : (p i : ℕ) (u w v x : State T) → w ≡ u → Clears p w v → Sets p i v x → OnlyParticipant p u x
+  only_then : (p i : ℕ) (u w v x : State T) → w ≡ u → Clears p w v → Sets p i v x → OnlyParticipant p u x
   only_then p i u w v x e c s = subst (λ (y : State T). OnlyParticipant p y x) e (λ k n. s.only k n ∙ c.only k n)
 
-  pub nests_then : (p i : ℕ) (u w v x : State T) → w ≡ u → Clears p w v → Sets p i v x → (q : ℕ) → (local_at x q).nesting ≡ (local_at u q).nesting
+  nests_then : (p i : ℕ) (u w v x : State T) → w ≡ u → Clears p w v → Sets p i v x → SameNesting u x
   nests_then p i u w v x e c s q = ap (λ (c : Calm). c.nesting) (calm_at p v x s.calm q) ∙ c.nests q ∙ ap (λ (s : State T). (local_at s q).nesting) e
+
+  pub collects : (p i : ℕ) (u w v x : State T) → w ≡ u → Clears p w v → Sets p i v x → Keeps p u x
+  collects p i u w v x e c s = record { place = s.place; frame = keeps_then p i u w v x e c s; only = only_then p i u w v x e c s; nests = nests_then p i u w v x e c s }
 
   -- what is handed over
   handed_one : (p i : ℕ) (s : Status) (w : State T) → s ≡ status_at w i → Sound w → p < length w.participants → Leaves p w (handed_over_as s p i w)

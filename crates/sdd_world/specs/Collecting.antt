@@ -2,7 +2,7 @@
 use Rattle.std.specs.Prelude.{◌≡◌, ℕ, List}
 use Rattle.sdd_table.specs.Holding.{Hold}
 use Rattle.sdd_table.specs.State.{State}
-use Rattle.sdd_table.specs.Steps.{set_aside, enqueued, purged, left_waiting}
+use Rattle.sdd_table.specs.Steps.{set_aside, enqueued, purged, left_waiting, released}
 use Rattle.sdd_table.specs.Place.{IsOwned}
 use Rattle.sdd_world.specs.Tokens.{waiting_in, room_of}
 use Rattle.sdd_world.specs.declared.collector.PrivateCollector.{PrivateCollector}
@@ -19,6 +19,10 @@ module _ {T : Type 0} (holds : T → List Hold) (p : ℕ) (c : PrivateCollector 
   -- p reclaims what is overdue at the front of c, and then slot i waits at the end of it
   abbrev pub collected : ℕ → State T → State T
   collected i w = set_aside p (room_of c) (left_in w) i (swept_by w)
+
+  -- p reclaims what is overdue at the front of c, and then gives an owner of the item in slot i back
+  abbrev pub swept_and_released : ℕ → State T → State T
+  swept_and_released i w = released p i (swept_by w)
 
   abbrev pub left_with : ℕ → State T → List ℕ
   left_with i w = enqueued (room_of c) (left_in w) i

@@ -7,6 +7,8 @@ use Rattle.sdd_world.specs.declared.pointer.Ptr.{Ptr}
 use Rattle.sdd_world.specs.declared.collector.PrivateCollector.{PrivateCollector}
 use Rattle.sdd_world.specs.declared.guard.WorldGuard.{WorldGuard}
 use Rattle.sdd_table.specs.declared.tag.Tag.{Tag}
+use Rattle.sdd_table.specs.declared.status.Cell.{Cell}
+use Rattle.sdd_table.specs.declared.status.Cell.TheVariants as cell
 
 -- the number of a cell of raw pointers
 abbrev pub raw_cell : {T : Type 0} → AtomicRaw T → ℕ
@@ -18,6 +20,10 @@ raw_slot r = r.slot
 
 abbrev pub raw_tag : {T : Type 0} → RawPtr T → Tag
 raw_tag r = r.tag
+
+-- what a cell keeps that names what a raw pointer names
+abbrev pub raw_word : {T : Type 0} → RawPtr T → Cell
+raw_word r = cell.OfRaw (raw_slot r) (raw_tag r)
 
 -- the slot that a pointer names, or none, and its tag
 abbrev pub ptr_slot : {T : Type 0} → Ptr T → Option ℕ

@@ -4,7 +4,7 @@ ghost use Rattle.std.specs.Prelude.{◌≡◌, ◌↔◌, ℕ, Some, IfOk, OnOk,
 ghost use Rattle.std.specs.Borrow.{LendsIfOk, sem};
 ghost use Rattle.sdd_table.specs.State.{State, value_at, with_value};
 ghost use Rattle.sdd_table.specs.Place.{IsOpen, IsOwned, IsShared, HasOneOwner};
-ghost use Rattle.sdd_world.specs.Filled.{IsFilled, slot_in};
+ghost use Rattle.sdd_world.specs.Filled.{IsFilled, slot_kept_by, with_kept};
 ghost use Rattle.sdd_world.specs.Tokens.{owned_slot, shared_slot, shared_cell};
 
 use crate::cell::AtomicShared;
@@ -42,10 +42,10 @@ pub trait ExclusiveAccess<T> {
     /// written, and nothing else has changed. Condition: the cell keeps an item.
     fn cell_mut(&mut self, cell: &AtomicShared<T>) -> Result<&mut T, NotLent>
         requires { IsFilled (state self.old) (shared_cell cell.now) }
-        ensures* lends { sem 𝓛 (LendsIfOk Self.row T.row self.entry result (λ v. with_item (slot_in (state self.entry.now) (shared_cell cell.now)) v self.entry.now) self.entry.now) }
-        ensures value { IfOk result (λ v. value_at (state self.old) (slot_in (state self.old) (shared_cell cell.now)) ≡ Some v.now) }
-        ensures sole { OnOk result (HasOneOwner (state self.old) (slot_in (state self.old) (shared_cell cell.now))) }
-        ensures others { IsErrOf result NotLent.NotSole → ¬ HasOneOwner (state self.old) (slot_in (state self.old) (shared_cell cell.now)) }
+        ensures* lends { sem 𝓛 (LendsIfOk Self.row T.row self.entry result (λ v. with_kept state with_item cell.now v self.entry.now) self.entry.now) }
+        ensures value { IfOk result (λ v. value_at (state self.old) (slot_kept_by cell.now (state self.old)) ≡ Some v.now) }
+        ensures sole { OnOk result (HasOneOwner (state self.old) (slot_kept_by cell.now (state self.old))) }
+        ensures others { IsErrOf result NotLent.NotSole → ¬ HasOneOwner (state self.old) (slot_kept_by cell.now (state self.old)) }
         ensures open { IsErrOf result NotLent.GuardsOpen ↔ ((p : ℕ) × IsOpen (state self.old) p) };
 
     /// What clauses see of a place with another value in a slot.

@@ -1,9 +1,10 @@
 //! Cells that keep the owner of an item, or none, with a tag.
 
-ghost use Rattle.std.specs.Prelude.{◌≡◌, ℕ, IfOk, IfErr, OnErr, Some, None, ◌⊎◌};
-ghost use Rattle.sdd_table.specs.State.{IsFree, NoneFree, IsFreeCell, NoCellFree, placed, with_cell};
+ghost use Rattle.std.specs.Prelude.{◌≡◌, IfOk, IfErr, OnErr, Some, None, ◌⊎◌};
+ghost use Rattle.sdd_table.specs.State.{NoneFree, IsFreeCell, NoCellFree};
 ghost use Rattle.sdd_table.specs.Frame.{Frame};
-ghost use Rattle.sdd_table.specs.Place.{IsOwnedCell};
+ghost use Rattle.sdd_table.specs.Place.{ClaimsCell, IsOwnedCell};
+ghost use Rattle.sdd_world.specs.Kinds.{KeepsOwned, MakesFilled};
 ghost use Rattle.sdd_world.specs.Tokens.{owned_cell, owned_slot};
 
 use crate::cell::AtomicOwned;
@@ -23,7 +24,7 @@ use sdd_table::tokens;
 /// returns `value`.
 pub fn new<T, J: Deferred>(w: &mut World<T, J>, value: T) -> Result<AtomicOwned<T>, T>
     ensures free { IfOk result (λ c. IsFreeCell w.old (owned_cell c)) }
-    ensures made { IfOk result (λ c. (i : ℕ) × IsFree w.old i × (w.new ≡ with_cell (owned_cell c) (Cell.OfOwned (Some i) Tag.None) (placed i value Status.Owned w.old))) }
+    ensures made { IfOk result (λ c. MakesFilled KeepsOwned (owned_cell c) value w.old w.new) }
     ensures refused { IfErr result (λ v. (v ≡ value) × (w.new ≡ w.old) × (NoneFree w.old ⊎ NoCellFree w.old)) }
     ensures used { IfOk result (λ c. IsOwnedCell w.new (owned_cell c)) }
     ensures keeps { Frame w.old w.new }
@@ -46,7 +47,7 @@ pub fn from<T, J: Deferred>(
     w: &mut World<T, J>,
     owned: Owned<T>,
 ) -> Result<AtomicOwned<T>, Owned<T>>
-    ensures made { IfOk result (λ c. IsFreeCell w.old (owned_cell c) × (w.new ≡ with_cell (owned_cell c) (Cell.OfOwned (Some (owned_slot owned)) Tag.None) w.old)) }
+    ensures made { IfOk result (λ c. ClaimsCell (owned_cell c) (Cell.OfOwned (Some (owned_slot owned)) Tag.None) w.old w.new) }
     ensures refused { IfErr result (λ o. (owned_slot o ≡ owned_slot owned) × (w.new ≡ w.old) × NoCellFree w.old) }
     ensures used { IfOk result (λ c. IsOwnedCell w.new (owned_cell c)) }
     ensures keeps { Frame w.old w.new }
@@ -62,7 +63,7 @@ pub fn from<T, J: Deferred>(
 
 /// A cell that keeps nothing, without a tag, if and only if a cell is free.
 pub fn null<T, J: Deferred>(w: &mut World<T, J>) -> Result<AtomicOwned<T>, NoSlot>
-    ensures made { IfOk result (λ c. IsFreeCell w.old (owned_cell c) × (w.new ≡ with_cell (owned_cell c) (Cell.OfOwned None Tag.None) w.old)) }
+    ensures made { IfOk result (λ c. ClaimsCell (owned_cell c) (Cell.OfOwned None Tag.None) w.old w.new) }
     ensures refused { OnErr result ((w.new ≡ w.old) × NoCellFree w.old) }
     ensures used { IfOk result (λ c. IsOwnedCell w.new (owned_cell c)) }
     ensures keeps { Frame w.old w.new }

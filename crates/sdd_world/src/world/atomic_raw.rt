@@ -1,10 +1,10 @@
 //! Cells that name an item which they don't own, or none, with a tag.
 
 ghost use Rattle.std.specs.Prelude.{◌≡◌, ◌≢◌, ℕ, IfOk, IfErr, OnOk, OnErr, Some, None, IsTrue, IsFalse, ◌↔◌, Option};
-ghost use Rattle.sdd_table.specs.State.{IsFreeCell, NoCellFree, with_cell, with_tag, cell_at};
+ghost use Rattle.sdd_table.specs.State.{NoCellFree, with_cell, with_tag, cell_at};
 ghost use Rattle.sdd_table.specs.Frame.{Frame};
-ghost use Rattle.sdd_table.specs.Place.{IsRawCell};
-ghost use Rattle.sdd_world.specs.Tokens.{raw_cell, raw_slot, raw_tag};
+ghost use Rattle.sdd_table.specs.Place.{ClaimsCell, IsRawCell};
+ghost use Rattle.sdd_world.specs.Tokens.{raw_cell, raw_slot, raw_tag, raw_word};
 
 use crate::cell::AtomicRaw;
 use crate::guard::WorldGuard;
@@ -19,7 +19,7 @@ use std::marker::PhantomData;
 /// A cell that keeps `ptr`, if and only if a cell is free.
 #[tactic(auto, using(crate::proofs::FrameLemmas::raw_cell_used))]
 pub fn new<T, J: Deferred>(w: &mut World<T, J>, ptr: RawPtr<T>) -> Result<AtomicRaw<T>, NoSlot>
-    ensures made { IfOk result (λ c. IsFreeCell w.old (raw_cell c) × (w.new ≡ with_cell (raw_cell c) (Cell.OfRaw (raw_slot ptr) (raw_tag ptr)) w.old)) }
+    ensures made { IfOk result (λ c. ClaimsCell (raw_cell c) (raw_word ptr) w.old w.new) }
     ensures refused { OnErr result ((w.new ≡ w.old) × NoCellFree w.old) }
     ensures used { IfOk result (λ c. IsRawCell w.new (raw_cell c)) }
     ensures keeps { Frame w.old w.new }
@@ -33,7 +33,7 @@ pub fn new<T, J: Deferred>(w: &mut World<T, J>, ptr: RawPtr<T>) -> Result<Atomic
 /// A cell that names nothing, without a tag, if and only if a cell is free.
 #[tactic(auto, using(crate::proofs::FrameLemmas::raw_cell_used))]
 pub fn null<T, J: Deferred>(w: &mut World<T, J>) -> Result<AtomicRaw<T>, NoSlot>
-    ensures made { IfOk result (λ c. IsFreeCell w.old (raw_cell c) × (w.new ≡ with_cell (raw_cell c) (Cell.OfRaw None Tag.None) w.old)) }
+    ensures made { IfOk result (λ c. ClaimsCell (raw_cell c) (Cell.OfRaw None Tag.None) w.old w.new) }
     ensures refused { OnErr result ((w.new ≡ w.old) × NoCellFree w.old) }
     ensures used { IfOk result (λ c. IsRawCell w.new (raw_cell c)) }
     ensures keeps { Frame w.old w.new }
@@ -47,7 +47,7 @@ pub fn null<T, J: Deferred>(w: &mut World<T, J>) -> Result<AtomicRaw<T>, NoSlot>
 /// What the cell keeps.
 pub fn load<T, J: Deferred>(w: &World<T, J>, cell: &AtomicRaw<T>, _guard: &WorldGuard) -> RawPtr<T>
     requires { IsRawCell w.now (raw_cell cell.now) }
-    ensures { cell_at w.now (raw_cell cell.now) ≡ Cell.OfRaw (raw_slot result) (raw_tag result) }
+    ensures { cell_at w.now (raw_cell cell.now) ≡ raw_word result }
 {
     match w.table.cell(cell.cell) {
         Cell::OfRaw(slot, tag) => RawPtr {
@@ -94,7 +94,7 @@ pub fn tag<T, J: Deferred>(w: &World<T, J>, cell: &AtomicRaw<T>) -> Tag
 #[tactic(auto, using(crate::proofs::FrameLemmas::raw_cell_used))]
 pub fn store<T, J: Deferred>(w: &mut World<T, J>, cell: &AtomicRaw<T>, ptr: RawPtr<T>)
     requires { IsRawCell w.old (raw_cell cell.now) }
-    ensures now { w.new ≡ with_cell (raw_cell cell.now) (Cell.OfRaw (raw_slot ptr) (raw_tag ptr)) w.old }
+    ensures now { w.new ≡ with_cell (raw_cell cell.now) (raw_word ptr) w.old }
     ensures used { IsRawCell w.new (raw_cell cell.now) }
     ensures keeps { Frame w.old w.new }
 {
@@ -109,8 +109,8 @@ pub fn swap<T, J: Deferred>(
     guard: &WorldGuard,
 ) -> RawPtr<T>
     requires { IsRawCell w.old (raw_cell cell.now) }
-    ensures was { cell_at w.old (raw_cell cell.now) ≡ Cell.OfRaw (raw_slot result) (raw_tag result) }
-    ensures now { w.new ≡ with_cell (raw_cell cell.now) (Cell.OfRaw (raw_slot ptr) (raw_tag ptr)) w.old }
+    ensures was { cell_at w.old (raw_cell cell.now) ≡ raw_word result }
+    ensures now { w.new ≡ with_cell (raw_cell cell.now) (raw_word ptr) w.old }
     ensures used { IsRawCell w.new (raw_cell cell.now) }
     ensures keeps { Frame w.old w.new }
 {
@@ -129,7 +129,7 @@ pub fn update_tag_if<T, J: Deferred, F: FnOnce(RawPtr<T>) -> bool>(
 ) -> bool
     requires cell { IsRawCell w.old (raw_cell cell.now) }
     requires callable { F.IsAlwaysCallable f }
-    ensures asked { (r : RawPtr _) × (cell_at w.old (raw_cell cell.now) ≡ Cell.OfRaw (raw_slot r) (raw_tag r)) × F.post f r result }
+    ensures asked { (r : RawPtr _) × (cell_at w.old (raw_cell cell.now) ≡ raw_word r) × F.post f r result }
     ensures tagged { IsTrue result → w.new ≡ with_cell (raw_cell cell.now) (with_tag tag (cell_at w.old (raw_cell cell.now))) w.old }
     ensures kept { IsFalse result → w.new ≡ w.old }
     ensures used { IsRawCell w.new (raw_cell cell.now) }
@@ -161,11 +161,11 @@ pub fn compare_exchange<T, J: Deferred>(
     guard: &WorldGuard,
 ) -> Result<RawPtr<T>, RawPtr<T>>
     requires { IsRawCell w.old (raw_cell cell.now) }
-    ensures was { OnOk result (cell_at w.old (raw_cell cell.now) ≡ Cell.OfRaw (raw_slot current) (raw_tag current)) }
-    ensures now { OnOk result (w.new ≡ with_cell (raw_cell cell.now) (Cell.OfRaw (raw_slot new) (raw_tag new)) w.old) }
+    ensures was { OnOk result (cell_at w.old (raw_cell cell.now) ≡ raw_word current) }
+    ensures now { OnOk result (w.new ≡ with_cell (raw_cell cell.now) (raw_word new) w.old) }
     ensures given { IfOk result (λ r. (raw_slot r ≡ raw_slot current) × (raw_tag r ≡ raw_tag current)) }
-    ensures found { IfErr result (λ r. (cell_at w.old (raw_cell cell.now) ≡ Cell.OfRaw (raw_slot r) (raw_tag r)) × (w.new ≡ w.old)) }
-    ensures differs { OnErr result (cell_at w.old (raw_cell cell.now) ≢ Cell.OfRaw (raw_slot current) (raw_tag current)) }
+    ensures found { IfErr result (λ r. (cell_at w.old (raw_cell cell.now) ≡ raw_word r) × (w.new ≡ w.old)) }
+    ensures differs { OnErr result (cell_at w.old (raw_cell cell.now) ≢ raw_word current) }
     ensures used { IsRawCell w.new (raw_cell cell.now) }
     ensures keeps { Frame w.old w.new }
 {
@@ -187,9 +187,9 @@ pub fn fetch_update<T, J: Deferred, F: FnOnce(RawPtr<T>) -> Option<RawPtr<T>>>(
 ) -> Result<RawPtr<T>, RawPtr<T>>
     requires cell { IsRawCell w.old (raw_cell cell.now) }
     requires callable { F.IsAlwaysCallable f }
-    ensures was { IfOk result (λ r. cell_at w.old (raw_cell cell.now) ≡ Cell.OfRaw (raw_slot r) (raw_tag r)) }
-    ensures updated { IfOk result (λ r. (n : RawPtr _) × F.post f r (Some n) × (w.new ≡ with_cell (raw_cell cell.now) (Cell.OfRaw (raw_slot n) (raw_tag n)) w.old)) }
-    ensures kept { IfErr result (λ r. (cell_at w.old (raw_cell cell.now) ≡ Cell.OfRaw (raw_slot r) (raw_tag r)) × F.post f r None × (w.new ≡ w.old)) }
+    ensures was { IfOk result (λ r. cell_at w.old (raw_cell cell.now) ≡ raw_word r) }
+    ensures updated { IfOk result (λ r. (n : RawPtr _) × F.post f r (Some n) × (w.new ≡ with_cell (raw_cell cell.now) (raw_word n) w.old)) }
+    ensures kept { IfErr result (λ r. (cell_at w.old (raw_cell cell.now) ≡ raw_word r) × F.post f r None × (w.new ≡ w.old)) }
     ensures used { IsRawCell w.new (raw_cell cell.now) }
     ensures keeps { Frame w.old w.new }
 {

@@ -1,9 +1,10 @@
 //! Cells that keep one owner of an item, or none, with a tag.
 
-ghost use Rattle.std.specs.Prelude.{◌≡◌, ◌<◌, ℕ, IfOk, IfErr, IfSome, IfNone, OnErr, Some, None, ◌⊎◌, Option, is_some, true};
-ghost use Rattle.sdd_table.specs.State.{IsFree, NoneFree, IsFreeCell, NoCellFree, placed, value_at, with_cell, cell_at, status_at};
+ghost use Rattle.std.specs.Prelude.{◌≡◌, ℕ, IfOk, IfErr, IfSome, IfNone, OnErr, Some, None, ◌⊎◌, is_some, true};
+ghost use Rattle.sdd_table.specs.State.{NoneFree, IsFreeCell, NoCellFree, value_at, cell_at};
 ghost use Rattle.sdd_table.specs.Frame.{Frame};
-ghost use Rattle.sdd_table.specs.Place.{IsReadable, IsShared, IsSharedCell, AddsOwner, TakesNoOwner, CopiesCell};
+ghost use Rattle.sdd_table.specs.Place.{ClaimsCell, HasOwnersLeft, IsReadable, IsShared, IsSharedCell, CopiesCell};
+ghost use Rattle.sdd_world.specs.Kinds.{KeepsShared, AddsOwnerOfKept, KeptTakesNoOwner, MakesFilled, OfKept};
 ghost use Rattle.sdd_world.specs.Tokens.{loaded_slot, shared_cell, shared_slot};
 
 use crate::cell::AtomicShared;
@@ -26,7 +27,7 @@ use sdd_table::tokens;
 /// returns `value`.
 pub fn new<T, J: Deferred>(w: &mut World<T, J>, value: T) -> Result<AtomicShared<T>, T>
     ensures free { IfOk result (λ c. IsFreeCell w.old (shared_cell c)) }
-    ensures made { IfOk result (λ c. (i : ℕ) × IsFree w.old i × (w.new ≡ with_cell (shared_cell c) (Cell.OfShared (Some i) Tag.None) (placed i value (Status.Shared 1) w.old))) }
+    ensures made { IfOk result (λ c. MakesFilled KeepsShared (shared_cell c) value w.old w.new) }
     ensures refused { IfErr result (λ v. (v ≡ value) × (w.new ≡ w.old) × (NoneFree w.old ⊎ NoCellFree w.old)) }
     ensures used { IfOk result (λ c. IsSharedCell w.new (shared_cell c)) }
     ensures keeps { Frame w.old w.new }
@@ -49,7 +50,7 @@ pub fn from<T, J: Deferred>(
     w: &mut World<T, J>,
     shared: Shared<T>,
 ) -> Result<AtomicShared<T>, Shared<T>>
-    ensures made { IfOk result (λ c. IsFreeCell w.old (shared_cell c) × (w.new ≡ with_cell (shared_cell c) (Cell.OfShared (Some (shared_slot shared)) Tag.None) w.old)) }
+    ensures made { IfOk result (λ c. ClaimsCell (shared_cell c) (Cell.OfShared (Some (shared_slot shared)) Tag.None) w.old w.new) }
     ensures refused { IfErr result (λ o. (shared_slot o ≡ shared_slot shared) × (w.new ≡ w.old) × NoCellFree w.old) }
     ensures used { IfOk result (λ c. IsSharedCell w.new (shared_cell c)) }
     ensures keeps { Frame w.old w.new }
@@ -65,7 +66,7 @@ pub fn from<T, J: Deferred>(
 
 /// A cell that keeps nothing, without a tag, if and only if a cell is free.
 pub fn null<T, J: Deferred>(w: &mut World<T, J>) -> Result<AtomicShared<T>, NoSlot>
-    ensures made { IfOk result (λ c. IsFreeCell w.old (shared_cell c) × (w.new ≡ with_cell (shared_cell c) (Cell.OfShared None Tag.None) w.old)) }
+    ensures made { IfOk result (λ c. ClaimsCell (shared_cell c) (Cell.OfShared None Tag.None) w.old w.new) }
     ensures refused { OnErr result ((w.new ≡ w.old) × NoCellFree w.old) }
     ensures used { IfOk result (λ c. IsSharedCell w.new (shared_cell c)) }
     ensures keeps { Frame w.old w.new }
@@ -121,9 +122,9 @@ pub fn get_shared<T, J: Deferred>(
     _guard: &WorldGuard,
 ) -> Option<Shared<T>>
     requires { IsSharedCell w.old (shared_cell cell.now) }
-    ensures more { IfSome result (λ s. (tag : Tag) × (cell_at w.old (shared_cell cell.now) ≡ Cell.OfShared (Some (shared_slot s)) tag) × AddsOwner (shared_slot s) w.old w.new) }
-    ensures room { IfSome result (λ s. (n : ℕ) → status_at w.old (shared_slot s) ≡ Status.Shared n → n < 4294967295) }
-    ensures none { IfNone result ((w.new ≡ w.old) × ((i : ℕ) (tag : Tag) → cell_at w.old (shared_cell cell.now) ≡ Cell.OfShared (Some i) tag → TakesNoOwner i w.old)) }
+    ensures more { IfSome result (λ s. AddsOwnerOfKept (shared_slot s) (shared_cell cell.now) w.old w.new) }
+    ensures room { IfSome result (λ s. HasOwnersLeft (shared_slot s) w.old) }
+    ensures none { IfNone result ((w.new ≡ w.old) × KeptTakesNoOwner (shared_cell cell.now) w.old) }
     ensures live { IfSome result (λ s. IsShared w.new (shared_slot s)) }
     ensures keeps { Frame w.old w.new }
 {
@@ -145,7 +146,7 @@ pub fn clone<T, J: Deferred>(
     ensures free { IfOk result (λ c. IsFreeCell w.old (shared_cell c)) }
     ensures used { IfOk result (λ c. IsSharedCell w.new (shared_cell c)) }
     ensures refused { OnErr result ((w.new ≡ w.old) × NoCellFree w.old) }
-    ensures copied { (item : Option ℕ) (tag : Tag) → cell_at w.old (shared_cell cell.now) ≡ Cell.OfShared item tag → IfOk result (λ c. CopiesCell (shared_cell c) item tag w.old w.new) }
+    ensures copied { OfKept KeepsShared w.old (shared_cell cell.now) (λ item tag. IfOk result (λ c. CopiesCell (shared_cell c) item tag w.old w.new)) }
     ensures keeps { Frame w.old w.new }
 {
     if w.table.has_no_cell() {

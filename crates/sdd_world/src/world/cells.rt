@@ -2,9 +2,9 @@
 
 ghost use Rattle.std.specs.Prelude.{◌≡◌, ◌≢◌, ◌<◌, ℕ, Option, None, IsTrue, IsFalse, IfOk, IfErr, OnOk, OnErr, ◌↔◌, length};
 ghost use Rattle.std.specs.Option.{option_map};
-ghost use Rattle.sdd_table.specs.State.{cell_at, local_at, with_cell, with_tag};
-ghost use Rattle.sdd_table.specs.Frame.{Frame, OnlyParticipant};
-ghost use Rattle.sdd_world.specs.Kinds.{CellKind, KeepsOwned, KeepsShared, IsCellOf, cell_of, cell_ended};
+ghost use Rattle.sdd_table.specs.State.{cell_at, with_cell, with_tag};
+ghost use Rattle.sdd_table.specs.Frame.{Frame, OnlyParticipant, SameNesting};
+ghost use Rattle.sdd_world.specs.Kinds.{CellKind, KeepsOwned, KeepsShared, KeepsPtr, IsCellOf, OfKept, cell_of, cell_ended};
 ghost use Rattle.sdd_world.specs.Tokens.{owned_cell, owned_slot, shared_cell, shared_slot, ptr_slot, ptr_tag};
 
 use crate::cell::{AtomicOwned, AtomicShared};
@@ -147,7 +147,7 @@ pub fn load<T, J: Deferred, C: OwningCell<T>>(
     _guard: &WorldGuard,
 ) -> Ptr<'static, T>
     requires { IsCellOf C.kind w.now (C.number cell.now) }
-    ensures { cell_at w.now (C.number cell.now) ≡ cell_of C.kind (ptr_slot result) (ptr_tag result) }
+    ensures { KeepsPtr C.kind w.now (C.number cell.now) result }
 {
     let (slot, tag) = kept(w, cell);
     Ptr {
@@ -170,7 +170,7 @@ pub fn is_here<T, J: Deferred, C: OwningCell<T>>(w: &World<T, J>, cell: &C) -> b
 /// Whether the cell keeps nothing.
 pub fn is_null<T, J: Deferred, C: OwningCell<T>>(w: &World<T, J>, cell: &C) -> bool
     requires { IsCellOf C.kind w.now (C.number cell.now) }
-    ensures { (item : Option ℕ) (tag : Tag) → cell_at w.now (C.number cell.now) ≡ cell_of C.kind item tag → IsTrue result ↔ (item ≡ None) }
+    ensures { OfKept C.kind w.now (C.number cell.now) (λ item tag. IsTrue result ↔ (item ≡ None)) }
 {
     kept(w, cell).0.is_none()
 }
@@ -178,7 +178,7 @@ pub fn is_null<T, J: Deferred, C: OwningCell<T>>(w: &World<T, J>, cell: &C) -> b
 /// The tag of the cell.
 pub fn tag<T, J: Deferred, C: OwningCell<T>>(w: &World<T, J>, cell: &C) -> Tag
     requires { IsCellOf C.kind w.now (C.number cell.now) }
-    ensures { (item : Option ℕ) (tag : Tag) → cell_at w.now (C.number cell.now) ≡ cell_of C.kind item tag → result ≡ tag }
+    ensures { OfKept C.kind w.now (C.number cell.now) (λ item tag. result ≡ tag) }
 {
     kept(w, cell).1
 }
@@ -234,11 +234,11 @@ pub fn compare_exchange<T, J: Deferred, C: OwningCell<T>>(
     _guard: &WorldGuard,
 ) -> Result<(Option<C::Owner>, Ptr<'static, T>), (Option<C::Owner>, Ptr<'static, T>)>
     requires { IsCellOf C.kind w.old (C.number cell.now) }
-    ensures was { OnOk result (cell_at w.old (C.number cell.now) ≡ cell_of C.kind (ptr_slot current.entry) (ptr_tag current.entry)) }
+    ensures was { OnOk result (KeepsPtr C.kind w.old (C.number cell.now) current.entry) }
     ensures now { OnOk result (w.new ≡ with_cell (C.number cell.now) (cell_of C.kind (option_map C.slot new.0) new.1) w.old) }
     ensures given { IfOk result (λ r. (option_map C.slot r.0 ≡ ptr_slot current.entry) × (ptr_slot r.1 ≡ option_map C.slot new.0) × (ptr_tag r.1 ≡ new.1)) }
-    ensures found { IfErr result (λ r. (cell_at w.old (C.number cell.now) ≡ cell_of C.kind (ptr_slot r.1) (ptr_tag r.1)) × (option_map C.slot r.0 ≡ option_map C.slot new.0) × (w.new ≡ w.old)) }
-    ensures differs { OnErr result (cell_at w.old (C.number cell.now) ≢ cell_of C.kind (ptr_slot current.entry) (ptr_tag current.entry)) }
+    ensures found { IfErr result (λ r. KeepsPtr C.kind w.old (C.number cell.now) r.1 × (option_map C.slot r.0 ≡ option_map C.slot new.0) × (w.new ≡ w.old)) }
+    ensures differs { OnErr result (¬ KeepsPtr C.kind w.old (C.number cell.now) current.entry) }
     ensures used { IsCellOf C.kind w.new (C.number cell.now) }
     ensures keeps { Frame w.old w.new }
 {
@@ -275,11 +275,11 @@ pub fn compare_exchange_weak<T, J: Deferred, C: OwningCell<T>>(
     guard: &WorldGuard,
 ) -> Result<(Option<C::Owner>, Ptr<'static, T>), (Option<C::Owner>, Ptr<'static, T>)>
     requires { IsCellOf C.kind w.old (C.number cell.now) }
-    ensures was { OnOk result (cell_at w.old (C.number cell.now) ≡ cell_of C.kind (ptr_slot current.entry) (ptr_tag current.entry)) }
+    ensures was { OnOk result (KeepsPtr C.kind w.old (C.number cell.now) current.entry) }
     ensures now { OnOk result (w.new ≡ with_cell (C.number cell.now) (cell_of C.kind (option_map C.slot new.0) new.1) w.old) }
     ensures given { IfOk result (λ r. (option_map C.slot r.0 ≡ ptr_slot current.entry) × (ptr_slot r.1 ≡ option_map C.slot new.0) × (ptr_tag r.1 ≡ new.1)) }
-    ensures found { IfErr result (λ r. (cell_at w.old (C.number cell.now) ≡ cell_of C.kind (ptr_slot r.1) (ptr_tag r.1)) × (option_map C.slot r.0 ≡ option_map C.slot new.0) × (w.new ≡ w.old)) }
-    ensures differs { OnErr result (cell_at w.old (C.number cell.now) ≢ cell_of C.kind (ptr_slot current.entry) (ptr_tag current.entry)) }
+    ensures found { IfErr result (λ r. KeepsPtr C.kind w.old (C.number cell.now) r.1 × (option_map C.slot r.0 ≡ option_map C.slot new.0) × (w.new ≡ w.old)) }
+    ensures differs { OnErr result (¬ KeepsPtr C.kind w.old (C.number cell.now) current.entry) }
     ensures used { IsCellOf C.kind w.new (C.number cell.now) }
     ensures keeps { Frame w.old w.new }
 {
@@ -306,7 +306,7 @@ pub fn retire<T, J: Deferred, C: OwningCell<T>>(w: &mut World<T, J>, cell: C, p:
     requires participant { p < length w.old.participants }
     requires cell { IsCellOf C.kind w.old (C.number cell) }
     ensures ended { w.new ≡ cell_ended C.kind p (C.number cell) w.old }
-    ensures nests { (q : ℕ) → (local_at w.new q).nesting ≡ (local_at w.old q).nesting }
+    ensures nests { SameNesting w.old w.new }
     ensures keeps { Frame w.old w.new }
     ensures only { OnlyParticipant p w.old w.new }
 {

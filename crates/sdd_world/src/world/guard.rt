@@ -3,7 +3,7 @@
 ghost use Rattle.std.specs.Prelude.{◌≡◌, ◌<◌, ◌%◌, true, ℕ, length, IfOk, IfErr, OnOk, OnErr, IsErr, ◌↔◌, IsTrue, IsFalse};
 ghost use Rattle.sdd_table.specs.State.{with_local, local_at, waiting_as, IsIdle, NoneIdle};
 ghost use Rattle.sdd_table.specs.Steps.{guard_opened, guard_closed};
-ghost use Rattle.sdd_table.specs.Frame.{Frame, OnlyParticipant};
+ghost use Rattle.sdd_table.specs.Frame.{Frame, OnlyParticipant, SameNesting};
 ghost use Rattle.sdd_table.specs.Place.{IsOpen};
 ghost use Rattle.sdd_world.specs.Tokens.{guard_participant};
 
@@ -48,7 +48,7 @@ pub fn is_open<T, J: Deferred>(w: &World<T, J>, guard: &WorldGuard) -> bool
 pub fn accelerate<T, J: Deferred>(w: &mut World<T, J>, guard: &WorldGuard)
     requires { guard_participant guard.now < length w.old.participants }
     ensures set { w.new ≡ with_local (guard_participant guard.now) (record (local_at w.old (guard_participant guard.now)) { accelerated = true }) w.old }
-    ensures nests { (q : ℕ) → (local_at w.new q).nesting ≡ (local_at w.old q).nesting }
+    ensures nests { SameNesting w.old w.new }
     ensures keeps { Frame w.old w.new }
     ensures only { OnlyParticipant (guard_participant guard.now) w.old w.new }
 {
@@ -67,7 +67,7 @@ pub fn has_garbage<T, J: Deferred>(w: &World<T, J>, guard: &WorldGuard) -> bool
 pub fn set_has_garbage<T, J: Deferred>(w: &mut World<T, J>, guard: &WorldGuard)
     requires { guard_participant guard.now < length w.old.participants }
     ensures set { w.new ≡ with_local (guard_participant guard.now) (record (local_at w.old (guard_participant guard.now)) { garbage = true }) w.old }
-    ensures nests { (q : ℕ) → (local_at w.new q).nesting ≡ (local_at w.old q).nesting }
+    ensures nests { SameNesting w.old w.new }
     ensures keeps { Frame w.old w.new }
     ensures only { OnlyParticipant (guard_participant guard.now) w.old w.new }
 {
@@ -86,7 +86,7 @@ pub fn defer_execute<T, J: Deferred>(
     requires { guard_participant guard.now < length w.old.participants }
     ensures deferred { OnOk result ((i : ℕ) × IsIdle w.old i × (w.new ≡ waiting_as Status.Deferred (guard_participant guard.now) i w.old)) }
     ensures refused { IfErr result (λ j. (j ≡ job) × (w.new ≡ w.old) × NoneIdle w.old) }
-    ensures nests { (q : ℕ) → (local_at w.new q).nesting ≡ (local_at w.old q).nesting }
+    ensures nests { SameNesting w.old w.new }
     ensures keeps { Frame w.old w.new }
     ensures only { OnlyParticipant (guard_participant guard.now) w.old w.new }
 {

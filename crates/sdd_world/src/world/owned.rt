@@ -2,11 +2,11 @@
 
 ghost use Rattle.std.specs.Prelude.{◌≡◌, ◌≢◌, ◌<◌, ℕ, length, IfOk, IfErr, IfSome, OnOk, OnErr, Some, None, ◌↔◌, IfNone, IsErr, IsTrue, IsFalse};
 ghost use Rattle.std.specs.Borrow.{LendsIfOk, sem};
-ghost use Rattle.sdd_table.specs.State.{local_at, IsFree, NoneFree, placed, value_at, retired, with_status, status_at};
-ghost use Rattle.sdd_table.specs.Frame.{Frame, OnlyParticipant};
+ghost use Rattle.sdd_table.specs.State.{IsFree, NoneFree, placed, value_at, retired, with_status, status_at};
+ghost use Rattle.sdd_table.specs.Frame.{Frame, OnlyParticipant, SameNesting};
 ghost use Rattle.sdd_table.specs.Dropping.{Dropped};
 ghost use Rattle.sdd_table.specs.Holding.{OwnedItem};
-ghost use Rattle.sdd_table.specs.Place.{IsOpen, IsOwned};
+ghost use Rattle.sdd_table.specs.Place.{IsOpen, IsOwned, OwnsRaw, PlacesItem};
 ghost use Rattle.sdd_world.specs.Tokens.{owned_slot, ptr_slot, ptr_tag, raw_slot, raw_tag};
 
 use crate::exclusive_access::ExclusiveAccess;
@@ -24,7 +24,7 @@ use std::marker::PhantomData;
 
 /// Makes an item of `value`, if and only if a slot is free; else returns `value`.
 pub fn new<T, J: Deferred>(w: &mut World<T, J>, value: T) -> Result<Owned<T>, T>
-    ensures placed { IfOk result (λ o. IsFree w.old (owned_slot o) × (w.new ≡ placed (owned_slot o) value Status.Owned w.old)) }
+    ensures placed { IfOk result (λ o. PlacesItem (owned_slot o) value Status.Owned w.old w.new) }
     ensures refused { IfErr result (λ v. (v ≡ value) × (w.new ≡ w.old) × NoneFree w.old) }
     ensures live { IfOk result (λ o. IsOwned w.new (owned_slot o)) }
     ensures value { IfOk result (λ o. value_at w.new (owned_slot o) ≡ Some value) }
@@ -130,7 +130,7 @@ pub fn into_raw<T, J: Deferred>(w: &mut World<T, J>, owned: Owned<T>) -> RawPtr<
 
 /// The owner of an item that is out as a raw pointer; none where the pointer is null or names another item.
 pub fn from_raw<T, J: Deferred>(w: &mut World<T, J>, ptr: RawPtr<T>) -> Option<Owned<T>>
-    ensures some { IfSome result (λ o. (raw_slot ptr ≡ Some (owned_slot o)) × (status_at w.old (owned_slot o) ≡ Status.Raw) × (w.new ≡ with_status (owned_slot o) Status.Owned w.old)) }
+    ensures some { IfSome result (λ o. (raw_slot ptr ≡ Some (owned_slot o)) × OwnsRaw (owned_slot o) w.old w.new) }
     ensures none { IfNone result ((w.new ≡ w.old) × IfSome (raw_slot ptr) (λ i. status_at w.old i ≢ Status.Raw)) }
     ensures live { IfSome result (λ o. IsOwned w.new (owned_slot o)) }
     ensures keeps { Frame w.old w.new }
@@ -171,7 +171,7 @@ pub fn retire<T, J: Deferred>(w: &mut World<T, J>, owned: Owned<T>, p: usize)
     requires participant { p < length w.old.participants }
     requires live { IsOwned w.old (owned_slot owned) }
     ensures retired { w.new ≡ retired p (owned_slot owned) w.old }
-    ensures nests { (q : ℕ) → (local_at w.new q).nesting ≡ (local_at w.old q).nesting }
+    ensures nests { SameNesting w.old w.new }
     ensures keeps { Frame w.old w.new }
     ensures only { OnlyParticipant p w.old w.new }
 {

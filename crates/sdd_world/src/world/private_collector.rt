@@ -3,12 +3,11 @@
 //! Each `collect` first reclaims what was noted at least three raises before, which no guard that is open can name any
 //! more, and notes the count of raises of what it takes in.
 
-ghost use Rattle.std.specs.Prelude.{◌≡◌, ◌<◌, ℕ, [], length, leb, IfOk, IsOk, IsTrue, IsFalse};
-ghost use Rattle.sdd_table.specs.State.{status_at, local_at};
-ghost use Rattle.sdd_table.specs.Steps.{released, handed_over};
-ghost use Rattle.sdd_world.specs.Collecting.{CollectsOwned, collected, left_with, swept_by, left_in};
-ghost use Rattle.sdd_table.specs.Frame.{Frame, OnlyParticipant};
-ghost use Rattle.sdd_table.specs.Place.{IsOwned, IsShared};
+ghost use Rattle.std.specs.Prelude.{◌≡◌, ◌<◌, [], length, IfOk, IsOk, IsTrue, IsFalse};
+ghost use Rattle.sdd_table.specs.Steps.{handed_over};
+ghost use Rattle.sdd_world.specs.Collecting.{CollectsOwned, collected, left_with, swept_and_released, swept_by, left_in};
+ghost use Rattle.sdd_table.specs.Frame.{Frame, OnlyParticipant, SameNesting};
+ghost use Rattle.sdd_table.specs.Place.{IsOwned, IsShared, SaysLast};
 ghost use Rattle.sdd_world.specs.Tokens.{owned_slot, shared_slot, guard_participant, waiting_in, room_of};
 
 use crate::collector::PrivateCollector;
@@ -16,7 +15,6 @@ use crate::guard::WorldGuard;
 use crate::holds::Holds;
 use crate::job::Deferred;
 use crate::owner::{Owned, Shared};
-use crate::status::Status;
 use crate::world::World;
 use sdd_table::{PrivateBag, reclaim, tokens};
 use std::alloc::{AllocError, Global};
@@ -52,7 +50,7 @@ pub fn collect_owned<T: Holds, J: Deferred>(
     requires live { IsOwned w.old (owned_slot owned) }
     ensures collects { CollectsOwned T.holds (guard_participant guard.now) collector.old (owned_slot owned) collector.new w.old w.new }
     ensures room { room_of collector.new ≡ room_of collector.old }
-    ensures nests { (q : ℕ) → (local_at w.new q).nesting ≡ (local_at w.old q).nesting }
+    ensures nests { SameNesting w.old w.new }
     ensures keeps { Frame w.old w.new }
     ensures only { OnlyParticipant (guard_participant guard.now) w.old w.new }
 {
@@ -73,14 +71,14 @@ pub fn collect_shared<T: Holds, J: Deferred>(
 ) -> bool
     requires participant { guard_participant guard.now < length w.old.participants }
     requires live { IsShared w.old (shared_slot shared) }
-    ensures last { (n : ℕ) → status_at (swept_by T.holds (guard_participant guard.now) collector.old w.old) (shared_slot shared) ≡ Status.Shared n → result ≡ leb n 1 }
+    ensures last { SaysLast result (shared_slot shared) (swept_by T.holds (guard_participant guard.now) collector.old w.old) }
     ensures shared { IsTrue result → IsShared (swept_by T.holds (guard_participant guard.now) collector.old w.old) (shared_slot shared) }
     ensures state { IsTrue result → w.new ≡ collected T.holds (guard_participant guard.now) collector.old (shared_slot shared) w.old }
     ensures left { IsTrue result → waiting_in collector.new ≡ left_with T.holds (guard_participant guard.now) collector.old (shared_slot shared) w.old }
-    ensures released { IsFalse result → w.new ≡ released (guard_participant guard.now) (shared_slot shared) (swept_by T.holds (guard_participant guard.now) collector.old w.old) }
+    ensures released { IsFalse result → w.new ≡ swept_and_released T.holds (guard_participant guard.now) collector.old (shared_slot shared) w.old }
     ensures others { IsFalse result → waiting_in collector.new ≡ left_in T.holds (guard_participant guard.now) collector.old w.old }
     ensures room { room_of collector.new ≡ room_of collector.old }
-    ensures nests { (q : ℕ) → (local_at w.new q).nesting ≡ (local_at w.old q).nesting }
+    ensures nests { SameNesting w.old w.new }
     ensures keeps { Frame w.old w.new }
     ensures only { OnlyParticipant (guard_participant guard.now) w.old w.new }
 {
@@ -94,7 +92,7 @@ pub fn collect_shared<T: Holds, J: Deferred>(
 pub fn hand_over<T, J: Deferred>(w: &mut World<T, J>, collector: PrivateCollector<T>, p: usize)
     requires { p < length w.old.participants }
     ensures handed { w.new ≡ handed_over p (waiting_in collector) w.old }
-    ensures nests { (q : ℕ) → (local_at w.new q).nesting ≡ (local_at w.old q).nesting }
+    ensures nests { SameNesting w.old w.new }
     ensures keeps { Frame w.old w.new }
     ensures only { OnlyParticipant p w.old w.new }
 {

@@ -1,13 +1,13 @@
 //! Items with counted owners.
 
-ghost use Rattle.std.specs.Prelude.{◌≡◌, ◌<◌, ◌≤◌, ◌+◌, ◌-◌, ◌++◌, ℕ, length, leb, map, vec_capacity, IfOk, IfErr, IfSome, OnErr, Some, None, IfNone, IsTrue, ◌↔◌, OnOk, IsErr, IsErrOf, IsSome, IsFalse};
+ghost use Rattle.std.specs.Prelude.{◌≡◌, ◌<◌, ◌≤◌, ◌+◌, ◌-◌, ◌++◌, ℕ, length, map, vec_capacity, IfOk, IfErr, IfSome, OnErr, Some, None, IfNone, IsTrue, ◌↔◌, OnOk, IsErr, IsErrOf, IsSome, IsFalse};
 ghost use Rattle.std.specs.Borrow.{LendsIfOk, sem};
-ghost use Rattle.sdd_table.specs.State.{local_at, IsFree, NoneFree, placed, value_at, status_at};
+ghost use Rattle.sdd_table.specs.State.{IsFree, NoneFree, placed, value_at, status_at};
 ghost use Rattle.sdd_table.specs.Steps.{released};
-ghost use Rattle.sdd_table.specs.Frame.{Frame, OnlyParticipant};
+ghost use Rattle.sdd_table.specs.Frame.{Frame, OnlyParticipant, SameNesting};
 ghost use Rattle.sdd_table.specs.Dropping.{Dropped};
 ghost use Rattle.sdd_table.specs.Holding.{SharedItem};
-ghost use Rattle.sdd_table.specs.Place.{HasItem, IsOpen, IsShared, HasOneOwner, AddsOwner, AddsOwners, TakeOwners, TakesNoOwner, TakesOwner, kept_at, kept_between};
+ghost use Rattle.sdd_table.specs.Place.{HasItem, HasOwnersLeft, IsOpen, IsShared, HasOneOwner, PlacesItem, SaysLast, AddsOwner, AddsOwners, TakeOwners, TakesNoOwner, TakesOwner, kept_at, kept_between};
 ghost use Rattle.sdd_world.specs.Tokens.{kept_slot, loaded_slot, shared_slot, ptr_slot, ptr_tag};
 
 use crate::exclusive_access::ExclusiveAccess;
@@ -25,7 +25,7 @@ use std::marker::PhantomData;
 
 /// Makes an item of `value` with one owner, if and only if a slot is free; else returns `value`.
 pub fn new<T, J: Deferred>(w: &mut World<T, J>, value: T) -> Result<Shared<T>, T>
-    ensures placed { IfOk result (λ s. IsFree w.old (shared_slot s) × (w.new ≡ placed (shared_slot s) value (Status.Shared 1) w.old)) }
+    ensures placed { IfOk result (λ s. PlacesItem (shared_slot s) value (Status.Shared 1) w.old w.new) }
     ensures refused { IfErr result (λ v. (v ≡ value) × (w.new ≡ w.old) × NoneFree w.old) }
     ensures live { IfOk result (λ s. IsShared w.new (shared_slot s)) }
     ensures value { IfOk result (λ o. value_at w.new (shared_slot o) ≡ Some value) }
@@ -138,8 +138,8 @@ pub fn release<T, J: Deferred>(w: &mut World<T, J>, shared: Shared<T>, p: usize)
     requires participant { p < length w.old.participants }
     requires live { IsShared w.old (shared_slot shared) }
     ensures released { w.new ≡ released p (shared_slot shared) w.old }
-    ensures last { (n : ℕ) → status_at w.old (shared_slot shared) ≡ Status.Shared n → result ≡ leb n 1 }
-    ensures nests { (q : ℕ) → (local_at w.new q).nesting ≡ (local_at w.old q).nesting }
+    ensures last { SaysLast result (shared_slot shared) w.old }
+    ensures nests { SameNesting w.old w.new }
     ensures keeps { Frame w.old w.new }
     ensures only { OnlyParticipant p w.old w.new }
 {
@@ -156,7 +156,7 @@ pub fn drop_in_place<T: Holds, J: Deferred>(
 ) -> Result<bool, Shared<T>>
     requires { IsShared w.old (shared_slot shared) }
     ensures dropped { OnOk result (Dropped T.holds (SharedItem (shared_slot shared)) w.old w.new) }
-    ensures last { IfOk result (λ last. (n : ℕ) → status_at w.old (shared_slot shared) ≡ Status.Shared n → last ≡ leb n 1) }
+    ensures last { IfOk result (λ last. SaysLast last (shared_slot shared) w.old) }
     ensures back { IfErr result (λ s. (shared_slot s ≡ shared_slot shared) × (w.new ≡ w.old)) }
     ensures open { IsErr result ↔ ((p : ℕ) × IsOpen w.old p) }
     ensures guarded { (q : ℕ) → IsOpen w.old q → Frame w.old w.new }
@@ -255,7 +255,7 @@ pub fn try_from<T, J: Deferred>(
 ) -> Result<Shared<T>, Ptr<'static, T>>
     ensures more { IfOk result (λ s. (ptr_slot at.entry ≡ Some (shared_slot s)) × AddsOwner (shared_slot s) w.old w.new) }
     ensures back { IfErr result (λ r. (ptr_slot r ≡ ptr_slot at.entry) × (ptr_tag r ≡ ptr_tag at.entry) × (w.new ≡ w.old)) }
-    ensures room { IfOk result (λ s. (n : ℕ) → status_at w.old (shared_slot s) ≡ Status.Shared n → n < 4294967295) }
+    ensures room { IfOk result (λ s. HasOwnersLeft (shared_slot s) w.old) }
     ensures none { OnErr result (IfSome (ptr_slot at.entry) (λ i. TakesNoOwner i w.old)) }
     ensures live { IfOk result (λ s. IsShared w.new (shared_slot s)) }
     ensures keeps { Frame w.old w.new }

@@ -1,76 +1,33 @@
-use Rattle.std.proofs.Common.{ℕ, subst, sym, ◌<◌, length, arith}
-use Rattle.sdd_table.specs.State.{State}
-use Rattle.sdd_table.specs.Place.{IsOwned}
-use Rattle.sdd_world.specs.Tokens.{owned_slot, guard_participant, waiting_in}
-use Rattle.sdd_world.proofs.PrivateCollectorLemmas.{sets_owned_left, clears, keeps_then, only_then, nests_then}
+use Rattle.std.proofs.Common.{◌<◌, length}
+use Rattle.sdd_world.specs.Tokens.{guard_participant, waiting_in}
+use Rattle.sdd_world.proofs.FrameLemmas.{Keeps}
+use Rattle.sdd_world.proofs.PrivateCollectorLemmas.{Clears, cleared, collects, sets_owned_left}
 use Rattle.sdd_world.proofs.world.private_collector.collect_owned.Goals as goal
 
+-- what waits since three raises is reclaimed, and the item is still there
+swept : (g : _) (c : goal.After-leave_owned-arg-2-1 g) → Clears (guard_participant c.args.guard.now) c.w.inside.table c.purge.new.table × (c.spend_owned-slot.result < length c.purge.new.table.states)
+swept g c = cleared g.T.Holds.holds _ c.spend_owned-slot.result _ (waiting_in c.args.collector.now) _ _ _ c.w.view_is c.w.invariant c.requires.participant c.spend_owned-slot.ensures c.requires.live.inside c.purge.ensures.state
+
+-- and then it is left
+left : (g : _) (c : goal.After-leave_owned-kept g) → Keeps (guard_participant c.args.guard.now) c.args.w.now c.leave_owned-kept.new.table
+left g c =
+    let v = cleared g.T.Holds.holds _ c.spend_owned-slot.result _ (waiting_in c.args.collector.now) _ _ _ c.w.view_is c.w.invariant c.requires.participant c.spend_owned-slot.ensures c.requires.live.inside c.purge.ensures.state in
+    collects _ _ _ _ _ _ c.w.view_is v.0 (sets_owned_left c.leave_owned-kept.result _ _ c.spend_owned-slot.result c.purge.new.waiting.items c.purge.new.table c.leave_owned-kept.new.table v.0.place v.0.known v.1 c.leave_owned-kept.ensures.owned c.leave_owned-kept.ensures.apart c.leave_owned-kept.ensures.gone)
+
 pub invariant_of-w : goal.invariant_of-w
-invariant_of-w g c =
-    let w = c.w.inside.table in
-    let p = guard_participant c.args.guard.now in
-    let i = c.spend_owned-slot.result in
-    let known : p < length w.participants = subst (λ (w : State _). p < length w.participants) (sym c.w.view_is) c.requires.participant in
-    let live : IsOwned w i = subst (λ (n : ℕ). IsOwned w n) (sym c.spend_owned-slot.ensures) (subst (λ (w : State _). IsOwned w (owned_slot c.args.owned)) (sym c.w.view_is) c.requires.live) in
-    let v = clears g.T.Holds.holds p (waiting_in c.args.collector.now) w c.purge.new.table c.w.invariant known c.purge.ensures.state in
-    let inside : i < length c.purge.new.table.states = omega (arith, v.places, live.inside) in
-    let s = sets_owned_left c.leave_owned-kept.result p _ i c.purge.new.waiting.items c.purge.new.table c.leave_owned-kept.new.table v.place v.known inside c.leave_owned-kept.ensures.owned c.leave_owned-kept.ensures.apart c.leave_owned-kept.ensures.gone in
-    s.place
+invariant_of-w g c = (left g c).place
 
 pub returns-clause-keeps : goal.returns-clause-keeps
-returns-clause-keeps g c =
-    let w = c.w.inside.table in
-    let p = guard_participant c.args.guard.now in
-    let i = c.spend_owned-slot.result in
-    let known : p < length w.participants = subst (λ (w : State _). p < length w.participants) (sym c.w.view_is) c.requires.participant in
-    let live : IsOwned w i = subst (λ (n : ℕ). IsOwned w n) (sym c.spend_owned-slot.ensures) (subst (λ (w : State _). IsOwned w (owned_slot c.args.owned)) (sym c.w.view_is) c.requires.live) in
-    let v = clears g.T.Holds.holds p (waiting_in c.args.collector.now) w c.purge.new.table c.w.invariant known c.purge.ensures.state in
-    let inside : i < length c.purge.new.table.states = omega (arith, v.places, live.inside) in
-    let s = sets_owned_left c.leave_owned-kept.result p _ i c.purge.new.waiting.items c.purge.new.table c.leave_owned-kept.new.table v.place v.known inside c.leave_owned-kept.ensures.owned c.leave_owned-kept.ensures.apart c.leave_owned-kept.ensures.gone in
-    keeps_then p i _ w _ _ c.w.view_is v s
+returns-clause-keeps g c = (left g c).frame
 
 pub returns-clause-only : goal.returns-clause-only
-returns-clause-only g c =
-    let w = c.w.inside.table in
-    let p = guard_participant c.args.guard.now in
-    let i = c.spend_owned-slot.result in
-    let known : p < length w.participants = subst (λ (w : State _). p < length w.participants) (sym c.w.view_is) c.requires.participant in
-    let live : IsOwned w i = subst (λ (n : ℕ). IsOwned w n) (sym c.spend_owned-slot.ensures) (subst (λ (w : State _). IsOwned w (owned_slot c.args.owned)) (sym c.w.view_is) c.requires.live) in
-    let v = clears g.T.Holds.holds p (waiting_in c.args.collector.now) w c.purge.new.table c.w.invariant known c.purge.ensures.state in
-    let inside : i < length c.purge.new.table.states = omega (arith, v.places, live.inside) in
-    let s = sets_owned_left c.leave_owned-kept.result p _ i c.purge.new.waiting.items c.purge.new.table c.leave_owned-kept.new.table v.place v.known inside c.leave_owned-kept.ensures.owned c.leave_owned-kept.ensures.apart c.leave_owned-kept.ensures.gone in
-    only_then p i _ w _ _ c.w.view_is v s
+returns-clause-only g c = (left g c).only
 
 pub returns-clause-nests : goal.returns-clause-nests
-returns-clause-nests g c =
-    let w = c.w.inside.table in
-    let p = guard_participant c.args.guard.now in
-    let i = c.spend_owned-slot.result in
-    let known : p < length w.participants = subst (λ (w : State _). p < length w.participants) (sym c.w.view_is) c.requires.participant in
-    let live : IsOwned w i = subst (λ (n : ℕ). IsOwned w n) (sym c.spend_owned-slot.ensures) (subst (λ (w : State _). IsOwned w (owned_slot c.args.owned)) (sym c.w.view_is) c.requires.live) in
-    let v = clears g.T.Holds.holds p (waiting_in c.args.collector.now) w c.purge.new.table c.w.invariant known c.purge.ensures.state in
-    let inside : i < length c.purge.new.table.states = omega (arith, v.places, live.inside) in
-    let s = sets_owned_left c.leave_owned-kept.result p _ i c.purge.new.waiting.items c.purge.new.table c.leave_owned-kept.new.table v.place v.known inside c.leave_owned-kept.ensures.owned c.leave_owned-kept.ensures.apart c.leave_owned-kept.ensures.gone in
-    nests_then p i _ w _ _ c.w.view_is v s
+returns-clause-nests g c = (left g c).nests
 
 pub leave_owned-kept-requires-clause-participant : goal.leave_owned-kept-requires-clause-participant
-leave_owned-kept-requires-clause-participant g c =
-    let w = c.w.inside.table in
-    let p = guard_participant c.args.guard.now in
-    let i = c.spend_owned-slot.result in
-    let known : p < length w.participants = subst (λ (w : State _). p < length w.participants) (sym c.w.view_is) c.requires.participant in
-    let live : IsOwned w i = subst (λ (n : ℕ). IsOwned w n) (sym c.spend_owned-slot.ensures) (subst (λ (w : State _). IsOwned w (owned_slot c.args.owned)) (sym c.w.view_is) c.requires.live) in
-    let v = clears g.T.Holds.holds p (waiting_in c.args.collector.now) w c.purge.new.table c.w.invariant known c.purge.ensures.state in
-    let inside : i < length c.purge.new.table.states = omega (arith, v.places, live.inside) in
-    v.known
+leave_owned-kept-requires-clause-participant g c = (swept g c).0.known
 
 pub leave_owned-kept-requires-clause-slot : goal.leave_owned-kept-requires-clause-slot
-leave_owned-kept-requires-clause-slot g c =
-    let w = c.w.inside.table in
-    let p = guard_participant c.args.guard.now in
-    let i = c.spend_owned-slot.result in
-    let known : p < length w.participants = subst (λ (w : State _). p < length w.participants) (sym c.w.view_is) c.requires.participant in
-    let live : IsOwned w i = subst (λ (n : ℕ). IsOwned w n) (sym c.spend_owned-slot.ensures) (subst (λ (w : State _). IsOwned w (owned_slot c.args.owned)) (sym c.w.view_is) c.requires.live) in
-    let v = clears g.T.Holds.holds p (waiting_in c.args.collector.now) w c.purge.new.table c.w.invariant known c.purge.ensures.state in
-    let inside : i < length c.purge.new.table.states = omega (arith, v.places, live.inside) in
-    inside
+leave_owned-kept-requires-clause-slot g c = (swept g c).1

@@ -1,76 +1,33 @@
-use Rattle.std.proofs.Common.{ℕ, subst, sym, ◌<◌, length, arith}
-use Rattle.sdd_table.specs.State.{State}
-use Rattle.sdd_table.specs.Place.{IsShared}
-use Rattle.sdd_world.specs.Tokens.{shared_slot, guard_participant, waiting_in}
-use Rattle.sdd_world.proofs.PrivateCollectorLemmas.{sets_shared_left, clears, keeps_then, only_then, nests_then}
+use Rattle.std.proofs.Common.{◌<◌, length}
+use Rattle.sdd_world.specs.Tokens.{guard_participant, waiting_in}
+use Rattle.sdd_world.proofs.FrameLemmas.{Keeps}
+use Rattle.sdd_world.proofs.PrivateCollectorLemmas.{Clears, cleared, collects, sets_shared_left}
 use Rattle.sdd_world.proofs.world.private_collector.collect_shared.Goals as goal
 
+-- what waits since three raises is reclaimed, and the item is still there
+swept : (g : _) (c : goal.After-leave_shared-arg-2-1 g) → Clears (guard_participant c.args.guard.now) c.w.inside.table c.purge.new.table × (c.spend_shared-slot.result < length c.purge.new.table.states)
+swept g c = cleared g.T.Holds.holds _ c.spend_shared-slot.result _ (waiting_in c.args.collector.now) _ _ _ c.w.view_is c.w.invariant c.requires.participant c.spend_shared-slot.ensures c.requires.live.inside c.purge.ensures.state
+
+-- and then it is left
+left : (g : _) (c : goal.After-leave_shared g) → Keeps (guard_participant c.args.guard.now) c.args.w.now c.leave_shared.new.table
+left g c =
+    let v = cleared g.T.Holds.holds _ c.spend_shared-slot.result _ (waiting_in c.args.collector.now) _ _ _ c.w.view_is c.w.invariant c.requires.participant c.spend_shared-slot.ensures c.requires.live.inside c.purge.ensures.state in
+    collects _ _ _ _ _ _ c.w.view_is v.0 (sets_shared_left c.leave_shared.result _ _ c.spend_shared-slot.result c.purge.new.waiting.items c.purge.new.table c.leave_shared.new.table v.0.place v.0.known v.1 c.leave_shared.ensures.shared c.leave_shared.ensures.apart c.leave_shared.ensures.given)
+
 pub invariant_of-w : goal.invariant_of-w
-invariant_of-w g c =
-    let w = c.w.inside.table in
-    let p = guard_participant c.args.guard.now in
-    let i = c.spend_shared-slot.result in
-    let known : p < length w.participants = subst (λ (w : State _). p < length w.participants) (sym c.w.view_is) c.requires.participant in
-    let live : IsShared w i = subst (λ (n : ℕ). IsShared w n) (sym c.spend_shared-slot.ensures) (subst (λ (w : State _). IsShared w (shared_slot c.args.shared)) (sym c.w.view_is) c.requires.live) in
-    let v = clears g.T.Holds.holds p (waiting_in c.args.collector.now) w c.purge.new.table c.w.invariant known c.purge.ensures.state in
-    let inside : i < length c.purge.new.table.states = omega (arith, v.places, live.inside) in
-    let s = sets_shared_left c.leave_shared.result p _ i c.purge.new.waiting.items c.purge.new.table c.leave_shared.new.table v.place v.known inside c.leave_shared.ensures.shared c.leave_shared.ensures.apart c.leave_shared.ensures.given in
-    s.place
+invariant_of-w g c = (left g c).place
 
 pub returns-clause-keeps : goal.returns-clause-keeps
-returns-clause-keeps g c =
-    let w = c.w.inside.table in
-    let p = guard_participant c.args.guard.now in
-    let i = c.spend_shared-slot.result in
-    let known : p < length w.participants = subst (λ (w : State _). p < length w.participants) (sym c.w.view_is) c.requires.participant in
-    let live : IsShared w i = subst (λ (n : ℕ). IsShared w n) (sym c.spend_shared-slot.ensures) (subst (λ (w : State _). IsShared w (shared_slot c.args.shared)) (sym c.w.view_is) c.requires.live) in
-    let v = clears g.T.Holds.holds p (waiting_in c.args.collector.now) w c.purge.new.table c.w.invariant known c.purge.ensures.state in
-    let inside : i < length c.purge.new.table.states = omega (arith, v.places, live.inside) in
-    let s = sets_shared_left c.leave_shared.result p _ i c.purge.new.waiting.items c.purge.new.table c.leave_shared.new.table v.place v.known inside c.leave_shared.ensures.shared c.leave_shared.ensures.apart c.leave_shared.ensures.given in
-    keeps_then p i _ w _ _ c.w.view_is v s
+returns-clause-keeps g c = (left g c).frame
 
 pub returns-clause-only : goal.returns-clause-only
-returns-clause-only g c =
-    let w = c.w.inside.table in
-    let p = guard_participant c.args.guard.now in
-    let i = c.spend_shared-slot.result in
-    let known : p < length w.participants = subst (λ (w : State _). p < length w.participants) (sym c.w.view_is) c.requires.participant in
-    let live : IsShared w i = subst (λ (n : ℕ). IsShared w n) (sym c.spend_shared-slot.ensures) (subst (λ (w : State _). IsShared w (shared_slot c.args.shared)) (sym c.w.view_is) c.requires.live) in
-    let v = clears g.T.Holds.holds p (waiting_in c.args.collector.now) w c.purge.new.table c.w.invariant known c.purge.ensures.state in
-    let inside : i < length c.purge.new.table.states = omega (arith, v.places, live.inside) in
-    let s = sets_shared_left c.leave_shared.result p _ i c.purge.new.waiting.items c.purge.new.table c.leave_shared.new.table v.place v.known inside c.leave_shared.ensures.shared c.leave_shared.ensures.apart c.leave_shared.ensures.given in
-    only_then p i _ w _ _ c.w.view_is v s
+returns-clause-only g c = (left g c).only
 
 pub returns-clause-nests : goal.returns-clause-nests
-returns-clause-nests g c =
-    let w = c.w.inside.table in
-    let p = guard_participant c.args.guard.now in
-    let i = c.spend_shared-slot.result in
-    let known : p < length w.participants = subst (λ (w : State _). p < length w.participants) (sym c.w.view_is) c.requires.participant in
-    let live : IsShared w i = subst (λ (n : ℕ). IsShared w n) (sym c.spend_shared-slot.ensures) (subst (λ (w : State _). IsShared w (shared_slot c.args.shared)) (sym c.w.view_is) c.requires.live) in
-    let v = clears g.T.Holds.holds p (waiting_in c.args.collector.now) w c.purge.new.table c.w.invariant known c.purge.ensures.state in
-    let inside : i < length c.purge.new.table.states = omega (arith, v.places, live.inside) in
-    let s = sets_shared_left c.leave_shared.result p _ i c.purge.new.waiting.items c.purge.new.table c.leave_shared.new.table v.place v.known inside c.leave_shared.ensures.shared c.leave_shared.ensures.apart c.leave_shared.ensures.given in
-    nests_then p i _ w _ _ c.w.view_is v s
+returns-clause-nests g c = (left g c).nests
 
 pub leave_shared-requires-clause-participant : goal.leave_shared-requires-clause-participant
-leave_shared-requires-clause-participant g c =
-    let w = c.w.inside.table in
-    let p = guard_participant c.args.guard.now in
-    let i = c.spend_shared-slot.result in
-    let known : p < length w.participants = subst (λ (w : State _). p < length w.participants) (sym c.w.view_is) c.requires.participant in
-    let live : IsShared w i = subst (λ (n : ℕ). IsShared w n) (sym c.spend_shared-slot.ensures) (subst (λ (w : State _). IsShared w (shared_slot c.args.shared)) (sym c.w.view_is) c.requires.live) in
-    let v = clears g.T.Holds.holds p (waiting_in c.args.collector.now) w c.purge.new.table c.w.invariant known c.purge.ensures.state in
-    let inside : i < length c.purge.new.table.states = omega (arith, v.places, live.inside) in
-    v.known
+leave_shared-requires-clause-participant g c = (swept g c).0.known
 
 pub leave_shared-requires-clause-slot : goal.leave_shared-requires-clause-slot
-leave_shared-requires-clause-slot g c =
-    let w = c.w.inside.table in
-    let p = guard_participant c.args.guard.now in
-    let i = c.spend_shared-slot.result in
-    let known : p < length w.participants = subst (λ (w : State _). p < length w.participants) (sym c.w.view_is) c.requires.participant in
-    let live : IsShared w i = subst (λ (n : ℕ). IsShared w n) (sym c.spend_shared-slot.ensures) (subst (λ (w : State _). IsShared w (shared_slot c.args.shared)) (sym c.w.view_is) c.requires.live) in
-    let v = clears g.T.Holds.holds p (waiting_in c.args.collector.now) w c.purge.new.table c.w.invariant known c.purge.ensures.state in
-    let inside : i < length c.purge.new.table.states = omega (arith, v.places, live.inside) in
-    inside
+leave_shared-requires-clause-slot g c = (swept g c).1
