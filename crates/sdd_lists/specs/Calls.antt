@@ -22,6 +22,10 @@ module _ {L : Type 0} where
   abbrev pub Empties : State L → State L → AtomicShared L → Option (Shared L) → Type 0
   Empties w w' from taken = (o : Option ℕ) (t : Tag) → cell_at w (shared_cell from) ≡ cell.OfShared o t → (shared_slots taken ≡ o) × (w' ≡ with_cell (shared_cell from) (cell.OfShared None t) w)
 
+  -- a cell that kept nothing keeps the owner that is given, or none, with the tag that it had
+  abbrev pub FillsEmpty : State L → State L → AtomicShared L → Option (Shared L) → Type 0
+  FillsEmpty w w' at given = (t : Tag) → cell_at w (shared_cell at) ≡ cell.OfShared None t → w' ≡ with_cell (shared_cell at) (cell.OfShared (shared_slots given) t) w
+
   -- the entry in slot i hangs before all others
   abbrev pub HangsFirst : (L → Option ℕ) → State L → State L → AtomicShared L → ℕ → Type 0
   HangsFirst link w w' from i = (t : Tag) (es : List (Entry L)) (e : Entry L) → IsList link w (shared_cell from) t es → IsDetached link w e → FitsBefore (shared_cell from) es e → i ≡ e.slot → IsList link w' (shared_cell from) t (e ∷ es) × Leaves (shared_cell from ∷ e.link ∷ []) [] w w'
@@ -37,6 +41,14 @@ module _ {L : Type 0} where
   -- of what is in use, at most a list changes: its cell, its links and its entries
   abbrev pub OnlyList : (L → Option ℕ) → State L → State L → AtomicShared L → Type 0
   OnlyList link w w' from = OfList link w from (λ t es. Leaves (shared_cell from ∷ links es) (slots es) w w')
+
+  -- whatever entry slot o names
+  abbrev pub OfEntry : (L → Option ℕ) → State L → Option ℕ → (Entry L → Type 0) → Type 0
+  OfEntry link w o P = (e : Entry L) → NamesEntry link w o e → P e
+
+  -- of what is in use, at most the link of the entry that slot o names changes
+  abbrev pub OnlyLink : (L → Option ℕ) → State L → State L → Option ℕ → Type 0
+  OnlyLink link w w' o = OfEntry link w o (λ e. Leaves (e.link ∷ []) [] w w')
 
   -- whatever entry slot o names, and the list behind it
   abbrev pub OfNode : (L → Option ℕ) → State L → Option ℕ → (Entry L → List (Entry L) → Type 0) → Type 0

@@ -37,6 +37,10 @@ marked tag.First = true
 marked tag.Second = false
 marked tag.Both = false
 
+-- the tag of a marked entry, or of a clear one
+abbrev pub mark_tag : Bool → Tag
+mark_tag mark = cond mark tag.First tag.None
+
 -- a list in which the entry in slot i has another tag
 abbrev pub retagged : {L : Type 0} → ℕ → Tag → List (Entry L) → List (Entry L)
 retagged i u [] = []

@@ -8,7 +8,7 @@ ghost use Rattle.sdd_world.specs.Frame.{OnlyParticipant};
 ghost use Rattle.sdd_world.specs.Place.{IsSharedCell};
 ghost use Rattle.sdd_world.specs.Tokens.{shared_cell, shared_slot, shared_slots, link_cell};
 ghost use Rattle.sdd_lists.specs.Chain.{Entry, IsItem, IsList, Hangs, HasLink, IsDetached, TookFirst, Stays, CanHang, deleted, BeginsWithItem, skip, undeleted, first_item, first_slot, front_tag, slots, SameUses, MoreOwners, OneMore};
-ghost use Rattle.sdd_lists.specs.Calls.{DropsFirst, Empties, HangsFirst, OfList, OnlyList};
+ghost use Rattle.sdd_lists.specs.Calls.{DropsFirst, Empties, FillsEmpty, HangsFirst, OfList, OnlyList};
 
 use crate::linked_list::LinkedList;
 use sdd_world::cell::AtomicShared;
@@ -42,7 +42,7 @@ pub fn take<L, J: Deferred>(w: &mut World<L, J>, cell: &AtomicShared<L>) -> Opti
 /// Fills an empty cell, which keeps its tag.
 pub fn fill<L, J: Deferred>(w: &mut World<L, J>, cell: &AtomicShared<L>, item: Option<Shared<L>>)
     requires { (t : Tag) × (cell_at w.old (shared_cell cell.now) ≡ Cell.OfShared None t) }
-    ensures filled { (t : Tag) → cell_at w.old (shared_cell cell.now) ≡ Cell.OfShared None t → w.new ≡ with_cell (shared_cell cell.now) (Cell.OfShared (shared_slots item) t) w.old }
+    ensures filled { FillsEmpty w.old w.new cell.now item }
     ensures participants { w.new.participants ≡ w.old.participants }
     ensures stays { Stays w.old w.new }
 {

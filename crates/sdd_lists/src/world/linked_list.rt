@@ -2,13 +2,12 @@
 
 ghost use Rattle.std.specs.Prelude.{◌≡◌, ◌<◌, ◌+◌, ℕ, List, [], ◌∷◌, true, ◌↔◌, cond, Some, IfSome, IfNone, IfOk, IfErr, OnOk, IsErr, IsTrue, IsFalse, not};
 ghost use Rattle.sdd_world.specs.Tokens.{ptr_slot, ptr_tag, link_cell, shared_slot};
-ghost use Rattle.sdd_world.specs.State.{status_at, with_status};
-ghost use Rattle.sdd_world.specs.Place.{IsShared};
+ghost use Rattle.sdd_world.specs.Place.{AddsOwner, IsShared};
 ghost use Rattle.sdd_world.specs.Steps.{released};
 ghost use Rattle.sdd_world.specs.declared.tag.Tag.{Tag};
 ghost use Rattle.sdd_lists.specs.Chain.{Entry, IsList, Leaves, Stays, deleted, undeleted, skip, first_slot, front_tag};
-ghost use Rattle.sdd_lists.specs.Nodes.{NamesEntry, NamesSomeEntry, IsListed, CanInsert, Inserts, Retags, clear, marked};
-ghost use Rattle.sdd_lists.specs.Calls.{NextIsFull, OfInsertion, OfNode};
+ghost use Rattle.sdd_lists.specs.Nodes.{NamesSomeEntry, IsListed, CanInsert, Inserts, Retags, clear, mark_tag, marked};
+ghost use Rattle.sdd_lists.specs.Calls.{NextIsFull, OfEntry, OfInsertion, OfNode, OnlyLink};
 
 use crate::linked_list::LinkedList;
 use crate::world::chain;
@@ -24,7 +23,7 @@ use sdd_world::world::{World, atomic_shared};
 /// The link of the entry that `at` names.
 fn link_at<L: LinkedList, J: Deferred>(w: &World<L, J>, at: &Ptr<'static, L>) -> Link<L>
     requires { NamesSomeEntry L.link w.now (ptr_slot at.now) }
-    ensures { (e : Entry L) → NamesEntry L.link w.now (ptr_slot at.now) e → link_cell result ≡ e.link }
+    ensures { OfEntry L.link w.now (ptr_slot at.now) (λ e. link_cell result ≡ e.link) }
 {
     match w.read(at) {
         Some(item) => Link::of(item.link_ref()),
@@ -35,7 +34,7 @@ fn link_at<L: LinkedList, J: Deferred>(w: &World<L, J>, at: &Ptr<'static, L>) ->
 /// The tag of the entry that `at` names.
 fn tag_of<L: LinkedList, J: Deferred>(w: &World<L, J>, at: &Ptr<'static, L>) -> Tag
     requires { NamesSomeEntry L.link w.now (ptr_slot at.now) }
-    ensures { (e : Entry L) → NamesEntry L.link w.now (ptr_slot at.now) e → result ≡ e.tag }
+    ensures { OfEntry L.link w.now (ptr_slot at.now) (λ e. result ≡ e.tag) }
 {
     atomic_shared::tag(w, link_at(w, at).cell())
 }
@@ -43,8 +42,8 @@ fn tag_of<L: LinkedList, J: Deferred>(w: &World<L, J>, at: &Ptr<'static, L>) -> 
 /// Gives the entry that `at` names another tag.
 fn set_tag<L: LinkedList, J: Deferred>(w: &mut World<L, J>, at: &Ptr<'static, L>, tag: Tag)
     requires { NamesSomeEntry L.link w.old (ptr_slot at.now) }
-    ensures retags { (e : Entry L) → NamesEntry L.link w.old (ptr_slot at.now) e → Retags L.link w.old w.new e tag }
-    ensures leaves { (e : Entry L) → NamesEntry L.link w.old (ptr_slot at.now) e → Leaves (e.link ∷ []) [] w.old w.new }
+    ensures retags { OfEntry L.link w.old (ptr_slot at.now) (λ e. Retags L.link w.old w.new e tag) }
+    ensures leaves { OfEntry L.link w.old (ptr_slot at.now) (λ e. Leaves (e.link ∷ []) [] w.old w.new) }
     ensures participants { w.new.participants ≡ w.old.participants }
     ensures stays { Stays w.old w.new }
 {
@@ -76,7 +75,7 @@ fn is_marked_tag(tag: Tag) -> bool
 /// Whether the entry that `at` names is neither marked nor deleted.
 pub fn is_clear<L: LinkedList, J: Deferred>(w: &World<L, J>, at: Ptr<'static, L>) -> bool
     requires { NamesSomeEntry L.link w.now (ptr_slot at) }
-    ensures { (e : Entry L) → NamesEntry L.link w.now (ptr_slot at.entry) e → result ≡ clear e.tag }
+    ensures { OfEntry L.link w.now (ptr_slot at.entry) (λ e. result ≡ clear e.tag) }
 {
     is_clear_tag(tag_of(w, &at))
 }
@@ -84,7 +83,7 @@ pub fn is_clear<L: LinkedList, J: Deferred>(w: &World<L, J>, at: Ptr<'static, L>
 /// Whether the entry that `at` names is marked.
 pub fn is_marked<L: LinkedList, J: Deferred>(w: &World<L, J>, at: Ptr<'static, L>) -> bool
     requires { NamesSomeEntry L.link w.now (ptr_slot at) }
-    ensures { (e : Entry L) → NamesEntry L.link w.now (ptr_slot at.entry) e → result ≡ marked e.tag }
+    ensures { OfEntry L.link w.now (ptr_slot at.entry) (λ e. result ≡ marked e.tag) }
 {
     is_marked_tag(tag_of(w, &at))
 }
@@ -92,7 +91,7 @@ pub fn is_marked<L: LinkedList, J: Deferred>(w: &World<L, J>, at: Ptr<'static, L
 /// Whether the entry that `at` names is deleted.
 pub fn is_deleted<L: LinkedList, J: Deferred>(w: &World<L, J>, at: Ptr<'static, L>) -> bool
     requires { NamesSomeEntry L.link w.now (ptr_slot at) }
-    ensures { (e : Entry L) → NamesEntry L.link w.now (ptr_slot at.entry) e → result ≡ deleted e.tag }
+    ensures { OfEntry L.link w.now (ptr_slot at.entry) (λ e. result ≡ deleted e.tag) }
 {
     chain::is_deleted(tag_of(w, &at))
 }
@@ -100,10 +99,10 @@ pub fn is_deleted<L: LinkedList, J: Deferred>(w: &World<L, J>, at: Ptr<'static, 
 /// Marks a clear entry, and answers whether it was clear.
 pub fn mark<L: LinkedList, J: Deferred>(w: &mut World<L, J>, at: Ptr<'static, L>) -> bool
     requires { NamesSomeEntry L.link w.old (ptr_slot at) }
-    ensures when { (e : Entry L) → NamesEntry L.link w.old (ptr_slot at.entry) e → result ≡ clear e.tag }
-    ensures marked { IsTrue result → (e : Entry L) → NamesEntry L.link w.old (ptr_slot at.entry) e → Retags L.link w.old w.new e Tag.First }
+    ensures when { OfEntry L.link w.old (ptr_slot at.entry) (λ e. result ≡ clear e.tag) }
+    ensures marked { IsTrue result → OfEntry L.link w.old (ptr_slot at.entry) (λ e. Retags L.link w.old w.new e Tag.First) }
     ensures kept { IsFalse result → w.new ≡ w.old }
-    ensures leaves { (e : Entry L) → NamesEntry L.link w.old (ptr_slot at.entry) e → Leaves (e.link ∷ []) [] w.old w.new }
+    ensures leaves { OnlyLink L.link w.old w.new (ptr_slot at.entry) }
     ensures participants { w.new.participants ≡ w.old.participants }
     ensures stays { Stays w.old w.new }
 {
@@ -117,10 +116,10 @@ pub fn mark<L: LinkedList, J: Deferred>(w: &mut World<L, J>, at: Ptr<'static, L>
 /// Clears a marked entry, and answers whether it was marked.
 pub fn unmark<L: LinkedList, J: Deferred>(w: &mut World<L, J>, at: Ptr<'static, L>) -> bool
     requires { NamesSomeEntry L.link w.old (ptr_slot at) }
-    ensures when { (e : Entry L) → NamesEntry L.link w.old (ptr_slot at.entry) e → result ≡ marked e.tag }
-    ensures cleared { IsTrue result → (e : Entry L) → NamesEntry L.link w.old (ptr_slot at.entry) e → Retags L.link w.old w.new e Tag.None }
+    ensures when { OfEntry L.link w.old (ptr_slot at.entry) (λ e. result ≡ marked e.tag) }
+    ensures cleared { IsTrue result → OfEntry L.link w.old (ptr_slot at.entry) (λ e. Retags L.link w.old w.new e Tag.None) }
     ensures kept { IsFalse result → w.new ≡ w.old }
-    ensures leaves { (e : Entry L) → NamesEntry L.link w.old (ptr_slot at.entry) e → Leaves (e.link ∷ []) [] w.old w.new }
+    ensures leaves { OnlyLink L.link w.old w.new (ptr_slot at.entry) }
     ensures participants { w.new.participants ≡ w.old.participants }
     ensures stays { Stays w.old w.new }
 {
@@ -135,10 +134,10 @@ pub fn unmark<L: LinkedList, J: Deferred>(w: &mut World<L, J>, at: Ptr<'static, 
 /// its list.
 pub fn delete_self<L: LinkedList, J: Deferred>(w: &mut World<L, J>, at: Ptr<'static, L>) -> bool
     requires { NamesSomeEntry L.link w.old (ptr_slot at) }
-    ensures when { (e : Entry L) → NamesEntry L.link w.old (ptr_slot at.entry) e → result ≡ not (deleted e.tag) }
-    ensures deleted { IsTrue result → (e : Entry L) → NamesEntry L.link w.old (ptr_slot at.entry) e → Retags L.link w.old w.new e Tag.Second }
+    ensures when { OfEntry L.link w.old (ptr_slot at.entry) (λ e. result ≡ not (deleted e.tag)) }
+    ensures deleted { IsTrue result → OfEntry L.link w.old (ptr_slot at.entry) (λ e. Retags L.link w.old w.new e Tag.Second) }
     ensures kept { IsFalse result → w.new ≡ w.old }
-    ensures leaves { (e : Entry L) → NamesEntry L.link w.old (ptr_slot at.entry) e → Leaves (e.link ∷ []) [] w.old w.new }
+    ensures leaves { OnlyLink L.link w.old w.new (ptr_slot at.entry) }
     ensures participants { w.new.participants ≡ w.old.participants }
     ensures stays { Stays w.old w.new }
 {
@@ -151,7 +150,7 @@ pub fn delete_self<L: LinkedList, J: Deferred>(w: &mut World<L, J>, at: Ptr<'sta
 
 /// The tag of a marked entry, or of a clear one.
 fn mark_of(mark: bool) -> Tag
-    ensures { result ≡ cond mark Tag.First Tag.None }
+    ensures { result ≡ mark_tag mark }
 {
     if mark { Tag::First } else { Tag::None }
 }
@@ -167,10 +166,10 @@ pub fn push_back<L: LinkedList, J: Deferred>(
     guard: &WorldGuard,
 ) -> Result<Ptr<'static, L>, Shared<L>>
     requires { CanInsert L.link w.old (ptr_slot at) (shared_slot entry) }
-    ensures when { (e : Entry L) → NamesEntry L.link w.old (ptr_slot at.entry) e → IsErr result ↔ (deleted e.tag ≡ true) }
+    ensures when { OfEntry L.link w.old (ptr_slot at.entry) (λ e. IsErr result ↔ (deleted e.tag ≡ true)) }
     ensures back { IfErr result (λ s. (shared_slot s ≡ shared_slot entry) × (w.new ≡ w.old)) }
-    ensures pointer { IfOk result (λ r. (ptr_slot r ≡ Some (shared_slot entry)) × (ptr_tag r ≡ cond mark Tag.First Tag.None)) }
-    ensures pushed { OnOk result (OfInsertion L.link w.old (ptr_slot at.entry) (shared_slot entry) (λ e x. Inserts L.link w.old w.new e (cond mark Tag.First Tag.None) x)) }
+    ensures pointer { IfOk result (λ r. (ptr_slot r ≡ Some (shared_slot entry)) × (ptr_tag r ≡ mark_tag mark)) }
+    ensures pushed { OnOk result (OfInsertion L.link w.old (ptr_slot at.entry) (shared_slot entry) (λ e x. Inserts L.link w.old w.new e (mark_tag mark) x)) }
     ensures leaves { OfInsertion L.link w.old (ptr_slot at.entry) (shared_slot entry) (λ e x. Leaves (e.link ∷ x.link ∷ []) [] w.old w.new) }
     ensures participants { w.new.participants ≡ w.old.participants }
     ensures stays { Stays w.old w.new }
@@ -196,16 +195,14 @@ pub fn next_ptr<L: LinkedList, J: Deferred>(
     ensures node { IfSome (ptr_slot result) (λ i. NamesSomeEntry L.link w.now (Some i)) }
     ensures listed { IfSome (ptr_slot result) (λ i. IsListed L.link w.now (Some i)) }
 {
-    match w.read(&at) {
-        Some(item) => atomic_shared::load(w, chain::skip_from(w, item.link_ref()), guard),
-        None => unreachable!(),
-    }
+    let link = next_link(w, &at);
+    atomic_shared::load(w, link.cell(), guard)
 }
 
 /// The link behind the entry that `at` names and the deleted ones after it.
 fn next_link<L: LinkedList, J: Deferred>(w: &World<L, J>, at: &Ptr<'static, L>) -> Link<L>
     requires { IsListed L.link w.now (ptr_slot at.now) }
-    ensures { OfNode L.link w.now (ptr_slot at.now) (λ e es. (u : Tag) × IsList L.link w.now (link_cell result) u (skip es)) }
+    ensures { OfNode L.link w.now (ptr_slot at.now) (λ e es. (u : Tag) × IsList L.link w.now (link_cell result) u (skip es) × (u ≡ front_tag e.tag es)) }
 {
     match w.read(at) {
         Some(item) => Link::of(chain::skip_from(w, item.link_ref())),
@@ -222,7 +219,7 @@ pub fn next_shared<L: LinkedList, J: Deferred>(
 ) -> Option<Shared<L>>
     requires { IsListed L.link w.old (ptr_slot at) }
     ensures next { IfSome result (λ s. OfNode L.link w.old (ptr_slot at.entry) (λ e es. Some (shared_slot s) ≡ first_slot (undeleted es))) }
-    ensures more { IfSome result (λ s. (n : ℕ) × (status_at w.old (shared_slot s) ≡ Status.Shared n) × (w.new ≡ with_status (shared_slot s) (Status.Shared (n + 1)) w.old)) }
+    ensures more { IfSome result (λ s. AddsOwner (shared_slot s) w.old w.new) }
     ensures none { IfNone result ((w.new ≡ w.old) × NextIsFull L.link w.old (ptr_slot at.entry)) }
     ensures lists { (c : ℕ) (t : Tag) (es : List (Entry L)) → IsList L.link w.old c t es → IsList L.link w.new c t es }
     ensures live { IfSome result (λ s. IsShared w.new (shared_slot s)) }
