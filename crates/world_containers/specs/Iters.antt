@@ -12,6 +12,10 @@ use Rattle.world_containers.specs.declared.iter.Iter.{Iter}
 abbrev pub iter_cell : {T : Type 0} → Iter T → ℕ
 iter_cell i = link_cell i.at
 
+-- whatever entries a walk is yet to pass
+abbrev pub OfRest : {T : Type 0} → State (LinkedEntry T) → Iter T → (List (Entry (LinkedEntry T)) → Type 0) → Type 0
+OfRest {T} w i P = (t : Tag) (es : List (Entry (LinkedEntry T))) → IsList entry_link w (iter_cell i) t es → P es
+
 -- the value of the first entry, if there is one
 abbrev pub first_value : {T : Type 0} → List (Entry (LinkedEntry T)) → Option T
 first_value [] = None

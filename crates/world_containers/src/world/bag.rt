@@ -5,11 +5,11 @@ ghost use Rattle.sdd_world.specs.State.{emptiness};
 ghost use Rattle.sdd_world.specs.Frame.{OnlyParticipant};
 ghost use Rattle.std.specs.List.{sum_by, FoldsTo};
 ghost use Rattle.sdd_lists.specs.Chain.{Leaves, Stays};
-ghost use Rattle.world_containers.specs.Bags.{IsLength, PutsPrimary, CallsWith, AreFreeCells, bag_cells, into_cells};
+ghost use Rattle.world_containers.specs.Bags.{IsLength, CallsWith, AreFreeCells, bag_cells, into_cells};
 ghost use Rattle.std.specs.Iterator.{IsFiniteIterable};
-ghost use Rattle.world_containers.specs.FromIter.{FillsBag, IfUnmade, IfNoSlot};
+ghost use Rattle.world_containers.specs.FromIter.{IfUnmade, IfNoSlot};
 ghost use Rattle.sdd_lists.specs.declared.linked_entry.LinkedEntry.{LinkedEntry};
-ghost use Rattle.world_containers.specs.Calls.{BagIn, GivesAll, GivesUpTo, NoRoom, OnlyBag, OnlyLinksOf, PutsInto, SomeBagIn, TakesAll, TakesFromBag};
+ghost use Rattle.world_containers.specs.Calls.{BagIn, GivesAll, GivesUpTo, IsNewBag, NoRoom, OnlyBag, OnlyLinksOf, PutsInto, PutsIntoPrimary, SomeBagIn, TakesAll, TakesFromBag};
 
 use crate::bag::{Bag, IntoIter};
 use crate::linked_entry::LinkedEntry;
@@ -51,7 +51,7 @@ pub fn try_push<T, J: Deferred, const ARRAY_LEN: usize>(
     value: T,
 ) -> Result<(), T>
     requires { SomeBagIn w.old bag.now }
-    ensures pushed { OnOk result ((ps : _) (os : _) → BagIn w.old bag.now ps os → (length ps < ARRAY_LEN) × PutsPrimary ARRAY_LEN w.old w.new value (bag_cells bag.now) ps os) }
+    ensures pushed { OnOk result (PutsIntoPrimary w.old w.new bag.now value) }
     ensures refused { IfErr result (λ v. (v ≡ value) × (w.new ≡ w.old)) }
     ensures full { OnErr result ((ps : _) (os : _) → BagIn w.old bag.now ps os → (length ps ≡ ARRAY_LEN) ⊎ NoRoom w.old) }
     ensures list { SomeBagIn w.new bag.now }
@@ -96,8 +96,8 @@ pub fn from_iter<T, J: Deferred, const ARRAY_LEN: usize, I: IntoIterator<Item = 
 ) -> Result<Bag<T, ARRAY_LEN>, FromIterRefused<Bag<T, ARRAY_LEN>, T, I>>
     requires length { IsLength ARRAY_LEN }
     requires ends { IsFiniteIterable I.into_iter_gives I.IntoIter.can_next I.IntoIter.remaining values }
-    ensures filled { IfOk result (λ b. GivesAll I.into_iter_gives I.IntoIter.next_gives values (λ vs. FillsBag ARRAY_LEN w.old w.new (bag_cells b) vs)) }
-    ensures partly { IfErr result (λ e. IfNoSlot e (λ b v. GivesUpTo I.into_iter_gives I.IntoIter.next_gives values v (λ vs. FillsBag ARRAY_LEN w.old w.new (bag_cells b) vs))) }
+    ensures filled { IfOk result (λ b. GivesAll I.into_iter_gives I.IntoIter.next_gives values (IsNewBag w.old w.new b)) }
+    ensures partly { IfErr result (λ e. IfNoSlot e (λ b v. GivesUpTo I.into_iter_gives I.IntoIter.next_gives values v (IsNewBag w.old w.new b))) }
     ensures room { IfErr result (λ e. IfNoSlot e (λ _ _. NoRoom w.new)) }
     ensures none { IfErr result (λ e. IfUnmade e (λ r back. (back ≡ values) × (w.new ≡ w.old) × (r ≡ NotMade.NoSlot → sum_by emptiness w.old.cells ≤ ARRAY_LEN))) }
     ensures list { IfOk result (λ b. SomeBagIn w.new b) }

@@ -1,12 +1,10 @@
 //! Walks along the containers of a `World`.
 
-ghost use Rattle.std.specs.Prelude.{◌≡◌, List};
+ghost use Rattle.std.specs.Prelude.{◌≡◌};
 ghost use Rattle.std.specs.Option.{option_copied};
-ghost use Rattle.sdd_world.specs.declared.tag.Tag.{Tag};
-ghost use Rattle.sdd_lists.specs.Chain.{Entry, IsList, Hangs, undeleted};
+ghost use Rattle.sdd_lists.specs.Chain.{Hangs, undeleted};
 ghost use Rattle.sdd_lists.specs.Entries.{entry_link};
-ghost use Rattle.world_containers.specs.Iters.{iter_cell, first_value, Moves};
-ghost use Rattle.sdd_lists.specs.declared.linked_entry.LinkedEntry.{LinkedEntry};
+ghost use Rattle.world_containers.specs.Iters.{iter_cell, first_value, Moves, OfRest};
 
 use crate::iter::Iter;
 use crate::linked_entry::LinkedEntry;
@@ -22,8 +20,8 @@ pub fn next<'w, T, J: Deferred>(
     iter: &mut Iter<T>,
 ) -> Option<&'w T>
     requires { Hangs entry_link w.now (iter_cell iter.old) }
-    ensures gives { (t : Tag) (es : List (Entry (LinkedEntry T))) → IsList entry_link w.now (iter_cell iter.old) t es → option_copied result ≡ first_value (undeleted es) }
-    ensures moves { (t : Tag) (es : List (Entry (LinkedEntry T))) → IsList entry_link w.now (iter_cell iter.old) t es → Moves w.now (iter_cell iter.new) es }
+    ensures gives { OfRest w.now iter.old (λ es. option_copied result ≡ first_value (undeleted es)) }
+    ensures moves { OfRest w.now iter.old (Moves w.now (iter_cell iter.new)) }
     ensures hangs { Hangs entry_link w.now (iter_cell iter.new) }
 {
     let at = Link::of(chain::skip_from(w, iter.at.cell()));

@@ -1,14 +1,14 @@
 //! Walks along the bags of a place that lend each value for writing.
 
-ghost use Rattle.std.specs.Prelude.{◌≡◌, ◌<◌, ◌≤◌, ◌⊎◌, ◌↔◌, ℕ, [], ◌∷◌, length, drop, map, Some, IfOk, IfSome, IfNone, IsErr, MatchOption, false};
+ghost use Rattle.std.specs.Prelude.{◌≡◌, ◌≤◌, ◌⊎◌, ◌↔◌, ℕ, [], length, Some, IfOk, IfSome, IfNone, IsErr, MatchOption, false};
 ghost use Rattle.std.specs.Borrow.{RestsIfErr, sem};
 ghost use Rattle.sdd_world.specs.Place.{IsOpen};
-ghost use Rattle.sdd_world.specs.Tokens.{link_cell, shared_cell};
+ghost use Rattle.sdd_world.specs.Tokens.{link_cell};
 ghost use Rattle.world_containers.specs.Bags.{IsNull, IsSomeBag, bag_cells};
 ghost use Rattle.world_containers.specs.Iters.{first_value};
-ghost use Rattle.world_containers.specs.MutableIteration.{Finds, IsLeft, IsSomeLeft, LendsNext, cells_from, stop_cells, stop_here, walk_bag, walk_cells, walk_name, walk_place};
+ghost use Rattle.world_containers.specs.MutableIteration.{IsLeft, IsSomeLeft, LendsNext, cells_from, stop_cells, stop_here, walk_bag, walk_cells, walk_name, walk_place};
 ghost use Rattle.sdd_lists.specs.declared.linked_entry.LinkedEntry.{LinkedEntry};
-ghost use Rattle.world_containers.specs.Calls.{OfWalk, WalksBag};
+ghost use Rattle.world_containers.specs.Calls.{OfWalk, WalkFinds, WalksBag};
 
 use crate::bag::{Bag, IterMut, Stop};
 use crate::linked_entry::LinkedEntry;
@@ -31,7 +31,7 @@ pub trait WalkedPlace<T>: ExclusiveAccess<LinkedEntry<T>> + Sized {
     ) -> Option<Stop<T>>
         requires { IsSomeLeft (Self.state self.now) (cells_from cells.now.items row from.now) }
         ensures none { IfNone result (OfWalk (Self.state self.now) (cells_from cells.now.items row from.now) (λ es. es ≡ [])) }
-        ensures some { IfSome result (λ s. OfWalk (Self.state self.now) (cells_from cells.now.items row from.now) (Finds (Self.state self.now) (stop_here s) (stop_cells cells.now.items s))) };
+        ensures some { IfSome result (λ s. WalkFinds (Self.state self.now) (cells_from cells.now.items row from.now) (stop_here s) (stop_cells cells.now.items s)) };
 }
 
 /// A place whose bags lend their values for writing: a `World`. A trait, since a clause on a refused borrow can't name the
@@ -102,8 +102,8 @@ fn seek<T, J: Deferred>(
     row: usize,
     from: Link<LinkedEntry<T>>,
 ) -> Spot<T>
-    requires { IsSomeLeft w.now (link_cell from ∷ drop row (map shared_cell cells.now.items)) }
-    ensures left { OfWalk w.now (link_cell from ∷ drop row (map shared_cell cells.now.items)) (IsLeft w.now (link_cell result.at ∷ drop result.row (map shared_cell cells.now.items))) }
+    requires { IsSomeLeft w.now (cells_from cells.now.items row from) }
+    ensures left { OfWalk w.now (cells_from cells.now.items row from) (IsLeft w.now (cells_from cells.now.items result.row result.at)) }
     ensures found { (length cells.now.items ≤ result.row) ⊎ IsNull w.now (link_cell result.at) false }
 {
     let mut at = from;
@@ -128,7 +128,7 @@ impl<'a, T, W: WalkedPlace<T>> IterMut<'a, T, W> {
         ensures place { walk_place self.new ≡ walk_place self.old }
         ensures cells { IfNone result (walk_cells self.new ≡ walk_cells self.old) }
         ensures none { IfNone result (OfWalk (W.state (walk_place self.old)) (walk_cells self.old) (λ es. es ≡ [])) }
-        ensures some { IfSome result (λ c. OfWalk (W.state (walk_place self.old)) (walk_cells self.old) (Finds (W.state (walk_place self.old)) (link_cell c) (walk_cells self.new))) }
+        ensures some { IfSome result (λ c. WalkFinds (W.state (walk_place self.old)) (walk_cells self.old) (link_cell c) (walk_cells self.new)) }
     {
         let from = Link::of(self.at.cell());
         let Some(stop) = self.place.next_stop(self.cells, self.row, &from) else {

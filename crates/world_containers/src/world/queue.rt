@@ -14,10 +14,10 @@ ghost use Rattle.sdd_lists.specs.Entries.{entry_link};
 ghost use Rattle.world_containers.specs.Iters.{iter_cell};
 ghost use Rattle.std.specs.Iterator.{IsFiniteIterable};
 ghost use Rattle.sdd_lists.specs.Copies.{ClonesAreSame};
-ghost use Rattle.world_containers.specs.FromIter.{entry_values, Extends, FillsQueue, IfUnmade, IfNoSlot, IfUncopied, IfPartly};
+ghost use Rattle.world_containers.specs.FromIter.{entry_values, Extends, IfUnmade, IfNoSlot, IfUncopied, IfPartly};
 ghost use Rattle.world_containers.specs.Refusals.{refused_value, IsCondition, IsNoSlot};
 ghost use Rattle.world_containers.specs.Queues.{oldest_cell, newest_cell, HasOldest};
-ghost use Rattle.world_containers.specs.Calls.{AppendsTo, AskedFirst, CanAskFirst, CopiesQueueUpTo, FirstIsFull, GivesAll, GivesUpTo, KeepsEntries, NoRoom, NoTwoCells, OnlyQueue, QueueIn, SomeQueueIn, TakesFrom};
+ghost use Rattle.world_containers.specs.Calls.{AppendsTo, AskedFirst, CanAskFirst, CopiesQueueUpTo, FirstIsFull, GivesAll, GivesUpTo, IsNewQueue, KeepsEntries, NoRoom, NoTwoCells, OnlyQueue, QueueIn, SomeQueueIn, SparesOldest, TakesFrom, TakesOldest};
 
 use crate::iter::Iter;
 use crate::linked_entry::LinkedEntry;
@@ -120,8 +120,8 @@ pub fn from_iter<T, J: Deferred, I: IntoIterator<Item = T>>(
 ) -> Result<Queue<T>, FromIterRefused<Queue<T>, T, I>>
     requires participant { 0 < length w.old.participants }
     requires ends { IsFiniteIterable I.into_iter_gives I.IntoIter.can_next I.IntoIter.remaining values }
-    ensures filled { IfOk result (λ q. GivesAll I.into_iter_gives I.IntoIter.next_gives values (λ vs. FillsQueue w.old w.new (oldest_cell q) (newest_cell q) vs)) }
-    ensures partly { IfErr result (λ e. IfNoSlot e (λ q v. GivesUpTo I.into_iter_gives I.IntoIter.next_gives values v (λ vs. FillsQueue w.old w.new (oldest_cell q) (newest_cell q) vs))) }
+    ensures filled { IfOk result (λ q. GivesAll I.into_iter_gives I.IntoIter.next_gives values (IsNewQueue w.old w.new q)) }
+    ensures partly { IfErr result (λ e. IfNoSlot e (λ q v. GivesUpTo I.into_iter_gives I.IntoIter.next_gives values v (IsNewQueue w.old w.new q))) }
     ensures room { IfErr result (λ e. IfNoSlot e (λ _ _. NoRoom w.new)) }
     ensures none { IfErr result (λ e. IfUnmade e (λ r back. (r ≡ NotMade.NoSlot) × (back ≡ values) × (w.new ≡ w.old) × NoTwoCells w.old)) }
     ensures list { IfOk result (λ q. SomeQueueIn w.new q) }
@@ -153,7 +153,7 @@ pub fn clone<T: Clone, J: Deferred>(
     requires clones { ClonesAreSame T.is_clone }
     requires participant { 0 < length w.old.participants }
     requires list { SomeQueueIn w.old queue.now }
-    ensures cloned { (es : _) → QueueIn w.old queue.now es → IfOk result (λ q. FillsQueue w.old w.new (oldest_cell q) (newest_cell q) (entry_values (undeleted es))) }
+    ensures cloned { (es : _) → QueueIn w.old queue.now es → IfOk result (λ q. IsNewQueue w.old w.new q (entry_values (undeleted es))) }
     ensures partly { (es : _) → QueueIn w.old queue.now es → IfErr result (λ e. IfPartly e (CopiesQueueUpTo T.is_infallible w.old w.new es)) }
     ensures none { IfErr result (λ e. IfUncopied e (λ r. (r ≡ NotMade.NoSlot) × (w.new ≡ w.old) × NoTwoCells w.old)) }
     ensures kept { (es : _) → QueueIn w.old queue.now es → QueueIn w.new queue.now es }
@@ -194,7 +194,7 @@ pub fn pop<T, J: Deferred>(
 ) -> Option<Shared<LinkedEntry<T>>>
     requires participant { p < length w.old.participants }
     requires list { SomeQueueIn w.old queue.now }
-    ensures popped { (es : _) → QueueIn w.old queue.now es → MatchOption result ((undeleted es ≡ []) × QueueIn w.new queue.now []) (λ s. TakesFrom w.new queue.now s es) }
+    ensures popped { TakesOldest w.old w.new queue.now result }
     ensures live { IfSome result (λ s. IsShared w.new (shared_slot s)) }
     ensures list { SomeQueueIn w.new queue.now }
     ensures leaves { OnlyQueue w.old w.new queue.now }
@@ -331,7 +331,7 @@ fn share_oldest<T, J: Deferred>(
     ensures kept { (es : _) → QueueIn w.old queue.now es → undeleted es ≢ [] → QueueIn w.new queue.now (skip es) }
     ensures some { IfSome result (λ s. (es : _) → QueueIn w.old queue.now es → Some (shared_slot s) ≡ first_slot (undeleted es)) }
     ensures owner { IfSome result (λ s. IsShared w.new (shared_slot s)) }
-    ensures spare { IfSome result (λ s. (p : ℕ) (es : _) → QueueIn w.old queue.now es → undeleted es ≢ [] → QueueIn (released p (shared_slot s) w.new) queue.now (skip es)) }
+    ensures spare { IfSome result (λ s. SparesOldest w.old w.new queue.now s) }
     ensures none { IfNone result ((es : _) → QueueIn w.old queue.now es → FirstIsFull w.old es) }
     ensures leaves { (es : _) → QueueIn w.old queue.now es → Leaves (oldest_cell queue.now ∷ links es) (slots es) w.old w.new }
     ensures only { OnlyParticipant p w.old w.new }

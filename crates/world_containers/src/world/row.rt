@@ -6,10 +6,10 @@ ghost use Rattle.std.specs.List.{sum_by};
 ghost use Rattle.sdd_world.specs.Frame.{OnlyParticipant};
 ghost use Rattle.sdd_world.specs.Place.{IsSharedCell};
 ghost use Rattle.sdd_world.specs.Tokens.{shared_cell};
-ghost use Rattle.sdd_lists.specs.Chain.{Entry, Leaves, Stays, links, slots, undeleted};
+ghost use Rattle.sdd_lists.specs.Chain.{Leaves, Stays};
 ghost use Rattle.world_containers.specs.Stacks.{IsSomeStack};
-ghost use Rattle.world_containers.specs.Bags.{IsNull, IsRow, IsSomeRow, AreEmpty, IsClaimed, Puts, cell_of, joined, freed};
-ghost use Rattle.world_containers.specs.Calls.{OfRow};
+ghost use Rattle.world_containers.specs.Bags.{IsNull, IsRow, IsSomeRow, AreEmpty, IsClaimed, Puts, cell_of, freed};
+ghost use Rattle.world_containers.specs.Calls.{CountsRow, OfRow, OnlyRow};
 
 use crate::linked_entry::LinkedEntry;
 use crate::linked_list::LinkedList;
@@ -72,7 +72,7 @@ pub(crate) fn clear_all<L: LinkedList, J: Deferred>(
     requires participant { p < length w.old.participants }
     requires list { IsSomeRow L.link w.old (map shared_cell cells.now.items) }
     ensures cleared { OfRow L.link w.old cells.now.items (λ _. IsRow L.link w.new (map shared_cell cells.now.items) []) }
-    ensures leaves { OfRow L.link w.old cells.now.items (λ rows. Leaves (map shared_cell cells.now.items ++ links (joined rows)) (slots (joined rows)) w.old w.new) }
+    ensures leaves { OnlyRow L.link w.old w.new cells.now.items }
     ensures only { OnlyParticipant p w.old w.new }
     ensures stays { Stays w.old w.new }
 {
@@ -142,7 +142,7 @@ pub(crate) fn count_all<L: LinkedList, J: Deferred>(
     cells: &Vec<AtomicShared<L>>,
 ) -> usize
     requires { IsSomeRow L.link w.now (map shared_cell cells.now.items) }
-    ensures { (rows : List (List (Entry L))) → length rows ≡ length cells.now.items → IsRow L.link w.now (map shared_cell cells.now.items) rows → result ≡ length (undeleted (joined rows)) }
+    ensures { CountsRow L.link w.now cells.now.items result }
 {
     let most = w.slots_in_use();
     let mut total = 0;

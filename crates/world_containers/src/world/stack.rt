@@ -1,6 +1,6 @@
 //! Stacks over a `World`: the newest entry comes first.
 
-ghost use Rattle.std.specs.Prelude.{◌≤◌, ◌≡◌, ◌<◌, ◌↔◌, ℕ, [], ◌∷◌, length, IfOk, IfErr, OnErr, OnOk, None, Some, IfSome, IfNone, reverse, MatchOption, IsTrue, IsErrAnd, Bool, false};
+ghost use Rattle.std.specs.Prelude.{◌≤◌, ◌≡◌, ◌<◌, ◌↔◌, ℕ, [], ◌∷◌, length, IfOk, IfErr, OnErr, OnOk, None, Some, IfSome, IfNone, MatchOption, IsTrue, IsErrAnd, Bool, false};
 ghost use Rattle.sdd_world.specs.State.{cell_at, IsFreeCell, NoCellFree};
 ghost use Rattle.sdd_world.specs.Frame.{OnlyParticipant};
 ghost use Rattle.sdd_world.specs.Place.{IsShared};
@@ -13,10 +13,10 @@ ghost use Rattle.sdd_lists.specs.Entries.{entry_link};
 ghost use Rattle.world_containers.specs.Iters.{iter_cell};
 ghost use Rattle.std.specs.Iterator.{IsFiniteIterable};
 ghost use Rattle.sdd_lists.specs.Copies.{ClonesAreSame};
-ghost use Rattle.world_containers.specs.FromIter.{entry_values, ExtendsLast, FillsStack, IfUnmade, IfNoSlot, IfUncopied, IfPartly};
+ghost use Rattle.world_containers.specs.FromIter.{entry_values, IfUnmade, IfNoSlot, IfUncopied, IfPartly};
 ghost use Rattle.world_containers.specs.Refusals.{refused_value, IsCondition, IsNoSlot};
 ghost use Rattle.world_containers.specs.Stacks.{stack_cell, took_entry, IsSomeStack, Pushes};
-ghost use Rattle.world_containers.specs.Calls.{AskedFirst, CanAskFirst, CopiesStackUpTo, FirstIsFull, GivesAll, GivesUpTo, NoRoom, OnlyStack, PopsFrom, StackIn};
+ghost use Rattle.world_containers.specs.Calls.{AddsLast, AskedFirst, CanAskFirst, CopiesStackUpTo, FirstIsFull, GivesAll, GivesUpTo, IsNewStack, IsStacked, NoRoom, OnlyStack, PopsFrom, PopsNewest, StackIn};
 
 use crate::iter::Iter;
 use crate::linked_entry::LinkedEntry;
@@ -85,7 +85,7 @@ fn add_last<T, J: Deferred>(
     value: Option<T>,
 ) -> Result<(), T>
     requires { cell_at w.old (link_cell end.old) ≡ Cell.OfShared None Tag.None }
-    ensures added { OnOk result (MatchOption value ((w.new ≡ w.old) × (link_cell end.new ≡ link_cell end.old)) (λ v. ExtendsLast w.old w.new v (link_cell end.old) (link_cell end.new))) }
+    ensures added { OnOk result (AddsLast w.old w.new value (link_cell end.old) (link_cell end.new)) }
     ensures refused { IfErr result (λ v. (value ≡ Some v) × (w.new ≡ w.old) × NoRoom w.old) }
     ensures leaves { Leaves (link_cell end.old ∷ []) [] w.old w.new }
     ensures participants { w.new.participants ≡ w.old.participants }
@@ -113,8 +113,8 @@ pub fn from_iter<T, J: Deferred, I: IntoIterator<Item = T>>(
     values: I,
 ) -> Result<Stack<T>, FromIterRefused<Stack<T>, T, I>>
     requires { IsFiniteIterable I.into_iter_gives I.IntoIter.can_next I.IntoIter.remaining values }
-    ensures filled { IfOk result (λ s. GivesAll I.into_iter_gives I.IntoIter.next_gives values (λ vs. FillsStack w.old w.new (stack_cell s) (reverse vs))) }
-    ensures partly { IfErr result (λ e. IfNoSlot e (λ s v. GivesUpTo I.into_iter_gives I.IntoIter.next_gives values v (λ vs. FillsStack w.old w.new (stack_cell s) (reverse vs)))) }
+    ensures filled { IfOk result (λ s. GivesAll I.into_iter_gives I.IntoIter.next_gives values (IsStacked w.old w.new s)) }
+    ensures partly { IfErr result (λ e. IfNoSlot e (λ s v. GivesUpTo I.into_iter_gives I.IntoIter.next_gives values v (IsStacked w.old w.new s))) }
     ensures room { IfErr result (λ e. IfNoSlot e (λ _ _. NoRoom w.new)) }
     ensures none { IfErr result (λ e. IfUnmade e (λ r back. (r ≡ NotMade.NoSlot) × (back ≡ values) × (w.new ≡ w.old) × NoCellFree w.old)) }
     ensures list { IfOk result (λ s. IsSomeStack w.new (stack_cell s)) }
@@ -145,7 +145,7 @@ pub fn clone<T: Clone, J: Deferred>(
 ) -> Result<Stack<T>, CloneRefused<Stack<T>>>
     requires clones { ClonesAreSame T.is_clone }
     requires list { IsSomeStack w.old (stack_cell stack.now) }
-    ensures cloned { (es : _) → StackIn w.old stack.now es → IfOk result (λ s. FillsStack w.old w.new (stack_cell s) (entry_values (undeleted es))) }
+    ensures cloned { (es : _) → StackIn w.old stack.now es → IfOk result (λ s. IsNewStack w.old w.new s (entry_values (undeleted es))) }
     ensures partly { (es : _) → StackIn w.old stack.now es → IfErr result (λ e. IfPartly e (CopiesStackUpTo T.is_infallible w.old w.new es)) }
     ensures none { IfErr result (λ e. IfUncopied e (λ r. (r ≡ NotMade.NoSlot) × (w.new ≡ w.old) × NoCellFree w.old)) }
     ensures kept { (es : _) → StackIn w.old stack.now es → StackIn w.new stack.now es }
@@ -187,7 +187,7 @@ pub fn pop<T, J: Deferred>(
 ) -> Option<Shared<LinkedEntry<T>>>
     requires participant { p < length w.old.participants }
     requires list { IsSomeStack w.old (stack_cell stack.now) }
-    ensures popped { (es : _) → StackIn w.old stack.now es → MatchOption result ((undeleted es ≡ []) × StackIn w.new stack.now []) (λ s. PopsFrom w.new stack.now s es) }
+    ensures popped { PopsNewest w.old w.new stack.now result }
     ensures live { IfSome result (λ s. IsShared w.new (shared_slot s)) }
     ensures list { IsSomeStack w.new (stack_cell stack.now) }
     ensures leaves { OnlyStack w.old w.new stack.now }
