@@ -1,8 +1,6 @@
 -- a row is copied with another owner in it, and a value is placed
-use Rattle.std.proofs.Common.{◌≡◌, ℕ, zero, suc, ◌+◌, ◌<◌, Some, List, [], ◌∷◌, ◌++◌, length, map, get_or, set, take, drop, refl, sym, ap, ◌∙◌, arith, subst, inl, inr, append_assoc, get_or-set_same, get_or-set_other}
-use Rattle.std.proofs.lemmas.List.{get_or-append-add, get_or_append_left, length-append, map-append}
-use Rattle.sdd_table.specs.Tokens.{kept_slot}
-use Rattle.sdd_table.specs.declared.owner.Kept.{Kept}
+use Rattle.std.proofs.Common.{◌≡◌, ℕ, zero, suc, ◌+◌, ◌-◌, ◌<◌, Some, List, [], ◌∷◌, ◌++◌, length, map, get_or, set, take, drop, refl, sym, ap, ◌∙◌, arith, subst, inl, inr, append_assoc, get_or-set_same, get_or-set_other}
+use Rattle.std.proofs.lemmas.List.{drop-map, get_or-append-add, get_or_append_left, length-append, map-append, take-map, take_rest}
 use Rattle.std.proofs.lemmas.Bool.Decides.{eqb_tells}
 use Rattle.sdd_table.specs.Place.{AddsOwners, TakeOwners, TakesOwner}
 use Rattle.sdd_table.specs.State.{IsFree, NoneFree, State, placed, status_at, with_status}
@@ -24,12 +22,19 @@ names_itself [] k d lt = absurd (omega (arith, lt))
 names_itself (x ∷ is) zero d lt = omega (arith, times_here x is)
 names_itself (x ∷ is) (suc k) d lt = omega (arith, names_itself is k d (omega (arith, lt)), times_first x (get_or is k d) is)
 
+-- the numbers of what is before a place of a row, and of what is behind it
+pub front_of : {M : Type 0} (number : M → ℕ) (at : ℕ) (old : List M) (row : List ℕ) → map number old ≡ row → map number (take at old) ≡ take at row
+front_of number at old row e = sym (take-map number at old) ∙ ap (take at) e
+
+pub back_of : {M : Type 0} (number : M → ℕ) (at : ℕ) (old : List M) (row : List ℕ) → map number old ≡ row → map number (take (length old - (at + 1)) (drop (at + 1) old)) ≡ drop (at + 1) row
+back_of number at old row e = ap (map number) (take_rest old (at + 1)) ∙ (sym (drop-map number (at + 1) old) ∙ ap (drop (at + 1)) e)
+
 -- a row that was filled by parts of another one, with one owner between them
-pub copied_row : (row one two three : List Kept) (new : Kept) (first rest t d : List ℕ) → row ≡ [] → map kept_slot one ≡ map kept_slot row ++ first → first ≡ t → two ≡ one ++ new ∷ [] → map kept_slot three ≡ map kept_slot two ++ rest → rest ≡ d → map kept_slot three ≡ t ++ kept_slot new ∷ d
-copied_row row one two three new first rest t d none made front pushed more back =
-    let begun : map kept_slot one ≡ t = made ∙ (ap (λ (xs : List Kept). map kept_slot xs ++ first) none ∙ front) in
-    let joined : map kept_slot two ≡ t ++ kept_slot new ∷ [] = ap (map kept_slot) pushed ∙ (map-append kept_slot one (new ∷ []) ∙ ap (λ (xs : List ℕ). xs ++ kept_slot new ∷ []) begun) in
-    more ∙ (ap (λ (xs : List ℕ). xs ++ rest) joined ∙ (append_assoc t (kept_slot new ∷ []) rest ∙ ap (λ (xs : List ℕ). t ++ kept_slot new ∷ xs) back))
+pub copied_row : {M : Type 0} (number : M → ℕ) (row one two three : List M) (new : M) (first rest t d : List ℕ) → row ≡ [] → map number one ≡ map number row ++ first → first ≡ t → two ≡ one ++ new ∷ [] → map number three ≡ map number two ++ rest → rest ≡ d → map number three ≡ t ++ number new ∷ d
+copied_row {M} number row one two three new first rest t d none made front pushed more back =
+    let begun : map number one ≡ t = made ∙ (ap (λ (xs : List M). map number xs ++ first) none ∙ front) in
+    let joined : map number two ≡ t ++ number new ∷ [] = ap (map number) pushed ∙ (map-append number one (new ∷ []) ∙ ap (λ (xs : List ℕ). xs ++ number new ∷ []) begun) in
+    more ∙ (ap (λ (xs : List ℕ). xs ++ rest) joined ∙ (append_assoc t (number new ∷ []) rest ∙ ap (λ (xs : List ℕ). t ++ number new ∷ xs) back))
 
 module _ {T : Type 0} where
   -- owners of two rows, one row after the other

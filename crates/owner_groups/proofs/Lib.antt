@@ -9,3 +9,4 @@ pub mod ResultLemmas
 pub mod CopyLemmas
 pub mod TierLemmas
 pub mod PathLemmas
+pub mod TallyLemmas

@@ -6,9 +6,9 @@ use Rattle.sdd_table.specs.Place.{AddsOwners}
 use Rattle.sdd_table.specs.State.{State}
 use Rattle.sdd_table.specs.Steps.{hit, times}
 use Rattle.sdd_table.proofs.ListLemmas.{hit-other, hit-same}
-use Rattle.owner_groups.specs.Groups.{GroupState, IsOut, count_at, name_of, no_group, owners_in, row_at, with_row}
+use Rattle.owner_groups.specs.Groups.{GroupState, IsOut, count_at, more_owned, name_of, no_group, owners_in, row_at, with_row}
 use Rattle.owner_groups.specs.Grown.{beyond, counted_for, grown_place, others_of, replaced}
-use Rattle.owner_groups.specs.Tiered.{AreCountedBelow, TakeGroups, all_more_owned, beyond_below, more_owned, through}
+use Rattle.owner_groups.specs.Tiered.{AreCountedBelow, TakeGroups, all_more_owned, beyond_below, through}
 use Rattle.owner_groups.specs.declared.groups.Group.{Group}
 use Rattle.owner_groups.proofs.CopyLemmas.{adds_both, names_itself}
 use Rattle.owner_groups.proofs.CountLemmas.{beyond_made, counted_made}
@@ -125,13 +125,6 @@ module _ (names : List ℕ) (k : ℕ) (inside : k < length names) (gs now : List
   next_through =
       ap (through gs) (take_more names k 0 inside)
       ∙ (through_append gs (take k names) (next ∷ []) ∙ ap (λ (xs : List ℕ). through gs (take k names) ++ xs) (append-nil (row_at gs next)))
-
--- a row that was filled by parts of another one, with one owner between them
-pub copied_groups : (row one two three : List Group) (new : Group) (first rest t d : List ℕ) → row ≡ [] → map name_of one ≡ map name_of row ++ first → first ≡ t → two ≡ one ++ new ∷ [] → map name_of three ≡ map name_of two ++ rest → rest ≡ d → map name_of three ≡ t ++ name_of new ∷ d
-copied_groups row one two three new first rest t d none made front pushed more back =
-    let begun : map name_of one ≡ t = made ∙ (ap (λ (xs : List Group). map name_of xs ++ first) none ∙ front) in
-    let joined : map name_of two ≡ t ++ name_of new ∷ [] = ap (map name_of) pushed ∙ (map-append name_of one (new ∷ []) ∙ ap (λ (xs : List ℕ). xs ++ name_of new ∷ []) begun) in
-    more ∙ (ap (λ (xs : List ℕ). xs ++ rest) joined ∙ (append_assoc t (name_of new ∷ []) rest ∙ ap (λ (xs : List ℕ). t ++ name_of new ∷ xs) back))
 
 module _ (upper lower : List GroupState) (g at i : ℕ) (row : List ℕ) where
   -- the copy is counted in the groups below

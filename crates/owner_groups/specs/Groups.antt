@@ -1,5 +1,5 @@
 -- groups of owners, as clauses see them, and the owners that they stand for
-use Rattle.std.specs.Prelude.{◌≡◌, ◌≢◌, ◌<◌, ◌*◌, ℕ, List, [], get_or, length, set}
+use Rattle.std.specs.Prelude.{◌≡◌, ◌≢◌, ◌<◌, ◌+◌, ◌-◌, ◌*◌, ℕ, List, [], get_or, length, set}
 use Rattle.std.specs.List.{sum_by}
 use Rattle.sdd_table.specs.Steps.{times}
 use Rattle.owner_groups.specs.declared.groups.Group.{Group}
@@ -50,6 +50,22 @@ with_row g row gs = set gs g (record { count = 1; row = row })
 -- the name g is free, and no other group has changed
 abbrev pub without : ℕ → List GroupState → List GroupState
 without g gs = set gs g no_group
+
+-- group g has an owner more
+abbrev pub more_owned : ℕ → List GroupState → List GroupState
+more_owned g gs = with_count g (count_at gs g + 1) gs
+
+-- group g, which had no owner, has one, and this row
+abbrev pub MakesGroup : ℕ → List ℕ → List GroupState → List GroupState → Type 0
+MakesGroup g row gs gs' = IsFreeName gs g × (gs' ≡ with_row g row gs)
+
+-- group g had more than one owner, and has one less
+abbrev pub LowersGroup : ℕ → List GroupState → List GroupState → Type 0
+LowersGroup g gs gs' = (1 < count_at gs g) × (gs' ≡ with_count g (count_at gs g - 1) gs)
+
+-- group g had one owner, and this row; its name is free now
+abbrev pub EndsGroup : ℕ → List ℕ → List GroupState → List GroupState → Type 0
+EndsGroup g row gs gs' = (count_at gs g ≡ 1) × (row ≡ row_at gs g) × (gs' ≡ without g gs)
 
 -- the owners of i that a group stands for: for each of its own owners, one for each time that its row names i
 abbrev pub stands_for : ℕ → GroupState → ℕ

@@ -3,3 +3,4 @@ pub mod Arena
 pub mod Versions
 pub mod Grown
 pub mod Tiered
+pub mod Counted

@@ -3,7 +3,7 @@ use Rattle.std.specs.Prelude.{◌<◌, ◌≤◌, ◌+◌, ℕ, List, [], ◌∷
 use Rattle.sdd_table.specs.Holding.{Hold}
 use Rattle.sdd_table.specs.State.{State}
 use Rattle.sdd_table.specs.Steps.{times}
-use Rattle.owner_groups.specs.Groups.{GroupState, count_at, owners_in, row_at, with_count}
+use Rattle.owner_groups.specs.Groups.{GroupState, count_at, more_owned, owners_in, row_at}
 use Rattle.owner_groups.specs.Grown.{beyond, counted_for, held_by, less_owned}
 use Rattle.owner_groups.specs.Versions.{counted_by}
 
@@ -44,9 +44,6 @@ abbrev pub GroupsOutside : {T : Type 0} → List ℕ → TieredPlace T → Type 
 GroupsOutside row w = (g : ℕ) → 0 < times g row → counted_for w.upper g + times g row ≤ count_at w.lower g
 
 -- groups of these names have an owner more each, one after another
-abbrev pub more_owned : ℕ → List GroupState → List GroupState
-more_owned g gs = with_count g (count_at gs g + 1) gs
-
 abbrev pub all_more_owned : List ℕ → List GroupState → List GroupState
 all_more_owned [] gs = gs
 all_more_owned (g ∷ names) gs = all_more_owned names (more_owned g gs)

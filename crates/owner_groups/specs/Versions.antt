@@ -29,6 +29,10 @@ HaveOnce gs i versions = All (λ version. has gs i version ≤ 1) versions
 abbrev pub OwnersAreVersions : List GroupState → List (List ℕ) → Type 0
 OwnersAreVersions gs versions = (i : ℕ) → owners_in gs i ≡ sum_by (λ version. has gs i version) versions
 
+-- where no version has i twice, as many owners of i stand in groups as versions have i
+abbrev pub CountsVersions : List GroupState → List (List ℕ) → Type 0
+CountsVersions gs versions = (i : ℕ) → HaveOnce gs i versions → owners_in gs i ≡ versions_with gs i versions
+
 -- groups that are each owned by owners in groups one level above, and by nobody else
 abbrev pub counted_by : (ℕ → ℕ) → List GroupState → List GroupState
 counted_by owners [] = []
@@ -45,3 +49,7 @@ has_below upper lower i version = sum_by (λ h. has lower i (row_at upper h)) ve
 -- the upper rows name lower groups that are there
 abbrev pub NameInside : List GroupState → List GroupState → Type 0
 NameInside upper lower = (g : ℕ) → length lower ≤ g → owners_in upper g ≡ 0
+
+-- as often as versions have i through both levels, so many owners of i do groups of groups stand for
+abbrev pub OwnersBelowAreVersions : List GroupState → List GroupState → List (List ℕ) → Type 0
+OwnersBelowAreVersions upper lower versions = NameInside upper lower → (i : ℕ) → owners_below upper lower i ≡ sum_by (λ version. has_below upper lower i version) versions

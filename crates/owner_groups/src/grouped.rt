@@ -3,13 +3,13 @@
 //! Clauses see the place as it was without groups: each item has the owners that its slot counts, and those that groups stand for.
 //! A slot itself counts an owner for each time that a row names it, however often the group is owned.
 
-ghost use Rattle.std.specs.Prelude.{◌≡◌, ◌≤◌, ◌<◌, ◌+◌, ◌-◌, ◌↔◌, ◌∷◌, [], ◌++◌, ℕ, drop, length, leb, map, take, vec_capacity, IfErr, IfOk, IsErr, OnErr, OnOk};
+ghost use Rattle.std.specs.Prelude.{◌≡◌, ◌≤◌, ◌<◌, ◌+◌, ◌-◌, ◌↔◌, ◌∷◌, [], ◌++◌, ℕ, drop, length, map, take, vec_capacity, IfErr, IfOk, IsErr, OnErr, OnOk};
 ghost use Rattle.sdd_table.specs.Frame.{has_owner};
-ghost use Rattle.sdd_table.specs.Place.{AddsOwner, AddsOwners, TakeOwners, TakesOwner};
-ghost use Rattle.sdd_table.specs.State.{IsFree, NoneFree, placed, status_at};
+ghost use Rattle.sdd_table.specs.Place.{AddsOwner, AddsOwners, PlacesItem, SaysLast, TakeOwners, TakesOwner};
+ghost use Rattle.sdd_table.specs.State.{NoneFree, status_at};
 ghost use Rattle.sdd_table.specs.Steps.{given_all, released, times};
 ghost use Rattle.sdd_table.specs.Tokens.{kept_slot};
-ghost use Rattle.owner_groups.specs.Groups.{IsFreeName, IsOut, NoNameFree, NoneOut, count_at, name_of, no_group, owners_in, row_at, with_count, with_row};
+ghost use Rattle.owner_groups.specs.Groups.{IsFreeName, IsOut, MakesGroup, NoNameFree, NoneOut, count_at, more_owned, name_of, no_group, owners_in, row_at, with_row};
 ghost use Rattle.owner_groups.specs.Grown.{AreOutside, AreThere, HasOutside, held_by, less_owned, others_of, replaced};
 
 use crate::groups::{Group, Groups, Refused};
@@ -72,7 +72,7 @@ fn release_kept<T, J: Deferred>(table: &mut Table<T, J>, p: usize, kept: Kept) -
     requires participant { p < length table.old.participants }
     requires shared { (n : ℕ) × (status_at table.old (kept_slot kept) ≡ Status.Shared n) }
     ensures state { table.new ≡ released p (kept_slot kept) table.old }
-    ensures last { (n : ℕ) → status_at table.old (kept_slot kept) ≡ Status.Shared n → result ≡ leb n 1 }
+    ensures last { SaysLast result (kept_slot kept) table.old }
 {
     let shared: Shared<T> = kept.into_shared();
     let slot = tokens::spend_shared(shared);
@@ -165,7 +165,7 @@ impl<T, J: Deferred> Grouped<T, J> {
 
     /// Puts a value into a free slot, if there is one, with one owner, which is outside the groups.
     pub fn place(&mut self, value: T) -> Result<Kept, T>
-        ensures placed { IfOk result (λ kept. IsFree self.old.place (kept_slot kept) × (self.new.place ≡ placed (kept_slot kept) value (Status.Shared 1) self.old.place)) }
+        ensures placed { IfOk result (λ kept. PlacesItem (kept_slot kept) value (Status.Shared 1) self.old.place self.new.place) }
         ensures refused { IfErr result (λ v. (v ≡ value) × (self.new.place ≡ self.old.place) × NoneFree self.old.place) }
         ensures groups { self.new.groups ≡ self.old.groups }
     {
@@ -193,7 +193,7 @@ impl<T, J: Deferred> Grouped<T, J> {
         requires participant { p < length self.old.place.participants }
         requires outside { HasOutside self.old (kept_slot kept) }
         ensures state { self.new.place ≡ released p (kept_slot kept) self.old.place }
-        ensures last { (n : ℕ) → status_at self.old.place (kept_slot kept) ≡ Status.Shared n → result ≡ leb n 1 }
+        ensures last { SaysLast result (kept_slot kept) self.old.place }
         ensures groups { self.new.groups ≡ self.old.groups }
     {
         release_kept(&mut self.table, p, kept)
@@ -203,7 +203,7 @@ impl<T, J: Deferred> Grouped<T, J> {
     pub fn make(&mut self, row: Vec<Kept>) -> Result<Group, Vec<Kept>>
         requires { AreOutside (map kept_slot row.items) self.old }
         ensures place { self.new.place ≡ self.old.place }
-        ensures made { IfOk result (λ group. IsFreeName self.old.groups (name_of group) × (self.new.groups ≡ with_row (name_of group) (map kept_slot row.items) self.old.groups)) }
+        ensures made { IfOk result (λ group. MakesGroup (name_of group) (map kept_slot row.items) self.old.groups self.new.groups) }
         ensures refused { IfErr result (λ back. (back ≡ row) × (self.new.groups ≡ self.old.groups) × NoNameFree self.old.groups) }
     {
         self.groups.make(row)
@@ -212,7 +212,7 @@ impl<T, J: Deferred> Grouped<T, J> {
     /// One more owner of a group: of each item that its row names.
     pub fn raise(&mut self, group: &Group) -> Result<Group, Refused>
         requires { IsOut self.old.groups (name_of group.now) }
-        ensures raised { IfOk result (λ other. (name_of other ≡ name_of group.now) × (self.new.groups ≡ with_count (name_of group.now) (count_at self.old.groups (name_of group.now) + 1) self.old.groups)) }
+        ensures raised { IfOk result (λ other. (name_of other ≡ name_of group.now) × (self.new.groups ≡ more_owned (name_of group.now) self.old.groups)) }
         ensures owners { OnOk result (AddsOwners (row_at self.old.groups (name_of group.now)) self.old.place self.new.place) }
         ensures refused { OnErr result (self.new ≡ self.old) }
         ensures full { IsErr result ↔ (count_at self.old.groups (name_of group.now) ≡ 4294967295) }

@@ -1,8 +1,8 @@
 //! Rows of owners with a count of their own.
 
-ghost use Rattle.std.specs.Prelude.{◌≡◌, ◌↔◌, ◌+◌, ◌-◌, ◌<◌, ℕ, [], ◌∷◌, ◌++◌, map, IfErr, IfNone, IfOk, IfSome, IsErr, IsFalse, IsTrue, OnErr, OnOk};
+ghost use Rattle.std.specs.Prelude.{◌≡◌, ◌↔◌, ◌+◌, ℕ, [], ◌∷◌, ◌++◌, map, IfErr, IfNone, IfOk, IfSome, IsErr, IsFalse, IsTrue, OnErr, OnOk};
 ghost use Rattle.sdd_table.specs.Steps.{times};
-ghost use Rattle.owner_groups.specs.Groups.{IsFreeName, IsOut, NoNameFree, NoneOut, count_at, name_of, no_group, owners_in, row_at, with_count, with_row, without};
+ghost use Rattle.owner_groups.specs.Groups.{EndsGroup, IsFreeName, IsOut, LowersGroup, MakesGroup, NoNameFree, NoneOut, count_at, more_owned, name_of, no_group, owners_in, row_at};
 
 use crate::member::Member;
 use std::alloc::{AllocError, Global};
@@ -78,7 +78,7 @@ impl<M: Member> Groups<M> {
     /// A group of these owners, with one owner of its own, where a name is free. Nothing that it names has changed its number of
     /// owners: they stand in the group from now on.
     pub fn make(&mut self, row: Vec<M>) -> Result<Group, Vec<M>>
-        ensures made { IfOk result (λ group. IsFreeName self.old (name_of group) × (self.new ≡ with_row (name_of group) (map M.number row.items) self.old)) }
+        ensures made { IfOk result (λ group. MakesGroup (name_of group) (map M.number row.items) self.old self.new) }
         ensures refused { IfErr result (λ back. (back ≡ row) × (self.new ≡ self.old) × NoNameFree self.old) }
         ensures owners { IfOk result (λ _. (i : ℕ) → owners_in self.new i ≡ owners_in self.old i + times i (map M.number row.items)) }
     {
@@ -96,7 +96,7 @@ impl<M: Member> Groups<M> {
     /// One more owner of a group: so of each that its row names. One count is written, whatever the length of the row.
     pub fn raise(&mut self, group: &Group) -> Result<Group, Refused>
         requires { IsOut self.old (name_of group.now) }
-        ensures raised { IfOk result (λ other. (name_of other ≡ name_of group.now) × (self.new ≡ with_count (name_of group.now) (count_at self.old (name_of group.now) + 1) self.old)) }
+        ensures raised { IfOk result (λ other. (name_of other ≡ name_of group.now) × (self.new ≡ more_owned (name_of group.now) self.old)) }
         ensures refused { OnErr result (self.new ≡ self.old) }
         ensures full { IsErr result ↔ (count_at self.old (name_of group.now) ≡ 4294967295) }
         ensures owners { IfOk result (λ _. (i : ℕ) → owners_in self.new i ≡ owners_in self.old i + times i (row_at self.old (name_of group.now))) }
@@ -113,8 +113,8 @@ impl<M: Member> Groups<M> {
     /// its name is free.
     pub fn give_up(&mut self, group: Group) -> Option<Vec<M>>
         requires { IsOut self.old (name_of group) }
-        ensures lowered { IfNone result ((1 < count_at self.old (name_of group)) × (self.new ≡ with_count (name_of group) (count_at self.old (name_of group) - 1) self.old)) }
-        ensures last { IfSome result (λ row. (count_at self.old (name_of group) ≡ 1) × (map M.number row.items ≡ row_at self.old (name_of group)) × (self.new ≡ without (name_of group) self.old)) }
+        ensures lowered { IfNone result (LowersGroup (name_of group) self.old self.new) }
+        ensures last { IfSome result (λ row. EndsGroup (name_of group) (map M.number row.items) self.old self.new) }
         ensures owners { (i : ℕ) → owners_in self.new i + times i (row_at self.old (name_of group)) ≡ owners_in self.old i }
     {
         let Group { name } = group;

@@ -3,7 +3,7 @@
 ghost use Rattle.std.specs.Prelude.{◌≡◌, ◌<◌, ◌≤◌, ◌+◌, ◌++◌, ◌↔◌, [], ℕ, length, map, reverse, IfErr, IfOk, IsErr, OnErr, OnOk, vec_capacity};
 ghost use Rattle.sdd_table.specs.Place.{AddsOwners};
 ghost use Rattle.sdd_table.specs.Steps.{given_all, times};
-ghost use Rattle.owner_groups.specs.Groups.{IsFreeName, IsOut, NoNameFree, NoneOut, count_at, name_of, row_at, with_count, with_row};
+ghost use Rattle.owner_groups.specs.Groups.{IsFreeName, IsOut, MakesGroup, NoNameFree, NoneOut, count_at, more_owned, name_of, row_at, with_row};
 ghost use Rattle.owner_groups.specs.Grown.{counted_for, less_owned, others_of, replaced};
 ghost use Rattle.owner_groups.specs.Tiered.{GroupsOutside, TakeGroups, after_given, all_less_owned, all_more_owned, held_through, through};
 
@@ -90,7 +90,7 @@ impl<T, J: Deferred> Tiered<T, J> {
         requires { GroupsOutside (map name_of row.items) self.old }
         ensures place { self.new.place ≡ self.old.place }
         ensures lower { self.new.lower ≡ self.old.lower }
-        ensures made { IfOk result (λ group. IsFreeName self.old.upper (name_of group) × (self.new.upper ≡ with_row (name_of group) (map name_of row.items) self.old.upper)) }
+        ensures made { IfOk result (λ group. MakesGroup (name_of group) (map name_of row.items) self.old.upper self.new.upper) }
         ensures refused { IfErr result (λ back. (back ≡ row) × (self.new.upper ≡ self.old.upper) × NoNameFree self.old.upper) }
     {
         self.upper.make(row)
@@ -99,7 +99,7 @@ impl<T, J: Deferred> Tiered<T, J> {
     /// One more owner of a group of groups: of each item that these name. One count is written.
     pub fn raise(&mut self, group: &Group) -> Result<Group, Refused>
         requires { IsOut self.old.upper (name_of group.now) }
-        ensures raised { IfOk result (λ other. (name_of other ≡ name_of group.now) × (self.new.upper ≡ with_count (name_of group.now) (count_at self.old.upper (name_of group.now) + 1) self.old.upper)) }
+        ensures raised { IfOk result (λ other. (name_of other ≡ name_of group.now) × (self.new.upper ≡ more_owned (name_of group.now) self.old.upper)) }
         ensures owners { OnOk result (AddsOwners (through self.old.lower (row_at self.old.upper (name_of group.now))) self.old.place self.new.place) }
         ensures lower { self.new.lower ≡ self.old.lower }
         ensures refused { OnErr result (self.new ≡ self.old) }

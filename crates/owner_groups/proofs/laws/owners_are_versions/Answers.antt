@@ -5,5 +5,5 @@ use Rattle.owner_groups.proofs.laws.owners_are_versions.Goals as goal
 pub returns : goal.returns
 returns c = record {
   often = owners_versions;
-  number = λ gs versions i counted once. owners_versions gs versions counted i ∙ number_of_versions gs i versions once;
+  number = λ gs versions counted i once. owners_versions gs versions counted i ∙ number_of_versions gs i versions once;
 }

@@ -2,8 +2,8 @@ use Rattle.std.proofs.Common.{◌∙◌, ◌<◌, ◌++◌, ◌∷◌, [], ℕ, 
 use Rattle.std.proofs.Math.ListN.{get_or-map as at_map}
 use Rattle.std.proofs.lemmas.List.{length-append, length-map, map-append, take_more}
 use Rattle.sdd_table.specs.Place.{AddsOwners}
-use Rattle.owner_groups.specs.Groups.{IsOut, count_at, name_of, row_at}
-use Rattle.owner_groups.specs.Tiered.{more_owned, through}
+use Rattle.owner_groups.specs.Groups.{IsOut, count_at, more_owned, name_of, row_at}
+use Rattle.owner_groups.specs.Tiered.{through}
 use Rattle.owner_groups.proofs.CopyLemmas.{adds_both}
 use Rattle.owner_groups.proofs.PathLemmas.{next_groups, next_row, next_takes, next_through, no_owner}
 use Rattle.owner_groups.proofs.tiered.raise_each.Goals as goal

@@ -11,7 +11,7 @@ use Rattle.sdd_table.specs.declared.status.Status.TheVariants as status
 use Rattle.sdd_world.proofs.CountLemmas.{counted_given}
 use Rattle.owner_groups.specs.Groups.{GroupState, IsOut, count_at, row_at, with_count, with_row, without}
 use Rattle.owner_groups.specs.Grown.{AreOutside, AreThere, HasOutside, beyond, counted_for, held_by, less_owned, once}
-use Rattle.owner_groups_counted.specs.Counted.{CountedWith, GroupsAreCounted, after_group, row_if, rows_of, seen}
+use Rattle.owner_groups.specs.Counted.{CountedWith, GroupsAreCounted, after_group, row_if, rows_of, seen}
 use Rattle.owner_groups.proofs.CountLemmas.{both_parts, counted_made, counted_with, counted_without}
 use Rattle.owner_groups.proofs.GrownLemmas.{at_most_one_or_more, shared_at}
 use Rattle.owner_groups.proofs.PlaceLemmas.{ends_as, lowers_to}

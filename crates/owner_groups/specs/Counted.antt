@@ -1,10 +1,10 @@
 -- the owners that stand in the rows of groups, counted with all others of a place of one thread
-use Rattle.std.specs.Prelude.{◌+◌, ℕ, zero, suc, List, [], ◌∷◌, ◌++◌, map, cond, leb}
+use Rattle.std.specs.Prelude.{ℕ, zero, suc, List, [], ◌∷◌, ◌++◌, map, cond, leb}
 use Rattle.sdd_world.specs.Counting.{Counted}
 use Rattle.sdd_world.specs.Holding.{Hold, SharedItem}
 use Rattle.sdd_world.specs.State.{State}
 use Rattle.sdd_world.specs.Steps.{given_all}
-use Rattle.owner_groups.specs.Groups.{GroupState, IsFreeName, IsOut, count_at, row_at, with_count, with_row}
+use Rattle.owner_groups.specs.Groups.{GroupState, IsFreeName, IsOut, count_at, more_owned, row_at, with_row}
 use Rattle.owner_groups.specs.Grown.{AreOutside, AreThere, HasOutside, Place, beyond, counted_for, grown_place, held_by, less_owned}
 
 -- a row, where the group has an owner
@@ -38,5 +38,5 @@ pub record GroupsAreCounted {T : Type 0} (holds : T → List Hold) : Type 0 wher
   pub rows_outside : (row : List ℕ) (gs : List GroupState) (hand : List Hold) (w : State T) → CountedWith holds gs (map SharedItem row ++ hand) w → AreOutside row (seen gs w)
   -- a group is made of what is in hand, owned once more, and given back
   pub made : (g : ℕ) (row : List ℕ) (gs : List GroupState) (hand : List Hold) (w : State T) → IsFreeName gs g → CountedWith holds gs (map SharedItem row ++ hand) w → CountedWith holds (with_row g row gs) hand w
-  pub raised : (g : ℕ) (gs : List GroupState) (hand : List Hold) (w : State T) → IsOut gs g → CountedWith holds gs hand w → CountedWith holds (with_count g (count_at gs g + 1) gs) hand w
+  pub raised : (g : ℕ) (gs : List GroupState) (hand : List Hold) (w : State T) → IsOut gs g → CountedWith holds gs hand w → CountedWith holds (more_owned g gs) hand w
   pub given : (p g : ℕ) (gs : List GroupState) (hand : List Hold) (w : State T) → IsOut gs g → CountedWith holds gs hand w → CountedWith holds (less_owned g gs) hand (after_group p g gs w)

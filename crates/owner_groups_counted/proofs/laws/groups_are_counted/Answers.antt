@@ -1,5 +1,0 @@
-use Rattle.owner_groups_counted.proofs.TallyLemmas.{counted_rows}
-use Rattle.owner_groups_counted.proofs.laws.groups_are_counted.Goals as goal
-
-pub returns : goal.returns
-returns g c = counted_rows g.T.Holds.holds
