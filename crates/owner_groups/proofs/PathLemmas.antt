@@ -1,12 +1,12 @@
 -- a row of groups is copied with another owner in it
-use Rattle.std.proofs.Common.{◌≡◌, ℕ, ◌+◌, ◌<◌, List, [], ◌∷◌, ◌++◌, append_assoc, length, length-set, map, get_or, take, drop, refl, sym, ap, ◌∙◌, arith, subst, inl, inr, get_or-set_same, get_or-set_other}
+use Rattle.std.proofs.Common.{◌≡◌, ℕ, ◌+◌, ◌<◌, List, [], ◌∷◌, ◌++◌, length, length-set, get_or, take, drop, refl, sym, ap, ◌∙◌, arith, subst, inl, inr, get_or-set_same, get_or-set_other}
 use Rattle.std.proofs.lemmas.Bool.Decides.{eqb_tells}
-use Rattle.std.proofs.lemmas.List.{append-nil, map-append, drop_more, take-append-drop, take_more}
+use Rattle.std.proofs.lemmas.List.{append-nil, drop_more, take-append-drop, take_more}
 use Rattle.sdd_table.specs.Place.{AddsOwners}
 use Rattle.sdd_table.specs.State.{State}
 use Rattle.sdd_table.specs.Steps.{hit, times}
 use Rattle.sdd_table.proofs.ListLemmas.{hit-other, hit-same}
-use Rattle.owner_groups.specs.Groups.{GroupState, IsOut, count_at, more_owned, name_of, no_group, owners_in, row_at, with_row}
+use Rattle.owner_groups.specs.Groups.{GroupState, IsOut, count_at, more_owned, no_group, owners_in, row_at, with_row}
 use Rattle.owner_groups.specs.Grown.{beyond, counted_for, grown_place, others_of, replaced}
 use Rattle.owner_groups.specs.Tiered.{AreCountedBelow, TakeGroups, all_more_owned, beyond_below, through}
 use Rattle.owner_groups.specs.declared.groups.Group.{Group}
