@@ -2,11 +2,11 @@
 use Rattle.std.proofs.Common.{◌≡◌, ◌≢◌, ℕ, ◌+◌, ◌-◌, List, [], ◌∷◌, ◌++◌, length, take, drop, refl, sym, ap, ◌∙◌, subst, arith, append_assoc, append-nil, inl, inr, Option, Some, None, Result, Ok, Err, OnOk}
 use Rattle.std.proofs.lemmas.List.{take_all, length-drop}
 use Rattle.std.proofs.Math.Seq.{take-add}
-use Rattle.std.specs.Io.KnownBytes.{Consumes, Appends, Keeps, IsAtEnd}
+use Rattle.std.specs.Io.KnownBytes.{Consumes, Appends, IsAtEnd}
 use Rattle.std.specs.List.{AllByRecursion}
 use Rattle.index_script.specs.Lines.{Lacks, joined_lines, Begins, ended, kept}
 use Rattle.index_script.specs.Script.{Script, ActsOnLine, Outputs}
-use Rattle.index_script.specs.Runs.{Answered, Breaks, RunsToEnd, StopsReading, StopsWriting, StopsForMemory}
+use Rattle.index_script.specs.Runs.{Answered, Breaks, RunsToEnd, StopsWriting, StopsForMemory}
 use Rattle.index_script.specs.Inside.{Answers, Falters, Taken, Feeds, BreaksOff, FeedBreaks, StopsShort, FeedStops, TakesAllRead, Finishes}
 use Rattle.index_script.proofs.NumberLemmas.{kept_some}
 
@@ -29,12 +29,6 @@ Consumes-trans None b c xs ys p q = tt
 Consumes-trans (Some u) None c xs ys p q = absurd p
 Consumes-trans (Some u) (Some v) None xs ys p q = absurd q
 Consumes-trans (Some u) (Some v) (Some w) xs ys p q = p ∙ ap (λ l. xs ++ l) q ∙ sym (append_assoc xs ys w)
-
-pub Consumes-keeps : (a b c : Option (List ℕ)) (xs : List ℕ) → Consumes a b xs → Keeps b c → Consumes a c xs
-Consumes-keeps None b c xs p q = tt
-Consumes-keeps (Some u) None c xs p q = absurd p
-Consumes-keeps (Some u) (Some v) None xs p q = absurd q
-Consumes-keeps (Some u) (Some v) (Some w) xs p q = p ∙ ap (λ l. xs ++ l) (sym q)
 
 -- the next bytes are written behind those before them
 pub Appends-next : (a b c : Option (List ℕ)) (bytes : List ℕ) (i n : ℕ) → Appends a b (take i bytes) → Appends b c (take n (take (length bytes - i) (drop i bytes))) → Appends a c (take (i + n) bytes)
@@ -161,10 +155,6 @@ module _ (width : ℕ) where
     answered = Answered-kept start old t.lines w w' w'' t.answered kept;
   }
 
-  -- nothing of the piece was taken yet
-  pub Feeds-none : (old : Script) (begun w : Option (List ℕ)) → Feeds width old begun [] w w begun old
-  Feeds-none old begun w = λ start input before t. subst (λ i. Taken width start i before w begun old) (sym (append-nil input)) t
-
   pub Feeds-line : (old mid new : Script) (first begun begun' w w' w'' : Option (List ℕ)) (done part : List ℕ) → Feeds width old first done w w' begun mid → Lacks 10 part → ((line : List ℕ) → begun ≡ kept line → Answers width mid (line ++ part) w' w'' new) → begun' ≡ kept [] → Feeds width old first (done ++ (part ++ 10 ∷ [])) w w'' begun' new
   Feeds-line old mid new first begun begun' w w' w'' done part fed lacks answers cleared = λ start input before t.
       subst (λ i. Taken width start i before w'' begun' new) (append_assoc input done (part ++ 10 ∷ []))
@@ -186,30 +176,6 @@ module _ (width : ℕ) where
       (Taken-stops start (input ++ done) rest before w' w'' begun mid (fed start input before t) kept)
 
   module _ (start now : Script) (r r' r'' w w' begun : Option (List ℕ)) (s : TakesAllRead width start r r' w w' begun now) where
-    -- a read fails
-    pub serves-fails : Keeps r' r'' → StopsReading width start r r'' w w'
-    serves-fails kept = record {
-      input = s.input;
-      lines = s.taken.lines;
-      begun = s.taken.line;
-      new = now;
-      read = Consumes-keeps r r' r'' s.input s.read kept;
-      splits = s.taken.splits;
-      answered = s.taken.answered;
-    }
-
-    -- the reads come to their end
-    pub serves-stops : StopsReading width start r r' w w'
-    serves-stops = record {
-      input = s.input;
-      lines = s.taken.lines;
-      begun = s.taken.line;
-      new = now;
-      read = s.read;
-      splits = s.taken.splits;
-      answered = s.taken.answered;
-    }
-
     at_end : Consumes r' r'' [] → Consumes r r'' s.input
     at_end none = subst (Consumes r r'') (append-nil s.input) (Consumes-trans r r' r'' s.input [] s.read none)
 
@@ -252,18 +218,6 @@ module _ (width : ℕ) where
       breaks = Breaks-push start now s.taken.lines s.taken.line w w' w'' s.taken.answered (falters s.taken.line s.taken.keeps);
     }
 
-    -- memory is wanted for the last line
-    pub serves-short : (w'' : Option (List ℕ)) → Consumes r' r'' [] → Appends w' w'' [] → StopsForMemory width start r r'' w w''
-    serves-short w'' none kept = record {
-      input = s.input;
-      lines = s.taken.lines;
-      rest = s.taken.line;
-      new = now;
-      read = at_end none;
-      begins = s.taken.splits.begins;
-      answered = Answered-kept start now s.taken.lines w w' w'' s.taken.answered kept;
-    }
-
     -- a piece is taken
     pub serves-piece : (piece : List ℕ) (w'' begun' : Option (List ℕ)) (new : Script) → Consumes r' r'' piece → Feeds width now begun piece w' w'' begun' new → TakesAllRead width start r r'' w w'' begun' new
     serves-piece piece w'' begun' new read fed = record {
@@ -298,20 +252,6 @@ module _ (width : ℕ) where
           begins = b.begins;
           answered = b.answered;
         }
-
-  -- before the first read
-  pub serves-none : (start : Script) (r w begun : Option (List ℕ)) → begun ≡ kept [] → TakesAllRead width start r r w w begun start
-  serves-none start r w begun e = record {
-    input = [];
-    read = Consumes-same r;
-    taken = record {
-      lines = [];
-      line = [];
-      splits = record { begins = record { whole = refl; unbroken = tt }; rest = tt };
-      keeps = e;
-      answered = record { output = []; outputs = (refl, refl); written = Appends-same w };
-    };
-  }
 
   -- nothing was read
   pub stops-at_once : (start : Script) (r w : Option (List ℕ)) → StopsForMemory width start r r w w

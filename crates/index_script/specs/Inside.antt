@@ -28,6 +28,10 @@ module _ (width : ℕ) where
     pub acts : ActsOnLine width old line text new
     pub written : Appends writer writer' text
 
+  -- the line that was begun, and ends with this part, is acted on, and its reply written
+  abbrev pub AnswersBegun : Script → Option (List ℕ) → List ℕ → Option (List ℕ) → Option (List ℕ) → Script → Type 0
+  AnswersBegun old begun part writer writer' new = (line : List ℕ) → begun ≡ kept line → Answers old (line ++ part) writer writer' new
+
   -- a line is acted on, and a beginning of its reply written
   pub record Falters (old : Script) (line : List ℕ) (writer writer' : Option (List ℕ)) : Type 0 where
     pub text : List ℕ
@@ -35,6 +39,13 @@ module _ (width : ℕ) where
     pub new : Script
     pub acts : ActsOnLine width old line text new
     pub written : Appends writer writer' (take n text)
+
+  -- the same of the line that was begun, and ends with this part, and of that which was begun alone
+  abbrev pub FaltersBegun : Script → Option (List ℕ) → List ℕ → Option (List ℕ) → Option (List ℕ) → Type 0
+  FaltersBegun old begun part writer writer' = (line : List ℕ) → begun ≡ kept line → Falters old (line ++ part) writer writer'
+
+  abbrev pub FaltersKept : Script → Option (List ℕ) → Option (List ℕ) → Option (List ℕ) → Type 0
+  FaltersKept old begun writer writer' = (line : List ℕ) → begun ≡ kept line → Falters old line writer writer'
 
   -- the input was taken: its complete lines are answered, and its begun line is kept
   pub record Taken (start : Script) (input : List ℕ) (before writer : Option (List ℕ)) (begun : Option (List ℕ)) (now : Script) : Type 0 where

@@ -53,6 +53,10 @@ abbrev pub told_texts : List Reply → List ℕ
 told_texts [] = []
 told_texts (reply ∷ replies) = told_text reply ++ told_texts replies
 
+-- a commit is accepted under this number, with these replies to its writes
+abbrev pub accepted_text : ℕ → List Reply → List ℕ
+accepted_text number replies = codes "ok " ++ decimal number ++ told_texts replies ++ codes "\n"
+
 -- why a commit is refused, by what is said of the text; one that is refused memory has no reply
 abbrev pub CausePrints : Cause → (List ℕ → Type 0) → Type 0
 CausePrints (causes.Conflict place) Is = Is (codes "conflict " ++ decimal place ++ codes "\n")
@@ -101,7 +105,7 @@ Prints line label (replies.Closed receipt) Is = Is (codes "closed " ++ decimal l
 Prints line label (replies.NoSession back) Is = Is (fault_text line faults.Session)
 Prints line label (replies.Answer answer) Is = Is (answer_text answer)
 Prints line label (replies.Audit found) Is = Is (audit_text found)
-Prints line label (replies.Accepted accepted) Is = Is (codes "ok " ++ decimal accepted.number ++ told_texts accepted.replies.items ++ codes "\n")
+Prints line label (replies.Accepted accepted) Is = Is (accepted_text accepted.number accepted.replies.items)
 Prints line label (replies.Refused refused) Is = CausePrints refused.cause Is
 Prints line label replies.Reclaimed Is = Is (codes "reclaimed\n")
 Prints line label (replies.Slots count) Is = Is (codes "slots " ++ decimal count ++ codes "\n")

@@ -3,7 +3,7 @@
 ghost use Rattle.std.specs.Prelude.{◌≡◌, ◌++◌, OnOk, codes, length};
 ghost use Rattle.std.specs.String.{string_bytes};
 ghost use Rattle.std.specs.Fmt.{decimal};
-ghost use Rattle.index_script.specs.Replies.{CausePrints, Prints, answer_text, audit_text, discarded_text, fault_text, near_text, pair_text, pair_texts, staged_text, told_text, told_texts};
+ghost use Rattle.index_script.specs.Replies.{CausePrints, Prints, accepted_text, answer_text, audit_text, discarded_text, fault_text, near_text, pair_text, pair_texts, staged_text, told_text};
 
 use crate::request::Fault;
 use local_index::{Accepted, Answer, Audit, Cause, DeskReply, Near, Reply, Text};
@@ -139,7 +139,7 @@ fn write_audit(text: &mut String, found: Audit) -> Result<(), AllocError>
 }
 
 fn write_accepted(text: &mut String, accepted: &Accepted) -> Result<(), AllocError>
-    ensures { OnOk result (string_bytes text.new ≡ string_bytes text.old ++ codes "ok " ++ decimal accepted.now.number ++ told_texts accepted.now.replies.items ++ codes "\n") }
+    ensures { OnOk result (string_bytes text.new ≡ string_bytes text.old ++ accepted_text accepted.now.number accepted.now.replies.items) }
 {
     let number = accepted.number;
     write!(text, "ok {number}")?;

@@ -1,12 +1,12 @@
 //! Reading a script, and writing its output.
 
-ghost use Rattle.std.specs.Prelude.{◌≡◌, ◌+◌, ◌<◌, ◌≤◌, ◌^◌, ℕ, List, [], ◌++◌, IfErr, OnOk, OnErr, IsErrOf, length, take};
+ghost use Rattle.std.specs.Prelude.{◌≡◌, ◌+◌, ◌<◌, ◌≤◌, ◌^◌, ℕ, List, [], IfErr, OnOk, OnErr, IsErrOf, length, take};
 ghost use Rattle.std.specs.Io.KnownBytes.{Appends};
 ghost use Rattle.version_views.specs.Sizes.{IsStoreSized};
 ghost use Rattle.index_script.specs.Lines.{kept};
 ghost use Rattle.index_script.specs.Script.{fresh_script};
 ghost use Rattle.index_script.specs.Runs.{RunsToEnd, StopsReading, StopsWriting, StopsForMemory, status_of, complaint_of};
-ghost use Rattle.index_script.specs.Inside.{Answers, Falters, Finishes, Feeds, FeedBreaks, FeedStops};
+ghost use Rattle.index_script.specs.Inside.{Answers, AnswersBegun, FaltersBegun, FaltersKept, Finishes, Feeds, FeedBreaks, FeedStops};
 
 use crate::line::{Begun, split_line};
 use crate::reply::LONGEST_FAULT;
@@ -135,10 +135,10 @@ fn end_line<const S: usize, W: Write>(
     writer: &mut W,
 ) -> Result<(), RunError>
     requires { script.old.line + 1 < 2 ^ 64 }
-    ensures ok { OnOk result ((line : List ℕ) → begun.old ≡ kept line → Answers S script.old (line ++ part.now) (W.contents writer.old) (W.contents writer.new) script.new) }
+    ensures ok { OnOk result (AnswersBegun S script.old begun.old part.now (W.contents writer.old) (W.contents writer.new) script.new) }
     ensures begun { OnOk result (begun.new ≡ kept []) }
     ensures counted { OnOk result (script.new.line ≡ script.old.line + 1) }
-    ensures write { IsErrOf result RunError.Write → (line : List ℕ) → begun.old ≡ kept line → Falters S script.old (line ++ part.now) (W.contents writer.old) (W.contents writer.new) }
+    ensures write { IsErrOf result RunError.Write → FaltersBegun S script.old begun.old part.now (W.contents writer.old) (W.contents writer.new) }
     ensures memory { IsErrOf result RunError.Memory → Appends (W.contents writer.old) (W.contents writer.new) [] }
     ensures read { IsErrOf result RunError.Read → ⊥ }
 {
@@ -159,7 +159,7 @@ fn finish<const S: usize, W: Write>(
 ) -> Result<(), RunError>
     requires { script.old.line + 1 < 2 ^ 64 }
     ensures ok { OnOk result (Finishes S script.old begun.now (W.contents writer.old) (W.contents writer.new) script.new) }
-    ensures write { IsErrOf result RunError.Write → (line : List ℕ) → begun.now ≡ kept line → Falters S script.old line (W.contents writer.old) (W.contents writer.new) }
+    ensures write { IsErrOf result RunError.Write → FaltersKept S script.old begun.now (W.contents writer.old) (W.contents writer.new) }
     ensures memory { IsErrOf result RunError.Memory → Appends (W.contents writer.old) (W.contents writer.new) [] }
     ensures read { IsErrOf result RunError.Read → ⊥ }
 {
@@ -179,7 +179,7 @@ fn answer<const S: usize, W: Write>(
     requires { script.old.line + 1 < 2 ^ 64 }
     ensures ok { OnOk result ((line : List ℕ) → begun.now ≡ kept line → Answers S script.old line (W.contents writer.old) (W.contents writer.new) script.new) }
     ensures counted { OnOk result (script.new.line ≡ script.old.line + 1) }
-    ensures write { IsErrOf result RunError.Write → (line : List ℕ) → begun.now ≡ kept line → Falters S script.old line (W.contents writer.old) (W.contents writer.new) }
+    ensures write { IsErrOf result RunError.Write → FaltersKept S script.old begun.now (W.contents writer.old) (W.contents writer.new) }
     ensures memory { IsErrOf result RunError.Memory → Appends (W.contents writer.old) (W.contents writer.new) [] }
     ensures read { IsErrOf result RunError.Read → ⊥ }
 {

@@ -45,9 +45,6 @@ module _ {K V : Type 0} where
       pub front : AllByRecursion (λ p. test p.0 ≡ false) (take n qs)
       pub some : is_nil ps ≡ true → is_nil qs ≡ true
 
-    pub cleared_none : (ps : List (K × V)) (ls : List (ℕ × ℕ)) → Cleared 0 ps ps ls ls
-    cleared_none ps ls = record { pairs = refl; labels = refl; front = tt; some = λ e. e }
-
     filter_remove : (n : ℕ) (qs : List (K × V)) (p : K × V) → slice_get qs n ≡ Some p → test p.0 ≡ true → filter (λ p. not (test p.0)) (remove qs n) ≡ filter (λ p. not (test p.0)) qs
     filter_remove zero [] p e t = refl
     filter_remove (suc n) [] p e t = refl

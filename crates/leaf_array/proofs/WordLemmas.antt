@@ -2,7 +2,7 @@
 use Rattle.std.proofs.Common.{arith, ◌≡◌, ℕ, zero, suc, ◌+◌, ◌-◌, ◌*◌, ◌<◌, ◌≤◌, ◌∷◌, ◌&&◌, List, true, false, cond, nat_lt, refl, ap, ◌∙◌, sym}
 use Rattle.std.proofs.lemmas.Bool.Decides.{nat_tests}
 use Rattle.leaf_array.specs.Cells.{rank_in, slot_of}
-use Rattle.leaf_array.specs.Words.{ranks_from, ranks_in_order, rises}
+use Rattle.leaf_array.specs.Words.{ranks_in_order, rises}
 
 -- 16 to the n
 abbrev pub limit : ℕ → ℕ
@@ -15,16 +15,6 @@ limit_more n (suc m) = let e : n + suc m ≡ suc (n + m) = omega arith in rw e (
 
 pub limit_within : (n m : ℕ) → n ≤ m → limit n ≤ limit m
 limit_within n m le = let e : n + (m - n) ≡ m = omega (arith, le) in rw e at (limit_more n (m - n))
-
-pub limit_next : (n : ℕ) → limit (n + 1) ≡ 16 * limit n
-limit_next n = let e : n + 1 ≡ suc n = omega arith in ap limit e
-
-pub ranks_next : (back : ℕ) (ls : List (ℕ × ℕ)) → back < 15 → ranks_from (15 - (back + 1)) (back + 1) ls ≡ rank_in (14 - back) ls + 16 * ranks_from (15 - back) back ls
-ranks_next back ls lt =
-    let e : back + 1 ≡ suc back = omega arith in
-    let e1 : 15 - (back + 1) ≡ 14 - back = omega (arith, lt) in
-    let e2 : 14 - back + 1 ≡ 15 - back = omega (arith, lt) in
-    rw (e1, e) (ap (λ n. rank_in (14 - back) ls + 16 * ranks_from n back ls) e2)
 
 order_next : (place : ℕ) (ls : List (ℕ × ℕ)) → place < 15
     → ranks_in_order place (15 - place) ls

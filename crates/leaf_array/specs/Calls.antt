@@ -1,9 +1,10 @@
 -- What an array calls its callers' closures with, and in which order.
-use Rattle.std.specs.Prelude.{◌≡◌, ◌⊎◌, ℕ, ◌==◌, Bool, nat_lt, List, [], ◌∷◌, ◌++◌, map, Option, Some, Result, Ok, Err}
+use Rattle.std.specs.Prelude.{◌≡◌, ◌⊎◌, ℕ, ◌==◌, Bool, IsTrue, false, nat_lt, List, [], ◌∷◌, ◌++◌, map, Option, Some, Result, Ok, Err}
 use Rattle.std.specs.List.{filter, range_with_len, enumerate_from, FoldsTo}
 use Rattle.std.specs.Fn.{Called, Takes, Mut}
 use denote.Ref.{Bor}
 use Rattle.leaf_array.specs.Cells.{Cells, slot_of, rank_in, in_slot}
+use Rattle.leaf_array.specs.Words.{boundary}
 
 -- the slots that have a rank, rising
 abbrev pub ranked_slots : List (ℕ × ℕ) → List ℕ
@@ -12,6 +13,10 @@ ranked_slots labels = filter (λ slot. nat_lt 0 (rank_in slot labels)) (range_wi
 -- the slots of the n lowest bitmap places, in their order
 abbrev pub slots_in_order : ℕ → List ℕ
 slots_in_order n = map slot_of (range_with_len 0 n)
+
+-- a call was made at each element, in their order
+abbrev pub CallsEach : {P A : Type 0} → (P → A → P → Type 0) → P → List A → Type 0
+CallsEach {P} step p xs = (last : P) × FoldsTo step p xs last
 
 -- a call may be made at each element, in whatever state the calls at those before it leave
 pub record TakesEach {P A : Type 0} (takes : P → A → Type 0) (step : P → A → P → Type 0) (p : P) (xs : List A) : Type 0 where
@@ -32,6 +37,10 @@ module _ {F K V : Type 0} where
   -- the pairs may be dealt in their order, with a boundary
   abbrev pub MayDeal : Mut F (Bor K × (Bor V × (ℕ × (ℕ × Unit {0})))) (Unit {0}) → ℕ → F → List (K × V) → Type 0
   MayDeal g boundary f pairs = TakesEach (TakesDealt g boundary) (IsDealt g boundary) f (enumerate_from 0 pairs)
+
+  -- the pairs of an array may be dealt, with its boundary
+  abbrev pub MayDealAll : Mut F (Bor K × (Bor V × (ℕ × (ℕ × Unit {0})))) (Unit {0}) → F → Cells K V → Type 0
+  MayDealAll g f a = MayDeal g (boundary a).0 f a.pairs
 
   -- a call at what was made of the pairs before, and the next key and its value
   pub record IsFolded {B : Type 0} (g : Mut F (B × (Bor K × (Bor V × Unit {0}))) B) (p : F × B) (e : K × V) (q : F × B) : Type 0 where
@@ -68,3 +77,7 @@ module _ {F K V E : Type 0} (g : Mut F (ℕ × (ℕ × (Option (Bor K × Bor V) 
   -- they are shown in that order, up to the first error, and r is what this answers
   abbrev pub IsShownAll : F → Result (Unit {0}) E → Type 0
   IsShownAll f r = (last : F) × TriesEach (IsShown g a) f (slots_in_order a.used) r last
+
+  -- they are shown if that is wanted, and else r is no error
+  abbrev pub IsShownIf : F → Bool → Result (Unit {0}) E → Type 0
+  IsShownIf f wanted r = (IsTrue wanted → IsShownAll f r) × (wanted ≡ false → r ≡ Ok tt)

@@ -1,13 +1,13 @@
 //! An array of at most fifteen pairs, by rising keys.
 
 ghost use Rattle.std.specs.Prelude.{◌≡◌, ◌↔◌, ◌+◌, ◌==◌, ◌<◌, ◌≤◌, ◌||◌, ◌&&◌, ◌-◌, not, take, drop, IsTrue, IsSome, [], length, slice_get, true, false, Some, None, IfSome, IfOk, IfErr, option_copied};
-ghost use Rattle.std.specs.BTreeMap.{is_at};
-ghost use Rattle.std.specs.Map.{lookup_entry, keys_of};
+ghost use Rattle.std.specs.Map.{keys_of};
 ghost use Rattle.std.specs.List.Sorted.{IsStrictlySortedBy};
 ghost use Rattle.std.specs.Option.{option_map};
 ghost use Rattle.std.specs.Fn.{FnOnceReturnsAt, FnOnceTakesAt};
 ghost use Rattle.leaf_array.specs.Cells.{no_cells, in_slot, IsUsed, is_nil, entered, standing, rank_in, slot_of, first_above, last_below, newest, lesser, array_has_key, array_inserted, appended, array_replaced, array_overwritten, array_removed, removed_at, filled_array};
 ghost use Rattle.leaf_array.specs.Lookups.{LendsPair, LendsValue};
+ghost use Rattle.leaf_array.specs.Pairs.{pair_of_key};
 ghost use Rattle.leaf_array.specs.Words.{word};
 ghost use Rattle.leaf_array.specs.Results.{IsSuccess, IsDuplicate, IsFull, given_back, is_repeated, is_refused, is_removal};
 ghost use Rattle.leaf_array.specs.declared.result.RemoveResult.TheVariants.{Retired, Fail, Frozen};
@@ -243,7 +243,7 @@ impl<K: Ord, V> Array<K, V> {
         ensures raised { steps.old.count ≤ steps.new.count }
         ensures place { IfSome result (λ f. f.0 ≡ lesser K.cmp key.now self.now.pairs) }
         ensures within { IfSome result (λ f. f.0 < length self.now.pairs) }
-        ensures pair { LendsPair (option_map (λ f. f.1) result) (lookup_entry (is_at (K.cmp key.now)) self.now.pairs) }
+        ensures pair { LendsPair (option_map (λ f. f.1) result) (pair_of_key K.cmp key.now self.now.pairs) }
     {
         let (at, pair) = self.slots.lower(key, steps);
         match pair {
@@ -347,7 +347,7 @@ impl<K: Ord, V> Array<K, V> {
     /// The pair with this key.
     #[inline(always)]
     pub fn search_entry(&self, key: &K) -> Option<(&K, &V)>
-        ensures { LendsPair result (lookup_entry (is_at (K.cmp key.now)) self.now.pairs) }
+        ensures { LendsPair result (pair_of_key K.cmp key.now self.now.pairs) }
     {
         let mut steps = Steps::new();
         self.search_entry_counted(key, &mut steps)
@@ -356,7 +356,7 @@ impl<K: Ord, V> Array<K, V> {
     /// The pair with this key, by at most fifteen comparisons, which are counted.
     #[inline(always)]
     pub fn search_entry_counted(&self, key: &K, steps: &mut Steps) -> Option<(&K, &V)>
-        ensures pair { LendsPair result (lookup_entry (is_at (K.cmp key.now)) self.now.pairs) }
+        ensures pair { LendsPair result (pair_of_key K.cmp key.now self.now.pairs) }
         ensures cost { steps.new.count ≤ steps.old.count + 15 }
         ensures raised { steps.old.count ≤ steps.new.count }
     {
@@ -369,7 +369,7 @@ impl<K: Ord, V> Array<K, V> {
     /// The value of the pair with this key.
     #[inline(always)]
     pub fn search_val(&self, key: &K) -> Option<&V>
-        ensures { LendsValue result (lookup_entry (is_at (K.cmp key.now)) self.now.pairs) }
+        ensures { LendsValue result (pair_of_key K.cmp key.now self.now.pairs) }
     {
         let mut steps = Steps::new();
         match self.found(key, &mut steps) {
@@ -568,10 +568,10 @@ impl<K: Ord, V> Array<K, V> {
     pub fn remove_if<F: FnOnce(&V) -> bool>(&mut self, key: &K, condition: F) -> RemoveResult
     where
         F: Drop,
-        requires { self.old.frozen ≡ false → IfSome (lookup_entry (is_at (K.cmp key.now)) self.old.pairs) (λ e. FnOnceTakesAt F.FnOnce condition e.1) }
+        requires { self.old.frozen ≡ false → IfSome (pair_of_key K.cmp key.now self.old.pairs) (λ e. FnOnceTakesAt F.FnOnce condition e.1) }
         ensures frozen { result ≡ Frozen ↔ self.old.frozen ≡ true }
-        ensures absent { self.old.frozen ≡ false → lookup_entry (is_at (K.cmp key.now)) self.old.pairs ≡ None → result ≡ Fail }
-        ensures asked { self.old.frozen ≡ false → IfSome (lookup_entry (is_at (K.cmp key.now)) self.old.pairs) (λ e. FnOnceReturnsAt F.FnOnce condition e.1 (is_removal result)) }
+        ensures absent { self.old.frozen ≡ false → pair_of_key K.cmp key.now self.old.pairs ≡ None → result ≡ Fail }
+        ensures asked { self.old.frozen ≡ false → IfSome (pair_of_key K.cmp key.now self.old.pairs) (λ e. FnOnceReturnsAt F.FnOnce condition e.1 (is_removal result)) }
         ensures removed { is_removal result ≡ true → self.new ≡ array_removed K.cmp key.now self.old }
         ensures kept { is_removal result ≡ false → self.new ≡ self.old }
         ensures last { is_removal result ≡ true → (result ≡ Retired ↔ self.new.pairs ≡ []) }

@@ -1,10 +1,10 @@
 //! What the definitions of lists and writes promise of each other.
 
-ghost use Rattle.std.specs.Prelude.{◌≡◌, List, Some, false};
-ghost use Rattle.std.specs.BTreeMap.{insert_entry, is_at};
+ghost use Rattle.std.specs.Prelude.{◌≡◌, List, Some};
+ghost use Rattle.std.specs.BTreeMap.{is_at};
 ghost use Rattle.std.specs.Map.{lookup, lookup_entry, remove_entry};
 ghost use Rattle.std.specs.Option.{is_some, option_map};
-ghost use Rattle.leaf_array.specs.Edits.{inserted, removed, upserted};
+ghost use Rattle.leaf_array.specs.Edits.{removed, upserted, EnteringIsInserting, ExchangingIsUpserting};
 ghost use Rattle.leaf_array.specs.Pairs.{IsAscending, has_key, value_of_key};
 
 /// An ascending list stays ascending when a pair is put at its place, so also where an insert adds
@@ -25,12 +25,12 @@ pub fn upserting_is_found<K: Ord, V>()
 
 /// An entry put into an ascending list that doesn't have its key, in the words of std's maps, is an insert.
 pub fn entering_is_inserting<K: Ord, V>()
-    ensures { (key : K) (val : V) (ps : List (K × V)) → IsAscending K.cmp ps → has_key K.cmp key ps ≡ false → insert_entry K.cmp ps key val ≡ inserted K.cmp key val ps }
+    ensures { EnteringIsInserting {K} {V} K.cmp }
 {}
 
 /// An entry put into an ascending list in the place of any with its key is an upsert.
 pub fn exchanging_is_upserting<K: Ord, V>()
-    ensures { (key : K) (value : V) (pairs : List (K × V)) → IsAscending K.cmp pairs → insert_entry K.cmp (remove_entry (is_at (K.cmp key)) pairs) key value ≡ upserted K.cmp key value pairs }
+    ensures { ExchangingIsUpserting {K} {V} K.cmp }
 {}
 
 /// An entry taken out of an ascending list is a removal.

@@ -2,8 +2,8 @@
 
 ghost use Rattle.std.specs.Prelude.{◌≡◌, ◌++◌, ◌||◌, ◌&&◌, not, true, false, MatchOption, slice_get};
 ghost use Rattle.std.specs.List.{filter};
-ghost use Rattle.leaf_array.specs.Lookups.{deref_bound};
-ghost use Rattle.std.specs.BTreeMap.Range.{range_contains, is_from_start, is_past_end};
+ghost use Rattle.leaf_array.specs.Lookups.{deref_bound, is_within};
+ghost use Rattle.std.specs.BTreeMap.Range.{is_from_start, is_past_end};
 ghost use Rattle.leaf_array.specs.Cells.{is_nil, labels_left, taken_out};
 
 use crate::array::Array;
@@ -17,9 +17,9 @@ impl<K: Ord, V> Array<K, V> {
     /// Each keeps its slot, as [`Array::key`] and [`Array::val`] show, and the greatest of them is the one that
     /// was removed last. An array that isn't frozen and so loses its last pair retires.
     pub fn remove_range(&mut self, lo: Bound<&K>, hi: Bound<&K>)
-        ensures pairs { self.new.pairs ≡ filter (λ p. not (range_contains K.cmp (deref_bound lo.entry) (deref_bound hi.entry) p.0)) self.old.pairs }
-        ensures labels { self.new.labels ≡ labels_left (λ k. range_contains K.cmp (deref_bound lo.entry) (deref_bound hi.entry) k) self.old.pairs self.old.labels }
-        ensures tombstones { self.new.tombstones ≡ taken_out (λ k. range_contains K.cmp (deref_bound lo.entry) (deref_bound hi.entry) k) self.old.pairs self.old.labels ++ self.old.tombstones }
+        ensures pairs { self.new.pairs ≡ filter (λ p. not (is_within K.cmp lo.entry hi.entry p.0)) self.old.pairs }
+        ensures labels { self.new.labels ≡ labels_left (λ k. is_within K.cmp lo.entry hi.entry k) self.old.pairs self.old.labels }
+        ensures tombstones { self.new.tombstones ≡ taken_out (λ k. is_within K.cmp lo.entry hi.entry k) self.old.pairs self.old.labels ++ self.old.tombstones }
         ensures used { self.new.used ≡ self.old.used }
         ensures frozen { self.new.frozen ≡ self.old.frozen }
         ensures retired { self.new.retired ≡ (self.old.retired || is_nil self.new.pairs && not (is_nil self.old.pairs) && not self.old.frozen) }
@@ -36,7 +36,7 @@ impl<K: Ord, V> Array<K, V> {
 
     /// Whether the key of the pair at `at` lies within two bounds.
     fn is_within(&self, at: usize, lo: &Bound<&K>, hi: &Bound<&K>) -> bool
-        ensures { MatchOption (slice_get self.now.pairs at) (result ≡ false) (λ p. result ≡ range_contains K.cmp (deref_bound lo.now) (deref_bound hi.now) p.0) }
+        ensures { MatchOption (slice_get self.now.pairs at) (result ≡ false) (λ p. result ≡ is_within K.cmp lo.now hi.now p.0) }
     {
         match self.pair(at) {
             Some((key, _)) => is_from(lo, key) && !is_past(hi, key),

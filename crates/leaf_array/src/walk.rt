@@ -21,10 +21,10 @@ impl<K: Ord, V> Array<K, V> {
     ) -> bool
         requires open { self.old.frozen ≡ false }
         requires asked { P.pre prepare (boundary self.old).0 (boundary self.old).1 (boundary self.old).2 }
-        requires dealt { P.post prepare (boundary self.old).0 (boundary self.old).1 (boundary self.old).2 true → MayDeal F.FnMut (boundary self.old).0 dist self.old.pairs }
+        requires dealt { P.post prepare (boundary self.old).0 (boundary self.old).1 (boundary self.old).2 true → MayDealAll F.FnMut dist self.old }
         ensures frozen { self.new ≡ record self.old { frozen = true } }
         ensures prepared { P.post prepare (boundary self.old).0 (boundary self.old).1 (boundary self.old).2 result }
-        ensures dealt { IsTrue result → (last : F) × FoldsTo (IsDealt F.FnMut (boundary self.old).0) dist (enumerate_from 0 self.old.pairs) last }
+        ensures dealt { IsTrue result → CallsEach (IsDealt F.FnMut (boundary self.old).0) dist (enumerate_from 0 self.old.pairs) }
     {
         let _ = self.freeze();
         let (boundary, len, ordered) = self.optimal_boundary();
@@ -38,7 +38,7 @@ impl<K: Ord, V> Array<K, V> {
     /// Calls `dist` at each reachable key and value, with a boundary and the place of the pair.
     fn deal<F: FnMut(&K, &V, u8, u8)>(&self, boundary: u8, mut dist: F)
         requires { MayDeal F.FnMut boundary dist self.now.pairs }
-        ensures { (last : F) × FoldsTo (IsDealt F.FnMut boundary) dist (enumerate_from 0 self.now.pairs) last }
+        ensures { CallsEach (IsDealt F.FnMut boundary) dist (enumerate_from 0 self.now.pairs) }
     {
         let mut at = 0;
         while at < self.len() {
@@ -54,7 +54,7 @@ impl<K: Ord, V> Array<K, V> {
     pub fn for_each_pos<P: FnOnce(bool) -> bool, F: FnMut(u8)>(&self, p: P, f: F)
         requires asked { P.pre p self.now.frozen }
         requires shown { P.post p self.now.frozen true → TakesEach (λ f slot. F.pre f slot) (λ f slot g. F.step f slot tt g) f (ranked_slots self.now.labels) }
-        ensures { (wanted : Bool) × P.post p self.now.frozen wanted × (IsTrue wanted → (last : F) × FoldsTo (λ f slot g. F.step f slot tt g) f (ranked_slots self.now.labels) last) }
+        ensures { (wanted : Bool) × P.post p self.now.frozen wanted × (IsTrue wanted → CallsEach (λ f slot g. F.step f slot tt g) f (ranked_slots self.now.labels)) }
     {
         if p(self.is_frozen()) {
             self.visit(f);
@@ -64,7 +64,7 @@ impl<K: Ord, V> Array<K, V> {
     /// Calls `f` at each slot whose pair can be reached, rising.
     fn visit<F: FnMut(u8)>(&self, mut f: F)
         requires { TakesEach (λ f slot. F.pre f slot) (λ f slot g. F.step f slot tt g) f (ranked_slots self.now.labels) }
-        ensures { (last : F) × FoldsTo (λ f slot g. F.step f slot tt g) f (ranked_slots self.now.labels) last }
+        ensures { CallsEach (λ f slot g. F.step f slot tt g) f (ranked_slots self.now.labels) }
     {
         let mut slot: u8 = 0;
         while slot < 15 {
@@ -86,7 +86,7 @@ impl<K: Ord, V> Array<K, V> {
     >(&self, p: P, f: F) -> Result<(), E>
         requires asked { P.pre p self.now.frozen self.now.retired }
         requires shown { P.post p self.now.frozen self.now.retired true → MayShow F.FnMut self.now f }
-        ensures { (wanted : Bool) × P.post p self.now.frozen self.now.retired wanted × (IsTrue wanted → IsShownAll F.FnMut self.now f result) × (wanted ≡ false → result ≡ Ok tt) }
+        ensures { (wanted : Bool) × P.post p self.now.frozen self.now.retired wanted × IsShownIf F.FnMut self.now f wanted result }
     {
         if p(self.is_frozen(), self.is_retired()) {
             self.show(f)

@@ -1,5 +1,5 @@
 -- Rows of places: what a row holds, and what its edits leave.
-use Rattle.std.specs.Prelude.{◌≡◌, ℕ, suc, ◌+◌, ◌==◌, Bool, true, false, cond, ◌||◌, List, [], ◌∷◌, Option, Some, None}
+use Rattle.std.specs.Prelude.{◌≡◌, ℕ, suc, ◌+◌, ◌==◌, Bool, true, false, cond, ◌||◌, List, [], ◌∷◌, ◌++◌, take, drop, Option, Some, None}
 use Rattle.std.specs.declared.cmp.Ordering.{Ordering}
 use Rattle.std.specs.declared.cmp.Ordering.TheVariants.{Equal, Greater}
 use Rattle.std.specs.Ordering.{is_lt}
@@ -165,6 +165,22 @@ module _ {K V : Type 0} where
   IsTailed (Empty ∷ ps) = IsEmptied ps
   IsTailed (Dead s k v ∷ ps) = IsTailed ps
   IsTailed (Live s g k v ∷ ps) = IsTailed ps
+
+  -- one place more before the one at `at`; the first empty one behind it is taken up
+  abbrev pub IsInsertedAt : ℕ → Place K V → List (Place K V) → List (Place K V) → Type 0
+  IsInsertedAt at place before after = after ≡ take at before ++ pushed place (drop at before)
+
+  -- another place at `at`
+  abbrev pub IsReplacedAt : ℕ → Place K V → List (Place K V) → List (Place K V) → Type 0
+  IsReplacedAt at place before after = after ≡ take at before ++ place ∷ drop (at + 1) before
+
+  -- the live place at `at` with another pair
+  abbrev pub IsPairedAt : ℕ → K → V → List (Place K V) → List (Place K V) → Type 0
+  IsPairedAt at key val before after = after ≡ take at before ++ paired key val (drop at before)
+
+  -- the first `count` of these pairs from the place `skip` on, with the slots of their bitmap places, counted from `bitmap`
+  abbrev pub IsFilledFrom : ℕ → ℕ → ℕ → List (K × V) → List (Place K V) → List (Place K V) → Type 0
+  IsFilledFrom skip bitmap count pairs before after = after ≡ take skip before ++ (lined (bitmap + skip) (take count pairs) ++ drop (skip + count) before)
 
   module _ (cmp : K → K → Ordering) (key : K) where
     -- how many of the live places at the front have a lesser key

@@ -2,9 +2,9 @@
 
 ghost use Rattle.std.specs.Prelude.{◌≡◌, ◌+◌, ◌<◌, ◌≤◌, ◌++◌, ◌∷◌, [], length, take, drop, IsTrue, IsSome, Some, IfOk, IfErr, option_copied, slice_index_or};
 ghost use Rattle.leaf_slots.specs.declared.place.Place.TheVariants.{Empty};
-ghost use Rattle.leaf_slots.specs.Labels.{rank_in, first_above, last_below, newest, lesser, entered};
-ghost use Rattle.leaf_slots.specs.Lookups.{LendsPair};
-ghost use Rattle.leaf_slots.specs.Places.{live_pair, live_pairs, dead_pairs, labels_above, top, has_room, pushed, tombstones, renewed, paired, died, front_vacated, repacked, pair_at_slot, stands, live_below, least, lined, no_places, no_half, IsEmptied, IsPacked};
+ghost use Rattle.leaf_slots.specs.Labels.{rank_in, first_above, last_below, newest, entered};
+ghost use Rattle.leaf_slots.specs.Lookups.{LendsPair, IsSoughtAt};
+ghost use Rattle.leaf_slots.specs.Places.{live_pair, live_pairs, dead_pairs, labels_above, top, has_room, tombstones, renewed, died, front_vacated, repacked, pair_at_slot, stands, live_below, least, lined, no_places, no_half, IsEmptied, IsInsertedAt, IsPacked, IsPairedAt, IsReplacedAt};
 
 use crate::place::{Place, precedes};
 use crate::row::{
@@ -66,8 +66,8 @@ impl<K: Ord, V> Slots<K, V> {
     pub fn find(&self, key: &K) -> Result<usize, usize>
         requires packed { IsPacked self.now }
         requires sorted { IsStrictlySortedBy K.cmp (keys_of (live_pairs self.now)) }
-        ensures hit { IfOk result (λ at. (at ≡ lesser K.cmp key.now (live_pairs self.now)) × (is_some (lookup (is_at (K.cmp key.now)) (live_pairs self.now)) ≡ true)) }
-        ensures miss { IfErr result (λ at. (at ≡ lesser K.cmp key.now (live_pairs self.now)) × (is_some (lookup (is_at (K.cmp key.now)) (live_pairs self.now)) ≡ false)) }
+        ensures hit { IfOk result (λ at. IsSoughtAt K.cmp key.now (live_pairs self.now) true at) }
+        ensures miss { IfErr result (λ at. IsSoughtAt K.cmp key.now (live_pairs self.now) false at) }
     {
         let mut steps = Steps::new();
         let (at, pair) = self.lower(key, &mut steps);
@@ -173,7 +173,7 @@ impl<K, V> Slots<K, V> {
     pub fn insert(&mut self, at: usize, place: Place<K, V>)
         requires { IsTrue (has_room (drop at self.old)) }
         ensures count { length self.new ≡ 15 }
-        ensures places { self.new ≡ take at self.old ++ pushed place (drop at self.old) }
+        ensures places { IsInsertedAt at place self.old self.new }
     {
         self.all.insert(at, place);
     }
@@ -253,7 +253,7 @@ impl<K, V> Slots<K, V> {
         requires { IsSome (live_pair (slice_index_or self.old at Empty)) }
         ensures count { length self.new ≡ 15 }
         ensures pair { Some result ≡ live_pair (slice_index_or self.old at Empty) }
-        ensures places { self.new ≡ take at self.old ++ paired key value (drop at self.old) }
+        ensures places { IsPairedAt at key value self.old self.new }
     {
         self.all.overwrite(at, key, value)
     }
@@ -283,7 +283,7 @@ impl<K, V> Slots<K, V> {
         requires { at < 15 }
         ensures count { length self.new ≡ 15 }
         ensures old { result ≡ slice_index_or self.old at Empty }
-        ensures places { self.new ≡ take at self.old ++ place ∷ drop (at + 1) self.old }
+        ensures places { IsReplacedAt at place self.old self.new }
     {
         self.all.put(at, place)
     }
@@ -293,7 +293,7 @@ impl<K, V> Slots<K, V> {
         requires within { at < 15 }
         requires empty { slice_index_or self.old at Empty ≡ Empty }
         ensures count { length self.new ≡ 15 }
-        ensures places { self.new ≡ take at self.old ++ place ∷ drop (at + 1) self.old }
+        ensures places { IsReplacedAt at place self.old self.new }
     {
         match self.put(at, place) {
             Place::Empty => {},

@@ -1,5 +1,5 @@
 -- The versions of an index have the lists of their numbers, and each call keeps it an index.
-use Rattle.std.proofs.Common.{length-append, ◌≡◌, ◌≢◌, ℕ, ◌+◌, ◌-◌, ◌≤◌, List, [], ◌∷◌, ◌++◌, length, drop, get_or, replicate, set, refl, sym, ap, ◌∙◌, subst, arith, Option, Some, None, IfSome, Result, Ok, Err, OnOk, OnErr, ⊎_elim}
+use Rattle.std.proofs.Common.{length-append, ◌≡◌, ◌≢◌, ℕ, ◌+◌, ◌-◌, ◌≤◌, List, [], ◌∷◌, ◌++◌, get_or, replicate, set, refl, sym, ap, ◌∙◌, subst, arith, Option, Some, None, IfSome, Result, Ok, Err, OnOk, OnErr, ⊎_elim}
 use Rattle.std.specs.declared.cmp.Ordering.{Ordering}
 use Rattle.std.specs.List.{All, slice_get}
 use Rattle.std.specs.Option.{unwrap_or}
@@ -16,7 +16,7 @@ use Rattle.serial_history.specs.declared.commit.Cause.TheVariants as causes
 use Rattle.version_views.specs.declared.write.Write.{Write}
 use Rattle.serial_history.specs.Serial.{Base, HasNumber, Read, after_all, base_at, history_behind, latest, list_numbered}
 use Rattle.serial_history.specs.declared.transaction.Transaction.{Transaction}
-use Rattle.serial_history.proofs.BaseLemmas.{last_kept, list_first, list_kept, list_latest, list_longer, number_kept}
+use Rattle.serial_history.proofs.BaseLemmas.{last_kept, list_kept, list_latest, list_longer, number_kept}
 use Rattle.serial_history.proofs.RunLemmas.{after_all-push}
 
 -- that is never for want of slots
@@ -153,14 +153,6 @@ module _ {K V : Type 0} (cmp : K → K → Ordering) where
   pub refuses_first : (width : ℕ) (s : State K V) (reads : List (Read K V)) (o : Option Cause) → IfSome o (histories.MayRefuse cmp (latest_number s) s.last (present cmp s) reads) → IfSome o IsDecidedFirst → IfSome o (λ cause. (writes : List (Write K V)) → MayRefuse cmp width s reads writes cause)
   refuses_first width s reads None may first = tt
   refuses_first width s reads (Some cause) may first = refused_first width s reads cause may first
-
-  -- the base's own number makes no difference
-  pub rebased_same : (s : State K V) (n : ℕ) → n ≡ s.base.number → s ≡ record s { base = base_at cmp s.base s.history n; history = history_behind s.base s.history n }
-  rebased_same s n e =
-      let none : s.base.number - s.base.number ≡ 0 = omega arith in
-      sym (ap (λ (m : ℕ). record s { base = base_at cmp s.base s.history m; history = history_behind s.base s.history m }) e
-      ∙ ap (λ (ps : List (K × V)). record s { base = record { number = s.base.number; pairs = ps }; history = history_behind s.base s.history s.base.number }) (list_first cmp s.base s.history)
-      ∙ ap (λ (k : ℕ). record s { history = drop k s.history }) none)
 
   -- what an index shows when a transaction is added, and its version is published
   pub append_shows : (store store' : Store K V) (h h' : HistoryState K V) (used room : ℕ) (v : Version K V) (t u : Transaction K V) (value : State K V) → store' ≡ record store { present = v; used = used } → h' ≡ record h { transactions = h.transactions ++ t ∷ []; room = room } → t ≡ u → index_state store h ≡ value → index_state store' h' ≡ record value { history = value.history ++ u ∷ []; used = used }

@@ -198,9 +198,6 @@ module _ {K V : Type 0} {s : ℕ} (cmp : K → K → Ordering) where
     pub passing_known : p < length w.participants
     passing_known = let inside = writer_known cmp w root places passing_store in omega (arith, inside, is)
 
-    pub passing_place : IsPlace w
-    passing_place = let x = passing_store in x.place
-
     pub passing_closed : (local_at w p).nesting ≡ 0
     passing_closed = ap (λ (q : ℕ). (local_at w q).nesting) is ∙ writer_closed cmp w root places passing_store
 

@@ -326,12 +326,6 @@ module _ {K V : Type 0} {s : ℕ} (cmp : K → K → Ordering) where
         none_some : None ≡ Some o → ⊥
         none_some e = cc
 
-  -- a free place has no reader, and no guard
-  pub free_there : (w : State (Item K V s)) (root : ℕ) (places : List (Option (Opened K V s))) (store : IsStore cmp w root places) (place : ℕ) → slice_get (map (option_map (read_by w)) places) place ≡ Some None → (place < length places) × (get_or places place None ≡ None) × ((local_at w place).nesting ≡ 0)
-  free_there w root places store place shown =
-      let t = read_there places place None (mapped_none (read_by w) places place shown) in
-      (t.0, t.1, subst (λ (x : Option (Opened K V s)). IsReader cmp w place x) t.1 (store.readers place))
-
   -- what a reader has can be read
   pub reads_readable : (w : State (Item K V s)) (p : ℕ) (o : Opened K V s) → HasVersionOpen cmp w p o → IsReadable w (loaded_slot o.root)
   reads_readable w p o r = subst (λ (x : Option ℕ). IsReadable w x) (sym r.named) (used_inside w.states r.slot r.seen.item.used, r.seen.item.used)

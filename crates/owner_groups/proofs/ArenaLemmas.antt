@@ -56,9 +56,6 @@ module _ {M : Type 0} (number : M → ℕ) (a : Inside M) where
   pub known : (g : ℕ) (e : Entry M) → g < length a.entries.items → e ≡ get_or a.entries.items g e → group_at (groups_of number a) g ≡ group_of number e
   known g e lt is = get_or-map (λ x. group_of number x) a.entries.items g e no_group lt ∙ ap (λ x. group_of number x) (sym is)
 
-  pub count_known : (g : ℕ) (e : Entry M) → g < length a.entries.items → e ≡ get_or a.entries.items g e → count_at (groups_of number a) g ≡ e.count
-  count_known g e lt is = ap (λ (s : GroupState). s.count) (known g e lt is)
-
   pub row_known : (g : ℕ) (e : Entry M) → g < length a.entries.items → e ≡ get_or a.entries.items g e → row_at (groups_of number a) g ≡ map number e.row.items
   row_known g e lt is = ap (λ (s : GroupState). s.row) (known g e lt is)
 

@@ -161,10 +161,3 @@ module _ {T : Type 0} (gs : List GroupState) (w : State T) where
       let one : 1 + beyond gs i ≡ 1 = omega (arith, none) in
       ap (λ (ss : List Status). record w { values = set w.values i (Some x); states = ss })
       (grown_set (beyond gs) w.states i (status.Shared 1) ∙ ap (λ (m : ℕ). set (grown_uses (beyond gs) w.states) i (status.Shared m)) one)
-
-  pub placed_there : (i : ℕ) (x : T) → IsFree w i → AreThere (counted_for gs) w → AreThere (counted_for gs) (placed i x (status.Shared 1) w)
-  placed_there i x h there j some =
-      elim (eqb_tells j i) [
-        | inl t ↦ absurd (omega (arith, some, free_uncounted i h there, ap (counted_for gs) t.1))
-        | inr t ↦ let was = there j some in (was.0, get_or-set_other w.states i j (status.Shared 1) status.Free t.1 ∙ was.1, was.2)
-      ]

@@ -1,6 +1,6 @@
 -- which owners of an item its slot counts for groups, and which it doesn't, as one group changes
-use Rattle.std.proofs.Common.{◌≡◌, ℕ, zero, suc, ◌+◌, ◌-◌, ◌*◌, ◌<◌, ◌≤◌, List, [], ◌∷◌, ◌++◌, length, set, refl, ap, ◌∙◌, arith}
-use Rattle.std.proofs.lemmas.List.Sums.{get_or-le-sum_by, sum_by-append, sum_by-cons, sum_by-set}
+use Rattle.std.proofs.Common.{◌≡◌, ℕ, zero, suc, ◌+◌, ◌-◌, ◌*◌, ◌<◌, ◌≤◌, List, [], ◌∷◌, length, set, refl, ap, ◌∙◌, arith}
+use Rattle.std.proofs.lemmas.List.Sums.{get_or-le-sum_by, sum_by-cons, sum_by-set}
 use Rattle.sdd_table.specs.Steps.{times}
 use Rattle.owner_groups.specs.Groups.{GroupState, IsOut, count_at, no_group, owners_in, row_at, stands_for, with_count, with_row, without}
 use Rattle.owner_groups.specs.Grown.{beyond, counted_for, once}
@@ -96,17 +96,6 @@ module _ (gs : List GroupState) (g : ℕ) (i : ℕ) where
   beyond_made row lt free =
       let t = times i (row_at gs g) in
       omega (arith, beyond_set (record { count = 1; row = row }) lt, ap (λ (m : ℕ). (m - 1) * t) free)
-
-module _ (gs : List GroupState) (i : ℕ) where
-  pub counted_grown : counted_for (gs ++ no_group ∷ []) i ≡ counted_for gs i
-  counted_grown =
-      let f = λ (x : GroupState). once x.count (times i x.row) in
-      omega (arith, sum_by-append f gs (no_group ∷ []), sum_by-cons f no_group [])
-
-  pub beyond_grown : beyond (gs ++ no_group ∷ []) i ≡ beyond gs i
-  beyond_grown =
-      let f = λ (x : GroupState). (x.count - 1) * times i x.row in
-      omega (arith, sum_by-append f gs (no_group ∷ []), sum_by-cons f no_group [])
 
 -- groups that nobody owns
 pub nothing_counted : (gs : List GroupState) (i : ℕ) → ((g : ℕ) → count_at gs g ≡ 0) → counted_for gs i ≡ 0

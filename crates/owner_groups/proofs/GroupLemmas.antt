@@ -1,6 +1,6 @@
 -- how many owners stand in groups, as one of them changes
-use Rattle.std.proofs.Common.{◌≡◌, ℕ, zero, suc, ◌+◌, ◌-◌, ◌*◌, ◌<◌, ◌≤◌, List, [], ◌∷◌, ◌++◌, length, set, ap, arith}
-use Rattle.std.proofs.lemmas.List.Sums.{sum_by-set, sum_by-cons, sum_by-append}
+use Rattle.std.proofs.Common.{◌≡◌, ℕ, zero, suc, ◌+◌, ◌-◌, ◌*◌, ◌<◌, ◌≤◌, List, [], ◌∷◌, length, set, ap, arith}
+use Rattle.std.proofs.lemmas.List.Sums.{sum_by-set}
 use Rattle.sdd_table.specs.Steps.{times}
 use Rattle.owner_groups.specs.Groups.{GroupState, IsOut, count_at, group_at, no_group, owners_in, row_at, stands_for, with_count, with_row, without}
 
@@ -46,9 +46,3 @@ module _ (gs : List GroupState) (g : ℕ) (i : ℕ) where
       let n : count_at gs g * times i (row_at gs g) ≡ 0 * times i (row_at gs g) = ap (λ (n : ℕ). n * times i (row_at gs g)) free in
       let m : 1 * times i row ≡ times i row = omega arith in
       omega (arith, c, n, m)
-
-  pub owners_grown : owners_in (gs ++ no_group ∷ []) i ≡ owners_in gs i
-  owners_grown =
-      let a = sum_by-append (λ x. stands_for i x) gs (no_group ∷ []) in
-      let b = sum_by-cons (λ x. stands_for i x) no_group [] in
-      omega (arith, a, b)

@@ -9,10 +9,6 @@ pub either_way : {A E : Type 0} (P : A → Type 0) (R : E → Type 0) (Q : Type 
 either_way P R Q (Ok x) f h ok err = f x ok
 either_way P R Q (Err e) f h ok err = h e err
 
-pub either_on : {A E : Type 0} (P R Q : Type 0) (r : Result A E) → (P → Q) → (R → Q) → OnOk r P → OnErr r R → Q
-either_on P R Q (Ok x) f h ok err = f ok
-either_on P R Q (Err e) f h ok err = h err
-
 pub ok_or_on_err : {A E : Type 0} (P : A → Type 0) (R Q : Type 0) (r : Result A E) → ((x : A) → P x → Q) → (R → Q) → IfOk r P → OnErr r R → Q
 ok_or_on_err P R Q (Ok x) f h ok err = f x ok
 ok_or_on_err P R Q (Err e) f h ok err = h err

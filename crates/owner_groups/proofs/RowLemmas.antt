@@ -126,10 +126,6 @@ module _ {T : Type 0} where
         | inr t ↦ (was.0, get_or-set_other w.states i j (status.Shared (n + 1)) status.Free t.1 ∙ was.1, was.2)
       ])
 
-  pub all_more_there : (o : ℕ → ℕ) (is : List ℕ) (w v : State T) → AddsOwners is w v → AreThere o w → AreThere o v
-  all_more_there o [] w v more h = subst (AreThere o) (sym more) h
-  all_more_there o (i ∷ is) w v more h = all_more_there o is more.0 v more.2 (more_there o i w more.0 more.1 h)
-
   -- what takes one more owner with all owners counted does in its slot
   pub takes_below : (f : ℕ → ℕ) (w : State T) (i : ℕ) → TakesOwner i (grown_place f w) → TakesOwner i w
   takes_below f w i h =

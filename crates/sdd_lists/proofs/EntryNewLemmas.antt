@@ -1,6 +1,6 @@
 -- new entries
-use Rattle.std.proofs.Common.{◌≡◌, ◌≢◌, ◌⊎◌, ℕ, zero, suc, ◌+◌, ◌<◌, Option, None, Some, List, [], ◌∷◌, length, get_or, set, refl, ap, ◌∙◌, subst, get_or-set_same, IfSome, inl, arith}
-use Rattle.sdd_world.specs.State.{State, status_at, value_at, cell_at, placed, with_cell, with_status, IsFree, IsFreeCell, NoneFree, NoCellFree}
+use Rattle.std.proofs.Common.{◌≡◌, ◌≢◌, ◌⊎◌, ℕ, zero, suc, ◌<◌, Option, None, Some, List, [], ◌∷◌, length, get_or, set, refl, ap, ◌∙◌, subst, get_or-set_same, IfSome, inl, arith}
+use Rattle.sdd_world.specs.State.{State, value_at, placed, with_cell, IsFree, IsFreeCell, NoneFree, NoCellFree}
 use Rattle.sdd_world.specs.declared.tag.Tag.TheVariants as tag
 use Rattle.sdd_world.specs.declared.status.Status.{Status}
 use Rattle.sdd_world.specs.declared.status.Status.TheVariants as status
@@ -41,29 +41,6 @@ module _ {T : Type 0} (w w1 w2 : State (LinkedEntry T)) (c i : ℕ) (v : T) (ite
             linked = link;
           };
           empty = ap (λ (cs : List Cell). get_or cs c cell.Free) cells2 ∙ get_or-set_same w.cells c (cell.OfShared None tag.None) cell.Free free.0;
-        };
-      }
-
--- one more owner of it
-module _ {T : Type 0} (w w1 w2 : State (LinkedEntry T)) (v : T) (i n : ℕ) where
-  pub made_more : IsMade w w1 v i → status_at w1 i ≡ status.Shared n → i < length w1.states → w2 ≡ with_status i (status.Shared (n + 1)) w1 → IsMade w w2 v i
-  made_more m at inside e =
-      let states2 : w2.states ≡ set w1.states i (status.Shared (n + 1)) = ap (λ (s : State (LinkedEntry T)). s.states) e in
-      let shared : status_at w2 i ≡ status.Shared (n + 1) = ap (λ (ss : List Status). get_or ss i status.Free) states2 ∙ get_or-set_same w1.states i (status.Shared (n + 1)) status.Free inside in
-      let k = m.loose in
-      record {
-        entry = m.entry;
-        at = m.at;
-        new = m.new;
-        loose = record {
-          item = record {
-            owners = n + 1;
-            owned = omega arith;
-            shared = subst (λ (j : ℕ). status_at w2 j ≡ status.Shared (n + 1)) m.at shared;
-            here = ap (λ (s : State (LinkedEntry T)). value_at s m.entry.slot) e ∙ k.item.here;
-            linked = k.item.linked;
-          };
-          empty = ap (λ (s : State (LinkedEntry T)). cell_at s m.entry.link) e ∙ k.empty;
         };
       }
 

@@ -11,7 +11,7 @@ use Rattle.sdd_world.specs.declared.status.Status.TheVariants as status
 use Rattle.sdd_world.specs.declared.status.Cell.TheVariants as cell
 use Rattle.sdd_lists.specs.Chain.{Entry, slots, links, IsOut, AreOut, IsItem, IsList, IsDetached, Leaves, Stays, TookFirst, Hangs, BeginsWithItem, Cut, CutDeleted, SameUses, OneMore, skip}
 use Rattle.sdd_lists.proofs.ChainLemmas.{hung_left, leaves_then, leaves_more, leaves_all, out_of_none, some_same, inside_cells, inside_states}
-use Rattle.sdd_lists.proofs.WalkLemmas.{skipped_first, kept_first, hung_length}
+use Rattle.sdd_lists.proofs.WalkLemmas.{skipped_first, hung_length}
 use Rattle.std.proofs.lemmas.List.{nil_from_length, set-get_or, set-set}
 
 -- a use that has an item stays one
@@ -171,9 +171,6 @@ module _ {L : Type 0} (link : L → Option ℕ) where
 
   pub drop_none : (w w1 : State L) (c n : ℕ) (t : Tag) (es : List (Entry L)) (k : CutDeleted link w w1 c t es n) → k.cut.rest ≡ [] → Left w w1 c t es
   drop_none w w1 c n t es k none = left_by w w1 c n t es k (none ∙ ap skip (sym none) ∙ k.skipped)
-
-  pub drop_some : (w w1 : State L) (c d n : ℕ) (t : Tag) (item : L) (es : List (Entry L)) (k : CutDeleted link w w1 c t es n) → BeginsWithItem k.cut.rest item d false → Left w w1 c t es
-  drop_some w w1 c d n t item es k b = left_by w w1 c n t es k (b.is ∙ sym (kept_first b.first b.rest (sym b.gone_is)) ∙ ap skip (sym b.is) ∙ k.skipped)
 
   cut_all : (w w1 : State L) (c n : ℕ) (t : Tag) (es : List (Entry L)) → IsList link w c t es → in_use w ≤ n → (k : Cut link w w1 c t es n) → k.rest ≡ []
   cut_all w w1 c n t es h enough k = let m = hung_length link w c t es h in nil_from_length k.rest (omega (arith, m, k.passed, enough))

@@ -38,15 +38,6 @@ length-slots (e ∷ es) = let r = length-slots es in omega (arith, r)
 pub skipped_first : {L : Type 0} (first : Entry L) (rest : List (Entry L)) → deleted first.tag ≡ true → skip (first ∷ rest) ≡ skip rest
 skipped_first first rest e = rw e refl
 
-pub kept_first : {L : Type 0} (first : Entry L) (rest : List (Entry L)) → deleted first.tag ≡ false → skip (first ∷ rest) ≡ first ∷ rest
-kept_first first rest e = rw e refl
-
-front_gone : {L : Type 0} (t : Tag) (first : Entry L) (rest : List (Entry L)) → deleted first.tag ≡ true → front_tag t (first ∷ rest) ≡ front_tag first.tag rest
-front_gone t first rest e = rw e refl
-
-front_kept : {L : Type 0} (t : Tag) (first : Entry L) (rest : List (Entry L)) → deleted first.tag ≡ false → front_tag t (first ∷ rest) ≡ t
-front_kept t first rest e = rw e refl
-
 module _ {L : Type 0} (link : L → Option ℕ) where
   pub hung_used : (w : State L) (c : ℕ) (t : Tag) (es : List (Entry L)) → IsList link w c t es → AreUsed w.states (slots es)
   hung_used w c t [] h = tt
@@ -65,32 +56,11 @@ module _ {L : Type 0} (link : L → Option ℕ) where
   pub behind_hangs : (w : State L) (c d : ℕ) (item : L) (gone : Bool) → (h : Hangs link w c) → BeginsWithItem h.entries item d gone → Hangs link w d
   behind_hangs w c d item gone h b = record { tag = b.first.tag; entries = b.rest; is = behind w c d h.tag item gone h.entries h.is b }
 
-  -- deleted entries are passed, one by one
-  pub skip_start : (w : State L) (c : ℕ) (t : Tag) (es : List (Entry L)) → IsList link w c t es → Skipped link w t es 0 c
-  skip_start w c t es h = record { tag = t; rest = es; hung = h; same = refl; tags = refl; passed = omega arith }
-
-  pub skip_next : (w : State L) (t : Tag) (es : List (Entry L)) (n c d : ℕ) (item : L) (k : Skipped link w t es n c) → BeginsWithItem k.rest item d true → Skipped link w t es (n + 1) d
-  skip_next w t es n c d item k b = record {
-    tag = b.first.tag;
-    rest = b.rest;
-    hung = behind w c d k.tag item true k.rest k.hung b;
-    same = sym (skipped_first b.first b.rest (sym b.gone_is)) ∙ ap skip (sym b.is) ∙ k.same;
-    tags = sym (front_gone k.tag b.first b.rest (sym b.gone_is)) ∙ ap (λ (xs : List (Entry L)). front_tag k.tag xs) (sym b.is) ∙ k.tags;
-    passed = let e : length k.rest ≡ length (b.first ∷ b.rest) = ap length b.is in omega (arith, e, k.passed);
-  }
-
   pub skip_none : (w : State L) (t : Tag) (es : List (Entry L)) (n c : ℕ) (k : Skipped link w t es n c) → k.rest ≡ [] → (u : Tag) × IsList link w c u (skip es) × (u ≡ front_tag t es)
   skip_none w t es n c k none = (k.tag, subst (λ (xs : List (Entry L)). IsList link w c k.tag xs) (none ∙ ap skip (sym none) ∙ k.same) k.hung, ap (λ (xs : List (Entry L)). front_tag k.tag xs) (sym none) ∙ k.tags)
 
-  pub skip_some : (w : State L) (t : Tag) (es : List (Entry L)) (n c d : ℕ) (item : L) (k : Skipped link w t es n c) → BeginsWithItem k.rest item d false → (u : Tag) × IsList link w c u (skip es) × (u ≡ front_tag t es)
-  skip_some w t es n c d item k b = (k.tag, subst (λ (xs : List (Entry L)). IsList link w c k.tag xs) (b.is ∙ sym (kept_first b.first b.rest (sym b.gone_is)) ∙ ap skip (sym b.is) ∙ k.same) k.hung, sym (front_kept k.tag b.first b.rest (sym b.gone_is)) ∙ ap (λ (xs : List (Entry L)). front_tag k.tag xs) (sym b.is) ∙ k.tags)
-
   pub skip_all : (w : State L) (es : List (Entry L)) (n c c0 : ℕ) (t0 : Tag) → IsList link w c0 t0 es → in_use w ≤ n → Skipped link w t0 es n c → (u : Tag) × IsList link w c u (skip es) × (u ≡ front_tag t0 es)
   skip_all w es n c c0 t0 h enough k = let m = hung_length w c0 t0 es h in skip_none w t0 es n c k (nil_from_length k.rest (omega (arith, m, k.passed, enough)))
-
-  -- entries are passed and the undeleted ones counted
-  pub count_start : (w : State L) (c : ℕ) (t : Tag) (es : List (Entry L)) → IsList link w c t es → PassedEntries link w es 0 0 c
-  count_start w c t es h = record { tag = t; rest = es; hung = h; same = omega arith; passed = omega arith }
 
   gone_one : (first : Entry L) (rest : List (Entry L)) → deleted first.tag ≡ true → length (undeleted (first ∷ rest)) ≡ length (undeleted rest)
   gone_one first rest e = rw e refl

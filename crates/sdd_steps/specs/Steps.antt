@@ -167,12 +167,28 @@ abbrev pub all_alone : List Cell → List ℕ → Bool
 all_alone cells [] = true
 all_alone cells (c ∷ cs) = (nat_lt c (length cells) && stands_alone (get_or cells c empty_cell)) && all_alone cells cs
 
+-- the participant p published this count, and has looked at all others of n
+abbrev pub may_raise : ℕ → ℕ → ℕ → Participant → Bool
+may_raise p count n x = is_inside x && (count_of x.phase == count) && all_looked p x.looked n
+
+-- it has read a count of 3 at least, and has looked at all others of n
+abbrev pub may_settle : ℕ → ℕ → Participant → Bool
+may_settle p n x = is_reading x && nat_le 3 (count_of x.phase) && all_looked p x.looked n
+
+-- the cell has an item, and is in the participant's reach
+abbrev pub may_load : State → ℕ → Cell → Bool
+may_load s p o = is_full o && (is_reachable s o || is_within s p o)
+
+-- it has one, and its holder is an item that the participant reclaimed
+abbrev pub gives_up : State → ℕ → Cell → Bool
+gives_up s p o = is_full o && holder_is (item_is (λ w. is_reclaimed p w.state) s) o.holder
+
 -- where a step is enabled
 abbrev pub enabled : State → Step → Bool
 enabled s (ReadEpoch p) = participant_is is_idle s p
 enabled s (Publish p) = participant_is is_reading s p
 enabled s (Rotate p) = participant_is is_turning s p
-enabled s (LoadCell p c) = participant_is is_inside s p && cell_is (λ o. is_full o && (is_reachable s o || is_within s p o)) s c
+enabled s (LoadCell p c) = participant_is is_inside s p && cell_is (may_load s p) s c
 enabled s (LoadInHand p i) = participant_is is_inside s p && item_is has_loose_owner s i
 enabled s (ReadSegment p i k) = participant_is (λ x. is_inside x && segment_loaded i k x.loaded) s p
 enabled s (SwapCell p c new) = participant_is is_ready s p && cell_is (λ o. is_reachable s o || is_within s p o) s c && is_offered s new
@@ -180,10 +196,10 @@ enabled s (Release p i) = participant_is is_ready s p && item_is has_loose_owner
 enabled s (Retire p i) = participant_is is_ready s p && item_is (λ it. is_due p it.state) s i
 enabled s (Collect p i) = participant_is (λ x. is_inside x && is_some x.reread) s p && item_is (λ it. is_due p it.state) s i
 enabled s (Look p q) = participant_is is_inside s p && not (q == p) && participant_is (agrees s.count) s q
-enabled s (Raise p) = participant_is (λ x. is_inside x && (count_of x.phase == s.count) && all_looked p x.looked (length s.participants)) s p && nat_lt s.count (2 ^ 64 - 1)
+enabled s (Raise p) = participant_is (may_raise p s.count (length s.participants)) s p && nat_lt s.count (2 ^ 64 - 1)
 enabled s (Reclaim p i) = participant_is is_ready s p && item_is (λ it. is_reclaimable p (participant_at s p) it.state) s i
 enabled s (GiveUp p j i) = participant_is is_ready s p && item_is (λ w. is_reclaimed p w.state && has i w.holds) s j
-enabled s (GiveUpCell p c) = participant_is is_ready s p && cell_is (λ o. is_full o && holder_is (item_is (λ w. is_reclaimed p w.state) s) o.holder) s c
+enabled s (GiveUpCell p c) = participant_is is_ready s p && cell_is (gives_up s p) s c
 enabled s (Close p) = participant_is is_inside s p
 enabled s (Place p value holds cells) = participant_is is_ready s p && all_have_loose_owners s.items holds holds && all_alone s.cells cells
 enabled s (RaiseOwners p i) = participant_is is_ready s p && item_is (λ it. is_live it.state && nat_lt it.owners (2 ^ 32 - 1)) s i
@@ -191,7 +207,7 @@ enabled s (Reread p) = participant_is is_inside s p
 enabled s (End p) = participant_is is_idle s p && none_due p s.items
 enabled s (TakeOver p i) = participant_is is_ready s p && item_is (λ it. is_left it.state) s i
 enabled s (LookShut p q) = participant_is is_reading s p && not (q == p) && participant_is is_shut s q
-enabled s (Settle p) = participant_is (λ x. is_reading x && nat_le 3 (count_of x.phase) && all_looked p x.looked (length s.participants)) s p
+enabled s (Settle p) = participant_is (may_settle p (length s.participants)) s p
 
 -- the item that a cell names
 abbrev pub named : Option ℕ → ℕ
@@ -222,6 +238,10 @@ emptied s c (Some i) = with_item (with_cell s c (record (cell_at s c) { names = 
 abbrev pub filled : State → ℕ → Option ℕ → State
 filled s c None = s
 filled s c (Some i) = with_item (with_cell s c (record (cell_at s c) { names = Some i })) i (unhanded (item_at s i))
+
+-- an item without its first owner of another one
+abbrev pub without_owner : State → ℕ → ℕ → State
+without_owner s j i = with_item s j (record (item_at s j) { holds = without i (item_at s j).holds })
 
 -- the last owner leaves the item due to p
 abbrev pub after_release : ℕ → Item → Item
@@ -306,7 +326,7 @@ after s (Collect p i) = with_state s i (noted (participant_at s p).reread)
 after s (Look p q) = with_participant s p (record (participant_at s p) { looked = (participant_at s p).looked ++ q ∷ [] })
 after s (Raise p) = record s { count = s.count + 1 }
 after s (Reclaim p i) = record (with_state s i (Reclaimed p)) { cells = map (let_go i) s.cells }
-after s (GiveUp p j i) = let w = item_at s j in let t = with_item s j (record w { holds = without i w.holds }) in with_item t i (handed (item_at t i))
+after s (GiveUp p j i) = let t = without_owner s j i in with_item t i (handed (item_at t i))
 after s (GiveUpCell p c) = let t = emptied s c (cell_at s c).names in with_cell t c (record (cell_at t c) { holder = None })
 after s (Close p) = with_participant s p (record (participant_at s p) { phase = Idle; reread = None; looked = []; loaded = [] })
 after s (Place p value holds cells) = record s { cells = taken_up (length s.items) cells s.cells; items = paid holds s.items ++ new_item value holds ∷ [] }

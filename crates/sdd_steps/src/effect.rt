@@ -1,8 +1,8 @@
 //! What a step makes of a state where it is enabled.
 
-ghost use Rattle.std.specs.Prelude.{◌≡◌, ℕ, ◌<◌, ◌+◌, ◌-◌, ◌^◌, true, map, length, None, OnOk, IfOk, IfErr};
-ghost use Rattle.sdd_steps.specs.State.{no_item, participant_at, cell_at, item_at, with_item, without};
-ghost use Rattle.sdd_steps.specs.Steps.{seen, loaded_as, with_loaded, handed, unhanded, emptied, filled, with_state, aged, left, older, left_by, let_go, noted, paid, taken_up, enabled, after};
+ghost use Rattle.std.specs.Prelude.{◌≡◌, ℕ, ◌<◌, ◌+◌, ◌-◌, ◌^◌, true, map, None, OnOk, IfOk};
+ghost use Rattle.sdd_steps.specs.State.{cell_at, item_at, with_item, without};
+ghost use Rattle.sdd_steps.specs.Steps.{seen, loaded_as, with_loaded, handed, unhanded, emptied, filled, with_state, without_owner, aged, left, older, left_by, let_go, paid, taken_up, enabled, after};
 ghost use Rattle.sdd_steps.specs.Snapshots.{snapshot_state, CanAge, HasRoom};
 ghost use Rattle.sdd_steps.specs.declared.item.ItemState.TheVariants as item_state;
 ghost use Rattle.sdd_steps.specs.declared.step.Step.TheVariants as step;
@@ -321,7 +321,7 @@ impl Snapshot {
 
     // The first item, without an owner of the second one.
     fn lose(&mut self, alloc: Global, j: usize, i: usize) -> Result<(), AllocError>
-        ensures { OnOk result (let s = snapshot_state self.old in snapshot_state self.new ≡ with_item s j (record (item_at s j) { holds = without i (item_at s j).holds })) }
+        ensures { OnOk result (snapshot_state self.new ≡ without_owner (snapshot_state self.old) j i) }
     {
         let mut item = self.item_copy(alloc, j)?;
         item.holds = Seq::from_vec(without(alloc, i, item.holds.as_slice())?);

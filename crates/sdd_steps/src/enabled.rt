@@ -1,8 +1,8 @@
 //! Where a step is enabled.
 
-ghost use Rattle.std.specs.Prelude.{◌≡◌, ◌<◌, ◌||◌, ◌&&◌, ◌==◌, ◌^◌, ◌-◌, nat_le, nat_lt, not, is_some, length};
+ghost use Rattle.std.specs.Prelude.{◌≡◌, ◌<◌, ◌||◌, ◌&&◌, ◌==◌, ◌^◌, ◌-◌, nat_lt, is_some, length};
 ghost use Rattle.sdd_steps.specs.State.{participant_is, cell_is, item_is, participant_at, has, times};
-ghost use Rattle.sdd_steps.specs.Steps.{is_idle_phase, is_reading_phase, is_opened_phase, count_of, is_idle, is_reading, is_turning, is_inside, is_ready, is_shut, is_full, is_live, is_due, is_reclaimed, is_left, is_past, is_reclaimable, has_loose_owner, is_offered, is_reachable, is_within, stands_alone, holder_is, agrees, all_looked, all_have_loose_owners, all_alone, none_due, was_loaded, was_held, segment_loaded, enabled};
+ghost use Rattle.sdd_steps.specs.Steps.{is_idle_phase, is_reading_phase, is_opened_phase, count_of, is_idle, is_reading, is_turning, is_inside, is_ready, is_shut, is_full, is_live, is_due, is_reclaimed, is_left, is_past, is_reclaimable, has_loose_owner, is_offered, is_reachable, is_within, stands_alone, agrees, all_looked, all_have_loose_owners, all_alone, none_due, was_loaded, was_held, segment_loaded, may_load, may_raise, may_settle, gives_up, enabled};
 ghost use Rattle.sdd_steps.specs.Snapshots.{snapshot_state};
 
 use crate::item::{Cell, Item, ItemState};
@@ -300,7 +300,7 @@ impl Snapshot {
 
     // The participant has read a count of 3 at least, and has looked at all others since.
     fn may_settle(&self, p: usize) -> bool
-        ensures { result ≡ participant_is (λ x. is_reading x && nat_le 3 (count_of x.phase) && all_looked p x.looked (length self.now.participants.items)) (snapshot_state self.now) p }
+        ensures { result ≡ participant_is (may_settle p (length self.now.participants.items)) (snapshot_state self.now) p }
     {
         if !self.is_reading(p) {
             return false;
@@ -323,7 +323,7 @@ impl Snapshot {
 
     // The participant published the present count and has looked at all others.
     fn has_looked(&self, p: usize) -> bool
-        ensures { result ≡ participant_is (λ x. is_inside x && (count_of x.phase == self.now.count) && all_looked p x.looked (length self.now.participants.items)) (snapshot_state self.now) p }
+        ensures { result ≡ participant_is (may_raise p self.now.count (length self.now.participants.items)) (snapshot_state self.now) p }
     {
         if !self.is_inside(p) {
             return false;
@@ -415,13 +415,13 @@ impl Snapshot {
     }
 
     fn may_load(&self, p: usize, c: usize) -> bool
-        ensures { result ≡ cell_is (λ o. is_full o && (is_reachable (snapshot_state self.now) o || is_within (snapshot_state self.now) p o)) (snapshot_state self.now) c }
+        ensures { result ≡ cell_is (may_load (snapshot_state self.now) p) (snapshot_state self.now) c }
     {
         c < self.cells.len() && self.cell(c).is_full() && self.reaches(p, c)
     }
 
     fn gives_up_cell(&self, p: usize, c: usize) -> bool
-        ensures { result ≡ cell_is (λ o. is_full o && holder_is (item_is (λ w. is_reclaimed p w.state) (snapshot_state self.now)) o.holder) (snapshot_state self.now) c }
+        ensures { result ≡ cell_is (gives_up (snapshot_state self.now) p) (snapshot_state self.now) c }
     {
         if c >= self.cells.len() || !self.cell(c).is_full() {
             return false;

@@ -1,6 +1,6 @@
 //! What a participant retired, where it is known that nobody reads it.
 
-ghost use Rattle.std.specs.Prelude.{◌≡◌, ℕ, map, OnOk, IfOk};
+ghost use Rattle.std.specs.Prelude.{◌≡◌, map, OnOk, IfOk};
 ghost use Rattle.sdd_steps.specs.Steps.{settled, settled_by, after};
 ghost use Rattle.sdd_steps.specs.Snapshots.{snapshot_state};
 ghost use Rattle.sdd_steps.specs.declared.step.Step.TheVariants as step;

@@ -1,6 +1,6 @@
 //! States that keep their promise, and the steps between them.
 
-ghost use Rattle.std.specs.Prelude.{◌≡◌, ◌<◌, ◌≤◌, ◌^◌, false, true, length, IfOk, MatchOption};
+ghost use Rattle.std.specs.Prelude.{◌≡◌, ◌<◌, ◌≤◌, ◌^◌, false, IfOk, MatchOption};
 ghost use Rattle.sdd_steps.specs.State.{start};
 ghost use Rattle.sdd_steps.specs.Steps.{enabled, LeadsTo};
 ghost use Rattle.sdd_steps.specs.Invariant.{Safe};

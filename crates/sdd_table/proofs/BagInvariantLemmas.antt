@@ -306,23 +306,6 @@ pub record Calms {T : Type 0} (p : ℕ) (w w' : State T) : Type 0 where
 pub calms : {T : Type 0} (p : ℕ) (w w' : State T) → Leaves p w w' → Calms p w w'
 calms p w w' g = record { count = g.count; known = g.known; due = g.due; calm = g.calm; others = g.others; sound = g.sound }
 
--- place i, which didn't wait, waits
-pub leaves_waiting : {T : Type 0} (w : State T) (p i : ℕ) (s : Status) → Sound w → p < length w.participants → i < length w.states → weight (status_at w i) ≡ 0 → weight s ≡ 1 → is_used s ≡ is_used (status_at w i) → ((m b : ℕ) → s ≢ status.Collected m b) → Leaves p w (waiting_as s p i w)
-leaves_waiting w p i s h known inside light heavy even new =
-    let at : participant_at (waiting_as s p i w) p ≡ put_participant i (participant_at w p) = get_or-set_same w.participants p (put_participant i (participant_at w p)) nobody known in
-    record {
-      count = refl;
-      values = refl;
-      places = length-set w.states i s;
-      cells = refl;
-      known = length-set w.participants p (put_participant i (participant_at w p));
-      due = ap (λ (m : ParticipantState). m.due) at;
-      calm = ap calm at;
-      others = λ k n. get_or-set_other w.participants p k (put_participant i (participant_at w p)) nobody n;
-      noted = λ j n b e. noted_set w.states i j n b s inside new e;
-      sound = sound_waiting w p i s h known inside light heavy even;
-    }
-
 pub gives_refl : {T : Type 0} (p : ℕ) (w : State T) → Sound w → Gives p w w
 gives_refl p w h = record { count = refl; values = refl; places = refl; cells = refl; known = refl; due = refl; calm = refl; others = λ k n. refl; noted = λ i n f e. e; occupied = refl; sound = h }
 

@@ -26,9 +26,6 @@ module _ {T : Type 0} where
   adds_only (i ∷ is) w w' h =
       adds_only is h.0 w' h.2 ∙ ap (λ (x : State T). record x { states = w'.states }) h.1.2
 
-  pub adds_values : (is : List ℕ) (w w' : State T) → AddsOwners is w w' → (j : ℕ) → value_at w' j ≡ value_at w j
-  adds_values is w w' h j = ap (λ (x : State T). value_at x j) (adds_only is w w' h)
-
   -- what a use tells without the count of owners stays
   pub adds_map : {X : Type 0} (f : Status → X) → ((n : ℕ) → f (status.Shared (n + 1)) ≡ f (status.Shared n)) → (is : List ℕ) (w w' : State T) → AddsOwners is w w' → map f w'.states ≡ map f w.states
   adds_map f same [] w w' h = ap (λ (x : State T). map f x.states) h

@@ -115,9 +115,6 @@ module _ {X : Type 0} (f : X → ℕ) where
   pub lists_none : (all : List X) (i : ℕ) (d : X) → Lists f all [] → i < length all → f (get_or all i d) ≡ 0
   lists_none all i d h lt = sym (get_or-map f all i d 0 lt) ∙ sym (h.each i)
 
-  pub lists_empty : Lists f [] []
-  lists_empty = record { each = λ j. refl; count = refl }
-
   appended : (all : List X) (x : X) (j : ℕ) → get_or (map f (all ++ x ∷ [])) j 0 ≡ get_or (map f all ++ f x ∷ []) j 0
   appended all x j = ap (λ (xs : List ℕ). get_or xs j 0) (map-append f all (x ∷ []))
 

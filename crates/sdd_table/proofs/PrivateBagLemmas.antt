@@ -2,18 +2,13 @@
 use Rattle.std.proofs.Common.{◌≡◌, ◌≢◌, ◌<◌, ℕ, zero, suc, None, Some, List, [], ◌∷◌, ◌++◌, length, get_or, set, ltb, true, refl, sym, ap, ◌∙◌, subst, arith, length-set, get_or-set_other, get_or-set_same, inl, inr}
 use Rattle.std.proofs.lemmas.Bool.Decides.{eqb_tells, nat_tests}
 use Rattle.sdd_table.specs.State.{State, status_at, mark_of}
-use Rattle.sdd_table.specs.Steps.{left_behind, followed, followed_as}
+use Rattle.sdd_table.specs.Steps.{followed, followed_as}
 use Rattle.sdd_table.specs.declared.status.Status.{Status}
 use Rattle.sdd_table.specs.declared.status.Status.TheVariants as status
 
 pub first_of : (is : List ℕ) (i : ℕ) → 0 < length is → i ≡ get_or is 0 0 → (js : List ℕ) × (is ≡ i ∷ js)
 first_of [] i some e = absurd (omega (arith, some))
 first_of (j ∷ js) i some e = (js, ap (λ k. k ∷ js) (sym e))
-
-pub length_behind : (n : ℕ) (is : List ℕ) → length (left_behind n is) ≡ length is
-length_behind n [] = refl
-length_behind n (i ∷ []) = refl
-length_behind n (i ∷ j ∷ is) = refl
 
 -- the last place of a list is the one that names what comes behind it
 pub followed_last : {T : Type 0} (is : List ℕ) (j i : ℕ) (w : State T) → followed (is ++ j ∷ []) i w ≡ followed_as (status_at w j) j i w

@@ -1,9 +1,8 @@
 -- the loop of a rotation
-use Rattle.std.proofs.Common.{◌≡◌, ℕ, suc, ◌+◌, ◌<◌, List, [], length, refl, sym, ap, ◌∙◌, arith, length-set, subst, get_or-set_same}
-use Rattle.std.proofs.lemmas.List.{length-reverse}
+use Rattle.std.proofs.Common.{◌≡◌, ℕ, suc, ◌+◌, ◌<◌, List, [], length, refl, sym, ap, ◌∙◌, arith, length-set, subst}
 use Rattle.sdd_table.specs.Holding.{Hold}
-use Rattle.sdd_table.specs.State.{State, ParticipantState, participant_at, nobody, bags_moved_on, rotated_bags}
-use Rattle.sdd_table.specs.Steps.{reclaimed, due_reclaimed, IsNext, participant_rotated, settled}
+use Rattle.sdd_table.specs.State.{State, participant_at, bags_moved_on, rotated_bags}
+use Rattle.sdd_table.specs.Steps.{reclaimed, due_reclaimed, IsNext}
 use Rattle.sdd_table.specs.Place.{Sound}
 use Rattle.sdd_table.proofs.BagInvariantLemmas.{sound_turned, reclaims_next}
 
@@ -30,12 +29,3 @@ turning_next {T} holds p w v v' t n =
     let next : Turning holds p w u = record { known = omega (arith, r.known, t.known); sound = r.sound; same = step ∙ t.same } in
     let less : length (participant_at u p).due < length (participant_at v p).due = omega (arith, more) in
     subst (λ (x : State T). (length (participant_at x p).due < length (participant_at v p).due) × Turning holds p w x) (sym n.now) (less, next)
-
-pub turning_end : {T : Type 0} (holds : T → List Hold) (p : ℕ) (w v x : State T) → v ≡ rotated_bags p w → p < length w.participants → Turning holds p v x → (participant_at x p).due ≡ [] → settled p x ≡ participant_rotated holds p w
-turning_end {T} holds p w v x e known t none =
-    let all : x ≡ reclaimed holds p (length (participant_at v p).due) v = subst (λ (is : List ℕ). reclaimed holds p (length is) x ≡ reclaimed holds p (length (participant_at v p).due) v) none t.same in
-    let at : participant_at (rotated_bags p w) p ≡ bags_moved_on (participant_at w p) = get_or-set_same w.participants p (bags_moved_on (participant_at w p)) nobody known in
-    let size : length (participant_at (rotated_bags p w) p).due ≡ length (participant_at w p).oldest = ap (λ (m : ParticipantState). length m.due) at ∙ length-reverse (participant_at w p).oldest in
-    let from : reclaimed holds p (length (participant_at v p).due) v ≡ reclaimed holds p (length (participant_at (rotated_bags p w) p).due) (rotated_bags p w) = ap (λ (s : State T). reclaimed holds p (length (participant_at s p).due) s) e in
-    let to : reclaimed holds p (length (participant_at (rotated_bags p w) p).due) (rotated_bags p w) ≡ reclaimed holds p (length (participant_at w p).oldest) (rotated_bags p w) = ap (λ (k : ℕ). reclaimed holds p k (rotated_bags p w)) size in
-    ap (settled p) (all ∙ from ∙ to)

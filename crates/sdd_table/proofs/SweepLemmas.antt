@@ -1,11 +1,11 @@
 -- rotations until nothing waits
-use Rattle.std.proofs.Common.{◌≡◌, ℕ, zero, suc, ◌+◌, ◌*◌, ◌<◌, ◌≤◌, ◌&&◌, true, false, List, [], ◌∷◌, ◌++◌, length, refl, sym, ap, ◌∙◌, arith, subst, cond, replicate, get_or, inl, inr, ◌⊎◌}
+use Rattle.std.proofs.Common.{◌≡◌, ℕ, zero, suc, ◌+◌, ◌*◌, ◌<◌, ◌≤◌, ◌&&◌, true, false, List, [], ◌∷◌, ◌++◌, length, refl, sym, ap, ◌∙◌, arith, subst, cond, replicate, inl, inr, ◌⊎◌}
 use Rattle.std.specs.List.{sum_by}
 use Rattle.std.proofs.lemmas.Bool.{false≢true}
 use Rattle.std.proofs.lemmas.Bool.Decides.{eqb_tells}
 use Rattle.sdd_table.specs.Holding.{Hold}
-use Rattle.sdd_table.specs.State.{State, ParticipantState, participant_at, nobody, occupied}
-use Rattle.sdd_table.specs.Steps.{participant_rotated, rotated_each, is_nil, bags_empty, Swept, AllSwept}
+use Rattle.sdd_table.specs.State.{State, ParticipantState, participant_at, occupied}
+use Rattle.sdd_table.specs.Steps.{participant_rotated, rotated_each, is_nil, bags_empty, Swept}
 use Rattle.sdd_table.specs.Place.{IsPlace}
 use Rattle.sdd_table.specs.Frame.{OnlyParticipant}
 use Rattle.sdd_table.proofs.ListLemmas.{replicate-push}
@@ -107,18 +107,3 @@ le_or : (k p : ℕ) → (k < p) ⊎ (p ≤ k)
 le_or k zero = inr (omega arith)
 le_or zero (suc p) = inl (omega arith)
 le_or (suc k) (suc p) = elim (le_or k p) [ inl a ↦ inl (omega (arith, a)) | inr b ↦ inr (omega (arith, b)) ]
-
-out_of_range : (ms : List ParticipantState) (k : ℕ) → length ms ≤ k → get_or ms k nobody ≡ nobody
-out_of_range [] k h = refl
-out_of_range (m ∷ ms) zero h = absurd (omega (arith, h))
-out_of_range (m ∷ ms) (suc k) h = out_of_range ms k (omega (arith, h))
-
-pub sweeping_all_end : {T : Type 0} (holds : T → List Hold) (p : ℕ) (w v : State T) → SweepingAll holds p w v → length w.participants ≤ p → AllSwept holds w v
-sweeping_all_end holds p w v h past = record {
-  turns = h.turns;
-  now = h.now;
-  empty = λ k. elim (le_or k p) [
-    | inl lt ↦ h.empty k lt
-    | inr ge ↦ ap bags_empty (out_of_range v.participants k (omega (arith, ge, past, h.known)))
-  ];
-}

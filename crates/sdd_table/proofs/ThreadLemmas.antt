@@ -3,7 +3,7 @@ use Rattle.std.proofs.Common.{◌≡◌, ◌≢◌, ℕ, zero, suc, ◌+◌, ◌
 use mathlib.Core.Logic.{dite}
 use native.Mathlib.Decide.{ℕ_discrete}
 use Rattle.std.specs.List.{sum_by, list_all}
-use Rattle.std.proofs.lemmas.List.{map-set, get_or-map, length-map, reverse-append, reverse-reverse, length-reverse, take_at, drop_at, length-append, length-replicate}
+use Rattle.std.proofs.lemmas.List.{map-set, get_or-map, length-map, reverse-append, reverse-reverse, take_at, drop_at, length-append, length-replicate}
 use Rattle.std.proofs.lemmas.List.Sums.{sum_by-cons, sum_by_push, sum_by-set, get_or-le-sum_by}
 use Rattle.std.proofs.lemmas.Bool.{ltb-true, ltb-false}
 use Rattle.std.proofs.lemmas.Bool.Decides.{nat_tests}
@@ -185,9 +185,6 @@ module _ (n : ℕ) (links : List ℕ) (hs : List Participant) (t : Threads n lin
       let once_in : (j : ℕ) → times j xs ≤ 1 = (λ j. omega (arith, here j, t.once j, times_reverse j xs)) in
       let none_above : (j : ℕ) → n ≤ j → times j xs ≡ 0 = (λ j le. omega (arith, here j, t.inside j le, times_reverse j xs)) in
       let short = fewer n i xs once_in none_above l (omega (arith, times_reverse i xs)) in omega (arith, (t.chains p).newest)
-
-  pub newest_is : q.newest ≡ length (participant_in all p).current
-  newest_is = (t.chains p).newest ∙ sym (length-reverse (follow n links q.current)) ∙ ap (λ (m : ParticipantState). length m.current) (sym m_is)
 
   pub empty_is : bags_empty (participant_in all p) ≡ ((q.current == 0) && ((q.prior == 0) && (q.oldest == 0)))
   empty_is = let c = t.chains p in ap bags_empty m_is ∙ (λ j. nil_head links q.current (follow n links q.current) c.current j && (nil_head links q.prior (follow n links q.prior) c.prior j && nil_head links q.oldest (follow n links q.oldest) c.oldest j))
@@ -402,9 +399,6 @@ module _ (a : Inside) (p : ℕ) (q0 : Participant) (t : AreThreaded a) (known : 
 
   pub put_room : (i : ℕ) → i < size → sum_by (held_times i) all0 ≡ 0 → q0.newest < size
   put_room i l none = subst (λ (z : Participant). z.newest < size) q_is (newest_below size a.links.items a.all.items (threads_of a t) p known refl i l none)
-
-  pub newest_inside : q0.newest ≡ length (participant_in all0 p).current
-  newest_inside = subst (λ (z : Participant). z.newest ≡ length (participant_in all0 p).current) q_is (newest_is size a.links.items a.all.items (threads_of a t) p known refl)
 
   pub empty_inside : bags_empty (participant_in all0 p) ≡ ((q0.current == 0) && ((q0.prior == 0) && (q0.oldest == 0)))
   empty_inside = subst (λ (z : Participant). bags_empty (participant_in all0 p) ≡ ((z.current == 0) && ((z.prior == 0) && (z.oldest == 0)))) q_is (empty_is size a.links.items a.all.items (threads_of a t) p known refl)

@@ -84,9 +84,6 @@ keeps_seen {T} p u w x y e f h known does =
 pub keeps_gives : {T : Type 0} (p : ℕ) (w w' : State T) → Sound w → Gives p w w' → Frame w w'
 keeps_gives p w w' h g = keeps_leaves p w w' h (leaves p w w' g)
 
-pub only_gives : {T : Type 0} (p : ℕ) (w w' : State T) → Gives p w w' → OnlyParticipant p w w'
-only_gives p w w' g = g.others
-
 -- the local state of p is another: an open guard publishes the same, and what was found before doesn't fall
 pub keeps_local : {T : Type 0} (w : State T) (p : ℕ) (k : LocalState) → p < length w.participants → (IsOpen w p → k.published ≡ (local_at w p).published) → (local_at w p).previous ≤ k.previous → Frame w (with_local p k w)
 keeps_local {T} w p k known same rises =

@@ -33,12 +33,6 @@ module _ {K V : Type 0} (cmp : K → K → Ordering) where
       let more : base.number + length history - base.number ≡ length history = omega arith in
       ap (λ n. after_all cmp (take n history) base.pairs) more ∙ ap (λ ts. after_all cmp ts base.pairs) (take-length history)
 
-  -- the list of the base's number is the base's
-  pub list_first : (base : Base K V) (history : List (Transaction K V)) → list_numbered cmp base history base.number ≡ base.pairs
-  list_first base history =
-      let none : base.number - base.number ≡ 0 = omega arith in
-      ap (λ n. after_all cmp (take n history) base.pairs) none
-
   -- a longer history has the same lists up to the number that was the present one
   pub list_longer : (base : Base K V) (history : List (Transaction K V)) (t : Transaction K V) (n : ℕ) → n ≤ latest base history → list_numbered cmp base (history ++ t ∷ []) n ≡ list_numbered cmp base history n
   list_longer base history t n h = ap (λ ts. after_all cmp ts base.pairs) (take-push cmp history t (n - base.number) (omega (arith, h)))

@@ -11,7 +11,7 @@ use Rattle.std.proofs.lemmas.List.{get_or-reverse, length-drop, length-reverse, 
 use Rattle.tree_index.specs.Cursor.{Cursor, deref_pair}
 use Rattle.version_views.proofs.OptionLemmas.{at_some}
 use Rattle.serial_history.specs.Parts.{has_room, is_over, part_of, place_of, turned}
-use Rattle.serial_history.specs.RemainingPairs.{IsAlone, IsStart, remaining_of}
+use Rattle.serial_history.specs.RemainingPairs.{IsStart, remaining_of}
 use Rattle.serial_history.specs.declared.query.Part.{Part}
 use Rattle.serial_history.specs.declared.query.Part.TheVariants as parts
 use Rattle.serial_history.proofs.RemainingBackLemmas.{left_at_end}
@@ -146,12 +146,6 @@ part_given part told left all r none e b f over room =
 pub found_some : {K V : Type 0} (r : Option (Bor K × Bor V)) (p : K × V) → deref_pair r ≡ Some p → IsSome r
 found_some None p e = absurd cc
 found_some (Some q) p e = refl
-
--- a cursor that hasn't been asked goes either way alone, and is yet to give the pairs between its bounds
-pub starts_alone : {K V : Type 0} (cmp : K → K → Ordering) (part : Part) (c : Cursor K V) → IsStart cmp c → IsAlone part c
-starts_alone cmp parts.All c s = s.backward
-starts_alone cmp (parts.First most) c s = s.backward
-starts_alone cmp (parts.Last most) c s = s.forward
 
 pub left_at_first : {K V : Type 0} {cmp : K → K → Ordering} → IsTotalOrder cmp → (part : Part) (c : Cursor K V) → IsStart cmp c → remaining_of cmp part c ≡ turned part (entries_between cmp c.lower c.upper c.pairs)
 left_at_first o parts.All c s = left_at_start o c s

@@ -139,7 +139,10 @@ impl Made {
     }
 
     pub(crate) fn scene<'a>(&'a self, domain: &'a Domain<u64>, kind: Kind) -> Scene<'a>
-        requires made { IsStackOf self.now.stack domain.now × IsQueueOf self.now.queue domain.now × IsBagOf self.now.bag domain.now × AreLinksOf self.now.links domain.now }
+        requires stack { IsStackOf self.now.stack domain.now }
+        requires queue { IsQueueOf self.now.queue domain.now }
+        requires bag { IsBagOf self.now.bag domain.now }
+        requires links { AreLinksOf self.now.links domain.now }
         ensures domain { result.domain.now ≡ domain.now }
     {
         Scene {

@@ -61,9 +61,6 @@ module _ {T : Type 0} where
           ∙ ap (λ zs. cell_steps_of a ++ zs) (sym (append_assoc r.0 q.0 (x ∷ y ∷ []))),
     )
 
-    pub put_quiet : HasPutBy a own cell s b → StepsOnNoCell b c → HasPutBy a own cell s c
-    put_quiet q quiet = (q.0, q.1, q.2, q.3, q.4, q.5, q.6, q.7, q.8, q.9, q.10, quiet ∙ q.11)
-
   -- the link is filled, and then the cell exchanged
   pub put_made : (a b c d : Local T) (own cell t k u h : ℕ) (s : Shared T) → home_of b ≡ home_of a → home_of c ≡ home_of a → HasMadeSome a b → HasExchanged b own t k 0 h c → h ≢ owner_code (Some s) → HasExchanged c cell u h 0 (owner_code (Some s)) d
       → HasPutBy a own cell s d
@@ -82,14 +79,6 @@ module _ {T : Type 0} where
     made_both a c d (r.0 ++ x ∷ []) (y ∷ []) (made_both a b c r.0 (x ∷ []) r.1 (fv.2 ∙ ap (λ z. cell_steps_of b ++ z ∷ []) (step_since own a b f.0 fv.0 home_b))) (ev.2 ∙ ap (λ z. cell_steps_of c ++ z ∷ []) (step_since cell a c e.0 ev.0 home_c))
         ∙ ap (λ zs. cell_steps_of a ++ zs) (append_assoc r.0 (x ∷ []) (y ∷ [])),
   )
-
-  -- the same of a cell that is filled
-  module _ (a b c : Local T) (cell : ℕ) (s : Shared T) where
-    pub filled_first : HasExchanged a cell 0 0 0 (owner_code (Some s)) b → HasMadeSome b c → HasFilledFirst a cell s c
-    filled_first e r = let v = e.2 in (r.0, e.0, v.0, e.1, v.1, made_both a b c (step_on a cell e.0 v.0 ∷ []) r.0 v.2 r.1)
-
-  pub filled_some : (a b : Local T) (cell : ℕ) (s : Shared T) → HasFilledFirst a cell s b → HasMadeSome a b
-  filled_some a b cell s q = (step_on a cell q.1 q.2 ∷ q.0, q.5)
 
   -- an owner of the item in the same slot is as good
   module _ (a b : Local T) (links : Links T) (s q : Shared T) (same : s.slot ≡ q.slot) where
@@ -154,9 +143,6 @@ module _ {T : Type 0} where
       made_both a c d xs (step_on a cell m.1 m.2 ∷ m.0) made (m.5 ∙ ap (λ y. cell_steps_of c ++ y ∷ m.0) (step_since cell a c m.1 m.2 home)),
     )
 
-    pub appended_front : (a c d : Local T) (q : Queue T) (s : Shared T) → home_of c ≡ home_of a → HasMadeSome a c → HasFilledFirst c (cell_number q.front.first) s d → (xs : List CellStep) × HasAppended a q links s xs d
-    appended_front a c d q s home r m = (r.0, appended_by a c d q s r.0 (cell_number q.front.first) home r.1 (inl refl) m)
-
     pub appended_end : (a b c d : Local T) (q : Queue T) (s : Shared T) (p o : Option ℕ) → home_of b ≡ home_of a → home_of c ≡ home_of a → IfSome p (λ i. (xs : List CellStep) × HasMade a xs b × Reaches a q links xs i) → IfSome o (λ k. HasWalked b links p k c)
         → HasFilledLink c links o s d → (xs : List CellStep) × HasAppended a q links s xs d
     appended_end a b c d q s p o home_b home_c start walked m =
@@ -186,9 +172,6 @@ module _ {T : Type 0} where
     -- its own link is left empty before
     abbrev pub HasCleared : Local T → Shared T → Local T → Type 0
     HasCleared old s new = (vs : List CellStep) × (own : ℕ) × (u : ℕ) × (z : ℕ) × IsLinkOf links s.slot own × NamesWith z 0 0 × HasMade old (step_on old own u z ∷ vs) new
-
-    pub cleared_by : (a b : Local T) (s : Shared T) (own t k : ℕ) → IsLinkOf links s.slot own → HasExchanged a own t k 0 0 b → HasCleared a s b
-    cleared_by a b s own t k link e = let v = e.2 in ([], own, e.0, v.0, link, v.1, v.2)
 
     pub cleared_more : (a b c : Local T) (s : Shared T) → HasCleared a s b → HasMadeSome b c → HasCleared a s c
     cleared_more a b c s m r = (m.0 ++ r.0, m.1, m.2, m.3, m.4, m.5, made_both a b c (step_on a m.1 m.2 m.3 ∷ m.0) r.0 m.6 r.1)

@@ -1,14 +1,14 @@
 -- steps on cells before and behind the one that takes an item out
-use Rattle.std.proofs.Common.{◌≡◌, ◌≢◌, ℕ, ◌+◌, List, [], ◌∷◌, ◌++◌, Option, None, Some, IfSome, true, false, eqb, eq-eqb, inr, append_assoc, append-nil, refl, sym, ap, ◌∙◌, arith}
+use Rattle.std.proofs.Common.{◌≡◌, ◌≢◌, ℕ, Option, None, Some, IfSome, true, false, eqb, eq-eqb, inr, refl, sym, ap, ◌∙◌, arith}
 use Rattle.std.specs.Option.{option_eq}
 use Rattle.std.proofs.lemmas.Bool.{false≢true}
-use Rattle.sdd_domain.specs.CellSteps.{CellStep, packed, cell_steps_of, HasMade, HasMadeSome, HasMadeOne, StepsOnNoCell, HasReadCell, HasExchanged, HasRetagged, step_on}
+use Rattle.sdd_domain.specs.CellSteps.{packed, HasMadeSome, HasExchanged, step_on}
 use Rattle.sdd_domain.specs.Comparing.{owner_code, owner_slot}
 use Rattle.sdd_domain.specs.Tokens.{home_of}
 use Rattle.sdd_domain.specs.declared.local.Local.{Local}
 use Rattle.sdd_domain.specs.declared.shared.Shared.{Shared}
 pub use Rattle.shared_lists.proofs.Made.{none_made, quiet_some, read_some, exchanged_some, kept_some, retagged_some, some_then, one_behind, one_before, one_made, one_since}
-use Rattle.shared_containers.specs.Taken.{HasTakenOut, HasMarked, HasMarkedLink, HasPopped, HasPoppedOf, IsCellAt, IsPlain}
+use Rattle.shared_containers.specs.Taken.{HasTakenOut, HasMarked, HasPopped, HasPoppedOf, IsCellAt}
 use Rattle.shared_containers.specs.declared.bag.Bag.{Bag}
 use Rattle.shared_lists.specs.declared.links.Links.{Links}
 use Rattle.shared_containers.specs.declared.stack.Stack.{Stack}
@@ -35,12 +35,6 @@ module _ {T : Type 0} where
   module _ (a b c : Local T) (some_ : HasMadeSome b c) where
     pub taken_before : (cell : ℕ) (s : Shared T) → HasTakenOut a cell s b → HasTakenOut a cell s c
     taken_before cell s q = (q.0, q.1, q.2, q.3, q.4, q.5, q.6, q.7, one_before a b c (step_on a cell q.0 q.1) q.8 some_)
-
-    pub marked_before : (cell : ℕ) → HasMarked a cell b → HasMarked a cell c
-    marked_before cell q = (q.0, q.1, q.2, q.3, q.4, one_before a b c (step_on a cell q.0 q.1) q.5 some_)
-
-    pub popped_before : (stack : Stack T) (links : Links T) (s : Shared T) → HasPopped a stack links s b → HasPopped a stack links s c
-    popped_before stack links s q = (λ plain. taken_before stack.first.cell s (q.0 plain), λ front. let m = q.1 front in (m.0, m.1, marked_before m.0 m.2))
 
   -- an exchange of an item for another one, or none
   pub exchange_takes : (a b : Local T) (cell t k u h : ℕ) (s : Shared T) → k ≡ owner_code (Some s) → h ≢ owner_code (Some s) → HasExchanged a cell t k u h b → HasTakenOut a cell s b

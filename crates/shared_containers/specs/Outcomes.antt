@@ -81,6 +81,10 @@ IsValueOf (Busy s) value = ⊥
 abbrev pub Gives : {T C It : Type 0} → (C → It → Type 0) → (It → Option T → It → Type 0) → C → T → Type 0
 Gives {T} {It = It} begins next values v = (it : It) × (vs : List T) × (rest : It) × begins values it × YieldsThen next it vs (Some v) rest
 
+-- a push of one of its values was refused
+abbrev pub RefusesOne : {T C It : Type 0} → (C → It → Type 0) → (It → Option T → It → Type 0) → C → PushRefused T → TableId → Type 0
+RefusesOne {T} begins next values r place = (v : T) × Gives begins next values v × IsRefused r v place ⊥ ⊥
+
 -- what holds where nothing was made of a collection, and where the making ended at a value
 abbrev pub IfUnmade : {C T I : Type 0} → FromIterRefused C T I → (NotMade → I → Type 0) → Type 0
 IfUnmade (filled.Unmade why values) P = P why values

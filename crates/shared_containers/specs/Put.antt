@@ -2,11 +2,14 @@
 use Rattle.std.specs.Prelude.{◌≡◌, ◌≢◌, ◌⊎◌, ◌+◌, ℕ, List, ◌++◌, ◌∷◌, [], Option, Some}
 use Rattle.atomic_table.specs.Seated.{TableId}
 use Rattle.sdd_domain.specs.Cells.{cell_number}
-use Rattle.sdd_domain.specs.CellSteps.{CellStep, NamesWith, HasMade, HasMadeOne, step_on}
-use Rattle.sdd_domain.specs.Comparing.{owner_code}
+use Rattle.sdd_domain.specs.CellSteps.{CellStep, NamesWith, HasExchanged, HasMade, HasMadeOne, step_on}
+use Rattle.sdd_domain.specs.Comparing.{code_of, owner_code}
+use Rattle.sdd_domain.specs.Pointers.{ptr_slot, ptr_tag}
 use Rattle.sdd_domain.specs.Tokens.{home_of}
 use Rattle.sdd_domain.specs.declared.local.Local.{Local}
+use Rattle.sdd_domain.specs.declared.pointer.Ptr.{Ptr}
 use Rattle.sdd_domain.specs.declared.shared.Shared.{Shared}
+use Rattle.sdd_plain.specs.Epochs.{tag_number}
 use Rattle.shared_containers.specs.Outcomes.{IsPlaced}
 use Rattle.shared_containers.specs.declared.bag.Bag.{Bag}
 use Rattle.shared_containers.specs.declared.queue.Queue.{Queue}
@@ -18,6 +21,10 @@ use Rattle.shared_lists.specs.declared.links.Row.{Row}
 -- its last two steps on cells: it left in the one cell what the other one was then found to name, another item or none, and there this owner's item
 abbrev pub HasPutBy : {T : Type 0} → Local T → ℕ → ℕ → Shared T → Local T → Type 0
 HasPutBy old own cell s new = (xs : List CellStep) × (u : ℕ) × (z : ℕ) × (w : ℕ) × (v : ℕ) × (t : ℕ) × (k : ℕ) × NamesWith z 0 k × NamesWith w t k × (k ≢ owner_code (Some s)) × NamesWith v 0 (owner_code (Some s)) × HasMade old (xs ++ step_on old own u z ∷ step_on old cell w v ∷ []) new
+
+-- its last step on cells found what this pointer shows in the cell, and left the owner's item there, with no tag
+abbrev pub HasPutFor : {T : Type 0} → Local T → ℕ → Ptr T → Shared T → Local T → Type 0
+HasPutFor old cell found owner new = HasExchanged old cell (tag_number (ptr_tag found)) (code_of (ptr_slot found)) 0 (owner_code (Some owner)) new
 
 -- the first of them was on this item's link
 abbrev pub HasPutBefore : {T : Type 0} → Local T → Links T → ℕ → Shared T → Local T → Type 0

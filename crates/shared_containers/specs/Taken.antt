@@ -2,8 +2,10 @@
 use Rattle.std.specs.Prelude.{◌≡◌, ◌≢◌, ◌⊎◌, ℕ, true, false, Some}
 use Rattle.sdd_domain.specs.Cells.{cell_number}
 use Rattle.sdd_domain.specs.CellSteps.{NamesWith, HasMadeOne, step_on}
-use Rattle.sdd_domain.specs.Comparing.{owner_code}
+use Rattle.sdd_domain.specs.Comparing.{owner_code, owner_slot}
+use Rattle.sdd_domain.specs.Pointers.{ptr_slot}
 use Rattle.sdd_domain.specs.declared.local.Local.{Local}
+use Rattle.sdd_domain.specs.declared.pointer.Ptr.{Ptr}
 use Rattle.sdd_domain.specs.declared.shared.Shared.{Shared}
 use Rattle.shared_containers.specs.declared.bag.Bag.{Bag}
 pub use Rattle.shared_lists.specs.Lists.{IsCellAt, IsLinkOf}
@@ -17,6 +19,10 @@ HasTakenOut old cell s new = (w : ℕ) × (v : ℕ) × (t : ℕ) × (u : ℕ) ×
 -- one of its steps found this cell without a tag, and left it with the mark, naming what it named
 abbrev pub HasMarked : {T : Type 0} → Local T → ℕ → Local T → Type 0
 HasMarked old cell new = (w : ℕ) × (v : ℕ) × (k : ℕ) × NamesWith w 0 k × NamesWith v 2 k × HasMadeOne old (step_on old cell w v) new
+
+-- it marked this cell, and the owner is one of the item that was found
+abbrev pub HasMarkedFor : {T : Type 0} → Local T → ℕ → Ptr T → Shared T → Local T → Type 0
+HasMarkedFor old cell found s new = (owner_slot (Some s) ≡ ptr_slot found) × HasMarked old cell new
 
 -- it marked the link of this owner's item, which had no mark
 abbrev pub HasMarkedLink : {T : Type 0} → Local T → Links T → Shared T → Local T → Type 0

@@ -6,7 +6,7 @@ ghost use Rattle.sdd_domain.specs.CellSteps.{HasMadeSome};
 ghost use Rattle.sdd_domain.specs.Sharing.{kept_in, IsOwnerOf};
 ghost use Rattle.sdd_domain.specs.Tokens.{place_of, home_of, own_of, cell_count, IsInNest};
 ghost use Rattle.shared_containers.specs.Containers.{AreLinksOf, IsBagOf, IsAsBefore, IsReady, IsOpenIn, IsStill};
-ghost use Rattle.shared_containers.specs.Outcomes.{Gives, IfPartly, IfUnmade, IsBackIn, IsRefused};
+ghost use Rattle.shared_containers.specs.Outcomes.{Gives, IfPartly, IfUnmade, IsBackIn, IsRefused, RefusesOne};
 ghost use Rattle.shared_containers.specs.Put.{HasFilledLast, HasFilledOneOf, HasPutInto, HasPushedInto, HasPushedIntoPrimary};
 ghost use Rattle.shared_containers.specs.Taken.{HasPoppedOf, HasTakenOut, IsCellAt};
 ghost use Rattle.std.specs.Iterator.{IsFiniteIterable};
@@ -73,7 +73,7 @@ impl<T: Holds, const ARRAY_LEN: usize> Bag<T, ARRAY_LEN> {
         ensures bag { IfOk result (λ b. IsBagOf b domain.now) }
         ensures unmade { IfErr result (λ e. IfUnmade e (λ _ back. back ≡ values)) }
         ensures built { IfErr result (λ e. IfPartly e (λ b _. IsBagOf b domain.now)) }
-        ensures partly { IfErr result (λ e. IfPartly e (λ _ r. (v : T) × Gives I.into_iter_gives I.IntoIter.next_gives values v × IsRefused r v (place_of domain.now).0 ⊥ ⊥)) }
+        ensures partly { IfErr result (λ e. IfPartly e (λ _ r. RefusesOne I.into_iter_gives I.IntoIter.next_gives values r (place_of domain.now).0)) }
         ensures same { IsAsBefore local.old local.new }
     {
         let bag = match Bag::new(alloc, domain, local) {

@@ -3,14 +3,13 @@
 ghost use Rattle.std.specs.Prelude.{◌≡◌, ◌<◌, true, Some, IsTrue, IfSome};
 ghost use Rattle.sdd_domain.specs.Cells.{cell_number};
 ghost use Rattle.sdd_domain.specs.CellSteps.{HasMadeSome};
-ghost use Rattle.sdd_domain.specs.Comparing.{owner_slot};
 ghost use Rattle.sdd_domain.specs.Pointers.{ptr_slot, ptr_tag};
 ghost use Rattle.sdd_domain.specs.Sharing.{kept_in};
 ghost use Rattle.sdd_domain.specs.Tokens.{place_of, cell_count};
 ghost use Rattle.shared_containers.specs.Containers.{AreLinksOf, IsStackOf, IsAsBefore, IsReady, IsOpenIn, IsStill};
 ghost use Rattle.shared_containers.specs.Outcomes.{IfItem, IsFrom, Said};
 ghost use Rattle.shared_containers.specs.Put.{HasFoundIn};
-ghost use Rattle.shared_containers.specs.Taken.{HasTakenOut, HasMarked, HasPopped, IsPlain};
+ghost use Rattle.shared_containers.specs.Taken.{HasTakenOut, HasPopped, IsPlain, HasMarkedFor};
 
 use crate::outcome::Popped;
 use crate::stack::Stack;
@@ -127,7 +126,7 @@ impl<T: Holds> Stack<T> {
         ensures home { IfSome result (λ s. kept_in s ≡ (place_of domain.now).0) }
         ensures same { IsStill local.old local.new }
         ensures taken { IsPlain self.now → IfSome result (λ s. HasTakenOut local.old (cell_number self.now.first) s local.new) }
-        ensures marked { self.now.is_front ≡ true → IfSome result (λ s. (owner_slot (Some s) ≡ ptr_slot found.entry) × HasMarked local.old (cell_number link.now) local.new) }
+        ensures marked { self.now.is_front ≡ true → IfSome result (λ s. HasMarkedFor local.old (cell_number link.now) found.entry s local.new) }
         ensures some { HasMadeSome local.old local.new }
     {
         if self.is_front {
@@ -214,7 +213,7 @@ impl<T: Holds> Stack<T> {
         requires inside { IsStackOf self.now domain.now × (cell_number link.now < cell_count domain.now) }
         ensures home { IfSome result (λ s. kept_in s ≡ (place_of domain.now).0) }
         ensures same { IsStill local.old local.new }
-        ensures marked { IfSome result (λ s. (owner_slot (Some s) ≡ ptr_slot found.entry) × HasMarked local.old (cell_number link.now) local.new) }
+        ensures marked { IfSome result (λ s. HasMarkedFor local.old (cell_number link.now) found.entry s local.new) }
         ensures some { HasMadeSome local.old local.new }
     {
         // An owner is had before the tag is set: behind that others may take the item out and release theirs.

@@ -1,15 +1,13 @@
 //! Owners on their way into a cell and out of it.
 
 ghost use Rattle.std.specs.Prelude.{◌≡◌, ◌<◌, [], Some, IfOk, IfErr, IfNone, IfSome};
-ghost use Rattle.sdd_plain.specs.Epochs.{tag_number};
 ghost use Rattle.sdd_domain.specs.Cells.{cell_number};
-ghost use Rattle.sdd_domain.specs.CellSteps.{HasExchanged, HasMadeSome, StepsOnNoCell};
-ghost use Rattle.sdd_domain.specs.Comparing.{code_of, owner_code};
-ghost use Rattle.sdd_domain.specs.Pointers.{ptr_slot, ptr_tag};
+ghost use Rattle.sdd_domain.specs.CellSteps.{HasMadeSome, StepsOnNoCell};
 ghost use Rattle.sdd_domain.specs.Sharing.{kept_in, IsOwnerOf};
 ghost use Rattle.sdd_domain.specs.Tokens.{place_of, home_of, hand_of, cell_count};
 ghost use Rattle.shared_containers.specs.Containers.{IsAsBefore, IsOpenIn, IsStill};
 ghost use Rattle.shared_containers.specs.Outcomes.{IsBackIn, IsRefused};
+ghost use Rattle.shared_containers.specs.Put.{HasPutFor};
 
 use crate::outcome::PushRefused;
 use sdd_domain::atomic_shared::AtomicShared;
@@ -35,7 +33,7 @@ pub(crate) fn exchange<T: Holds>(
     requires inside { cell_number cell.now < cell_count domain.now }
     requires mine { kept_in owner ≡ (place_of domain.now).0 }
     ensures back { IfSome result (λ s. IsBackIn s owner (place_of domain.now).0) }
-    ensures put { IfNone result (HasExchanged local.old (cell_number cell.now) (tag_number (ptr_tag found.entry)) (code_of (ptr_slot found.entry)) 0 (owner_code (Some owner)) local.new) }
+    ensures put { IfNone result (HasPutFor local.old (cell_number cell.now) found.entry owner local.new) }
     ensures some { HasMadeSome local.old local.new }
     ensures same { IsStill local.old local.new }
 {

@@ -7,7 +7,7 @@ ghost use Rattle.sdd_domain.specs.Pointers.{ptr_slot};
 ghost use Rattle.sdd_domain.specs.Sharing.{kept_in, IsOwnerOf};
 ghost use Rattle.sdd_domain.specs.Tokens.{place_of, home_of, own_of, slot_count, IsInNest};
 ghost use Rattle.shared_containers.specs.Containers.{AreLinksOf, IsQueueOf, IsAsBefore, IsReady, IsOpenIn, IsStill};
-ghost use Rattle.shared_containers.specs.Outcomes.{Gives, IfDone, IfPartly, IfPartlyCopied, IfUncopied, IfUnmade, IsNotCloned, IsPushed, IsRefused, Said};
+ghost use Rattle.shared_containers.specs.Outcomes.{Gives, IfDone, IfPartly, IfPartlyCopied, IfUncopied, IfUnmade, IsNotCloned, IsPushed, IsRefused, Said, RefusesOne};
 ghost use Rattle.shared_containers.specs.Put.{HasAppended, HasAppendedClear, HasPushedLast, HasWalked};
 ghost use Rattle.shared_containers.specs.Taken.{HasMarkedLink};
 ghost use Rattle.shared_containers.specs.Walks.{left_of};
@@ -74,7 +74,7 @@ impl<T: Holds> Queue<T> {
         ensures queue { IfOk result (λ q. IsQueueOf q domain.now) }
         ensures unmade { IfErr result (λ e. IfUnmade e (λ why back. (why ≡ NotMade.NoCell) × (back ≡ values))) }
         ensures built { IfErr result (λ e. IfPartly e (λ q _. IsQueueOf q domain.now)) }
-        ensures partly { IfErr result (λ e. IfPartly e (λ _ r. (v : T) × Gives I.into_iter_gives I.IntoIter.next_gives values v × IsRefused r v (place_of domain.now).0 ⊥ ⊥)) }
+        ensures partly { IfErr result (λ e. IfPartly e (λ _ r. RefusesOne I.into_iter_gives I.IntoIter.next_gives values r (place_of domain.now).0)) }
         ensures same { IsAsBefore local.old local.new }
     {
         let Some(queue) = Queue::new(domain, local) else {

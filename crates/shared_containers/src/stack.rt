@@ -9,7 +9,7 @@ ghost use Rattle.sdd_domain.specs.Pointers.{ptr_slot, ptr_tag};
 ghost use Rattle.sdd_domain.specs.Sharing.{kept_in, IsOwnerOf};
 ghost use Rattle.sdd_domain.specs.Tokens.{place_of, home_of, own_of, cell_count, slot_count, IsInNest};
 ghost use Rattle.shared_containers.specs.Containers.{AreLinksOf, IsStackOf, IsAsBefore, IsReady, IsOpenIn, IsStill};
-ghost use Rattle.shared_containers.specs.Outcomes.{Gives, IfDone, IfPartly, IfPartlyCopied, IfUncopied, IfUnmade, IsNotCloned, IsPushed, IsRefused, Said};
+ghost use Rattle.shared_containers.specs.Outcomes.{Gives, IfDone, IfPartly, IfPartlyCopied, IfUncopied, IfUnmade, IsNotCloned, IsPushed, IsRefused, Said, RefusesOne};
 ghost use Rattle.shared_containers.specs.Put.{HasPushed, HasPutBefore, HasPutBy};
 ghost use Rattle.shared_containers.specs.Taken.{HasPopped, IsPlain};
 ghost use Rattle.shared_containers.specs.Walks.{left_of};
@@ -69,7 +69,7 @@ impl<T: Holds> Stack<T> {
         ensures stack { IfOk result (λ s. IsStackOf s domain.now) }
         ensures unmade { IfErr result (λ e. IfUnmade e (λ why back. (why ≡ NotMade.NoCell) × (back ≡ values))) }
         ensures built { IfErr result (λ e. IfPartly e (λ s _. IsStackOf s domain.now)) }
-        ensures partly { IfErr result (λ e. IfPartly e (λ _ r. (v : T) × Gives I.into_iter_gives I.IntoIter.next_gives values v × IsRefused r v (place_of domain.now).0 ⊥ ⊥)) }
+        ensures partly { IfErr result (λ e. IfPartly e (λ _ r. RefusesOne I.into_iter_gives I.IntoIter.next_gives values r (place_of domain.now).0)) }
         ensures same { IsAsBefore local.old local.new }
         ensures plain { IfOk result (λ s. IsPlain s) }
     {

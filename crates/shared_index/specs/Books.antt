@@ -36,6 +36,10 @@ pub record BookState (K V : Type 0) : Type 0 where
 abbrev pub fresh_book : {K V : Type 0} → Base K V → (last misses : ℕ) → List CellStep → BookState K V
 fresh_book base last misses steps = record { base = base; history = []; last = last; misses = misses; cell_steps = steps }
 
+-- it is that one, whatever steps were made
+abbrev pub IsFreshBook : {K V : Type 0} → Base K V → (last misses : ℕ) → BookState K V → Type 0
+IsFreshBook base last misses b = b ≡ fresh_book base last misses b.cell_steps
+
 -- what the misses are after a commit that was refused for this cause: one more for want of a slot, else as many
 abbrev pub misses_after : Cause → ℕ → ℕ
 misses_after (causes.Conflict place) misses = misses

@@ -1,9 +1,8 @@
 //! What the lock of a shared index holds.
 
-ghost use Rattle.std.specs.Prelude.{◌≡◌, ℕ, ◌≤◌, ◌<◌, ◌+◌, ◌++◌, ◌∷◌, [], IfOk, IfErr, IfSome, IfNone, OnOk, OnErr, length, replicate, vec_capacity};
+ghost use Rattle.std.specs.Prelude.{◌≡◌, ℕ, ◌≤◌, ◌<◌, ◌+◌, [], IfOk, IfErr, IfSome, IfNone, OnOk, OnErr, length, replicate, vec_capacity};
 ghost use Rattle.std.specs.List.{All};
 ghost use Rattle.leaf_array.specs.Values.{ClonesAreSame, EqualsAreSame};
-ghost use Rattle.leaf_array.specs.Pairs.{IsAscending};
 ghost use Rattle.serial_history.specs.Serial.{HasNumber, Holds, IsFirstConflict, IsSerial, RefusesCheckpoint, empty_base};
 ghost use Rattle.sdd_domain.specs.Cells.{cell_number};
 ghost use Rattle.sdd_domain.specs.Tokens.{place_of, misses_of, cell_count};

@@ -1,10 +1,10 @@
 //! A participant of an index, which ends where it is dropped.
 
-ghost use Rattle.std.specs.Prelude.{◌≡◌, ◌≤◌, ◌++◌, ◌∷◌, [], None, Some, IfOk, IfErr, IsErrOf, IsSome, OnErr, OnOk};
+ghost use Rattle.std.specs.Prelude.{◌≡◌, ◌≤◌, [], None, Some, IfOk, IfErr, IsErrOf, IsSome, OnErr, OnOk};
 ghost use Rattle.leaf_array.specs.Values.{ClonesAreSame};
 ghost use Rattle.serial_history.specs.Answers.{answer_to};
 ghost use Rattle.shared_sessions.specs.Openings.{IsBelow};
-ghost use Rattle.shared_index.specs.Participants.{list_in, number_in, reads_in};
+ghost use Rattle.shared_index.specs.Participants.{list_in, reads_in};
 ghost use Rattle.serial_history.specs.Serial.{with_read};
 
 use crate::index::SharedIndex;

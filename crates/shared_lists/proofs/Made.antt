@@ -1,6 +1,6 @@
 -- steps on cells before and behind others
 use Rattle.std.proofs.Common.{◌≡◌, ◌⊎◌, ⊎_elim, ℕ, ◌++◌, [], ◌∷◌, append_assoc, append-nil, sym, ap, ◌∙◌}
-use Rattle.sdd_domain.specs.CellSteps.{CellStep, cell_steps_of, HasMade, HasMadeSome, HasMadeOne, StepsOnNoCell, HasReadCell, HasExchanged, HasFoundLast, HasReadOften, HasRetagged, step_on}
+use Rattle.sdd_domain.specs.CellSteps.{CellStep, cell_steps_of, HasMade, HasMadeSome, HasMadeOne, StepsOnNoCell, HasReadCell, HasFoundLast, HasReadOften, step_on}
 use Rattle.sdd_plain.specs.Epochs.{tag_number}
 use Rattle.sdd_domain.specs.Comparing.{code_of}
 use Rattle.sdd_domain.specs.declared.pointer.Ptr.{Ptr}
@@ -18,15 +18,9 @@ module _ {T : Type 0} where
   pub read_some : (a b : Local T) (cell t k : ℕ) → HasReadCell a cell t k b → HasMadeSome a b
   read_some a b cell t k r = (step_on a cell r.0 r.0 ∷ [], r.2)
 
-  pub exchanged_some : (a b : Local T) (cell t k u h : ℕ) → HasExchanged a cell t k u h b → HasMadeSome a b
-  exchanged_some a b cell t k u h q = let v = q.2 in (step_on a cell q.0 v.0 ∷ [], v.2)
-
   -- where a tag wasn't set
   pub kept_some : (a b : Local T) (cell n : ℕ) (F : Ptr T → Type 0) → ((r : Ptr T) × F r × HasFoundLast a cell (tag_number r.tag) (code_of r.slot) b) ⊎ HasReadOften a cell n b → HasMadeSome a b
   kept_some a b cell n F = ⊎_elim (λ (f : (r : Ptr T) × F r × HasFoundLast a cell (tag_number r.tag) (code_of r.slot) b). let l = f.2 in (l.0 ++ step_on a cell l.1 l.1 ∷ [], l.4)) (λ (o : HasReadOften a cell n b). (o.0, o.3))
-
-  pub retagged_some : (a b : Local T) (cell t k u : ℕ) → HasRetagged a cell t k u b → HasMadeSome a b
-  retagged_some a b cell t k u r = (r.0 ++ step_on a cell r.1 r.2 ∷ [], r.6)
 
   pub some_then : (a b c : Local T) → HasMadeSome a b → HasMadeSome b c → HasMadeSome a c
   some_then a b c r q = (r.0 ++ q.0, made_both a b c r.0 q.0 r.1 q.1)

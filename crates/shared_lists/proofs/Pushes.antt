@@ -1,6 +1,6 @@
 -- pushes behind an entry, as their steps on cells tell them
-use Rattle.std.proofs.Common.{◌≡◌, ◌⊎◌, ◌<◌, ◌≤◌, ◌+◌, ℕ, ◌++◌, [], ◌∷◌, List, Option, None, Some, append_assoc, append-nil, length, length-append, inl, inr, refl, sym, ap, ◌∙◌, subst, arith}
-use Rattle.sdd_domain.specs.CellSteps.{CellStep, NamesWith, cell_steps_of, HasMade, HasMadeSome, HasReadCell, HasExchanged, StepsOnNoCell, step_on}
+use Rattle.std.proofs.Common.{◌≡◌, ◌+◌, ℕ, ◌++◌, [], ◌∷◌, Option, None, Some, append_assoc, length-append, refl, sym, ap, ◌∙◌, arith}
+use Rattle.sdd_domain.specs.CellSteps.{CellStep, cell_steps_of, HasMadeSome, HasReadCell, HasExchanged, StepsOnNoCell, step_on}
 use Rattle.sdd_domain.specs.Comparing.{owner_code, owner_slot, code_of}
 use Rattle.sdd_domain.specs.Tokens.{home_of}
 use Rattle.sdd_domain.specs.declared.local.Local.{Local}
@@ -11,10 +11,6 @@ use Rattle.shared_lists.specs.Entries.{HasPushed, HasFoundDeleted, HasMadeMany}
 pub code_of_slot : {T : Type 0} (o : Option (Shared T)) → owner_code o ≡ code_of (owner_slot o)
 code_of_slot None = refl
 code_of_slot (Some s) = refl
-
-module _ {T : Type 0} (a b : Local T) where
-  pub quiet_made : StepsOnNoCell a b → HasMadeSome a b
-  quiet_made quiet = ([], quiet ∙ sym (append-nil (cell_steps_of a)))
 
 module _ {T : Type 0} (a b c d : Local T) (own cell : ℕ) (home_b : home_of b ≡ home_of a) (home_c : home_of c ≡ home_of a) where
   -- the new link is filled, and then the other one exchanged
@@ -69,12 +65,6 @@ module _ {T : Type 0} (a b c : Local T) (home : home_of b ≡ home_of a) where
 module _ {T : Type 0} (a b : Local T) where
   pub many_some : (n : ℕ) → HasMadeMany a n b → HasMadeSome a b
   many_some n r = (r.0, r.2)
-
-  pub fewer_many : (n m : ℕ) → m ≤ n → HasMadeMany a n b → HasMadeMany a m b
-  fewer_many n m few r = (r.0, (let many = r.1 in omega arith), r.2)
-
-  pub read_deleted : (cell t k : ℕ) → 2 ≤ t → HasReadCell a cell t k b → HasFoundDeleted a cell b
-  read_deleted cell t k gone r = ([], r.0, t, k, gone, r.1, r.2)
 
   pub read_many : (cell t k : ℕ) → HasReadCell a cell t k b → HasMadeMany a 1 b
   read_many cell t k r = (step_on a cell r.0 r.0 ∷ [], omega arith, r.2)

@@ -1,13 +1,16 @@
 -- what entries of lists show to clauses, and what the steps on cells say of them
-use Rattle.std.specs.Prelude.{◌≡◌, ◌≢◌, ◌⊎◌, ◌^◌, ◌<◌, ◌≤◌, ◌+◌, ℕ, Bool, true, false, ◌-◌, List, ◌++◌, ◌∷◌, [], Some, length}
+use Rattle.std.specs.Prelude.{◌≡◌, ◌≢◌, ◌⊎◌, ◌^◌, ◌<◌, ◌≤◌, ◌+◌, ℕ, Bool, true, false, ◌-◌, List, ◌++◌, ◌∷◌, [], Option, Some, IfSome, length}
 use Rattle.sdd_domain.specs.Cells.{cell_number}
-use Rattle.sdd_domain.specs.CellSteps.{CellStep, NamesWith, HasMade, HasReadCell, HasStored, step_on}
-use Rattle.sdd_domain.specs.Comparing.{owner_code, owner_slot}
+use Rattle.sdd_domain.specs.CellSteps.{CellStep, NamesWith, HasFoundLast, HasMade, HasReadCell, HasReadOften, HasStored, step_on}
+use Rattle.sdd_domain.specs.Comparing.{code_of, owner_code, owner_slot}
+use Rattle.sdd_domain.specs.Pointers.{ptr_item, ptr_slot, ptr_tag}
 use Rattle.sdd_domain.specs.Sharing.{kept_in, IsOwnerOf}
 use Rattle.sdd_domain.specs.Tokens.{cell_count}
 use Rattle.sdd_domain.specs.declared.domain.Domain.{Domain}
 use Rattle.sdd_domain.specs.declared.local.Local.{Local}
+use Rattle.sdd_domain.specs.declared.pointer.Ptr.{Ptr}
 use Rattle.sdd_domain.specs.declared.shared.Shared.{Shared}
+use Rattle.sdd_plain.specs.Epochs.{tag_number}
 use Rattle.shared_lists.specs.Lists.{AreLinksOf, IsLinkOf, links_count}
 use Rattle.shared_lists.specs.declared.linked_entry.LinkedEntry.{LinkedEntry}
 use Rattle.shared_lists.specs.declared.linked_entry.Tried.{Tried}
@@ -64,6 +67,18 @@ HasFoundDeleted old cell new = (xs : List CellStep) × (w : ℕ) × (t : ℕ) ×
 abbrev pub HasMadeMany : {T : Type 0} → Local T → ℕ → Local T → Type 0
 HasMadeMany old n new = (xs : List CellStep) × (n ≤ length xs) × HasMade old xs new
 
+-- its one step on cells read the link of this slot, if it has one, and found what this pointer shows
+abbrev pub HasReadLink : {T : Type 0} → Local T → Links T → ℕ → Ptr T → Local T → Type 0
+HasReadLink old links slot next new = slot < links_count links → (cell : ℕ) × IsLinkOf links slot cell × HasReadCell old cell (tag_number (ptr_tag next)) (code_of (ptr_slot next)) new
+
+-- its last step on cells found this one with such a tag, or it read it 2^64 times
+abbrev pub HasFoundTag : {T : Type 0} → Local T → ℕ → (ℕ → Type 0) → Local T → Type 0
+HasFoundTag old cell Is new = ((t : ℕ) × (k : ℕ) × Is t × HasFoundLast old cell t k new) ⊎ HasReadOften old cell (2 ^ 64) new
+
+-- a pointer to an owner's item, with this tag
+abbrev pub PointsTo : {T : Type 0} → Ptr T → Shared T → ℕ → Type 0
+PointsTo {T} p owner tag = (ptr_slot p ≡ owner_slot (Some owner)) × (tag_number (ptr_tag p) ≡ tag) × ((x : T) → IsOwnerOf owner x → ptr_item p ≡ Some x)
+
 -- what one try came to
 abbrev pub HasTried : {T : Type 0} → Tried T → Local T → ℕ → ℕ → ℕ → Shared T → Local T → Type 0
 HasTried Done old cell own m s new = (t : ℕ) × (t < 2) × HasPushed old own cell t m (owner_code (Some s)) new
@@ -82,6 +97,10 @@ pub data Walks {T : Type 0} (old : Local T) (links : Links T) (cell : ℕ) : Lis
 -- behind such a walk it found the entry in this slot, whose link had no such tag; it did nothing else to cells
 abbrev pub HasFoundNext : {T : Type 0} → Local T → Links T → ℕ → ℕ → Local T → Type 0
 HasFoundNext old links cell k new = (xs : List CellStep) × (c : ℕ) × (d : ℕ) × (w : ℕ) × (u : ℕ) × (s : ℕ) × (t : ℕ) × (j : ℕ) × Walks old links cell xs c × IsLinkOf links k d × NamesWith w s (k + 1) × NamesWith u t j × (t < 2) × HasMade old (xs ++ step_on old c w w ∷ step_on old d u u ∷ []) new
+
+-- behind such a walk it found the entry in this slot, if there is a slot and it has a link
+abbrev pub HasFoundNextIn : {T : Type 0} → Local T → Links T → ℕ → Option ℕ → Local T → Type 0
+HasFoundNextIn old links cell slot new = IfSome slot (λ k. k < links_count links → HasFoundNext old links cell k new)
 
 -- behind such a walk it found nothing more; or the walk was this long
 abbrev pub HasFoundNone : {T : Type 0} → Local T → Links T → ℕ → Local T → Type 0

@@ -3,16 +3,16 @@
 //! An entry is an item with the link of its slot: the link owns what follows the item, and its tag says whether the entry is
 //! clear (`None`), marked (`First`) or deleted (`Second`, `Both`). A deleted entry stays where it is; walks pass over it.
 
-ghost use Rattle.std.specs.Prelude.{◌≡◌, ◌≢◌, ◌<◌, ◌≤◌, ◌⊎◌, ◌↔◌, ◌^◌, ℕ, [], Some, IsTrue, IsFalse, IfOk, IfErr, IfNone, IfSome, OnErr};
+ghost use Rattle.std.specs.Prelude.{◌≡◌, ◌≢◌, ◌<◌, ◌≤◌, ◌↔◌, ℕ, [], Some, IsTrue, IsFalse, IfOk, IfErr, IfNone, IfSome, OnErr};
 ghost use Rattle.sdd_plain.specs.Epochs.{tag_number};
-ghost use Rattle.sdd_domain.specs.CellSteps.{HasReadCell, HasRetagged, HasFoundLast, HasReadOften};
+ghost use Rattle.sdd_domain.specs.CellSteps.{HasReadCell, HasRetagged};
 ghost use Rattle.sdd_domain.specs.Cells.{cell_number};
-ghost use Rattle.sdd_domain.specs.Comparing.{owner_code, owner_slot};
+ghost use Rattle.sdd_domain.specs.Comparing.{owner_slot};
 ghost use Rattle.sdd_domain.specs.Pointers.{ptr_slot, ptr_tag, ptr_item};
 ghost use Rattle.sdd_domain.specs.Sharing.{kept_in, IsOwnerOf};
 ghost use Rattle.sdd_domain.specs.Tokens.{place_of, home_of, hand_of, cell_count};
-ghost use Rattle.shared_lists.specs.Entries.{entry_cell, entry_item, entry_slot, links_of, mark_number, IsEntryOf, IsLentAs, HasBegun, HasPushed, HasPushedBehind, HasTried, IsRefusedFor, HasFoundNext, HasFoundNone};
-ghost use Rattle.shared_lists.specs.Lists.{AreLinksOf, IsLinkOf, IsAsBefore, IsOpenIn, IsStill, links_count};
+ghost use Rattle.shared_lists.specs.Entries.{entry_cell, entry_item, entry_slot, links_of, mark_number, IsEntryOf, IsLentAs, HasBegun, HasPushedBehind, HasTried, IsRefusedFor, HasFoundNone, HasFoundNextIn, HasFoundTag, PointsTo};
+ghost use Rattle.shared_lists.specs.Lists.{AreLinksOf, IsAsBefore, IsOpenIn, IsStill};
 
 use crate::links::Links;
 use crate::moves::{TRIES, follow, let_go};
@@ -148,7 +148,7 @@ impl<'g, T: Holds> LinkedEntry<'g, T> {
         requires open { IsOpenIn guard.now local.old domain.now }
         requires entry { IsEntryOf self.now domain.now }
         ensures set { IsTrue result → (k : ℕ) × HasRetagged local.old (entry_cell self.now) 0 k 1 local.new }
-        ensures kept { IsFalse result → ((t : ℕ) × (k : ℕ) × (t ≢ 0) × HasFoundLast local.old (entry_cell self.now) t k local.new) ⊎ HasReadOften local.old (entry_cell self.now) (2 ^ 64) local.new }
+        ensures kept { IsFalse result → HasFoundTag local.old (entry_cell self.now) (λ t. t ≢ 0) local.new }
         ensures same { IsStill local.old local.new }
     {
         self.link.update_tag_if(
@@ -167,7 +167,7 @@ impl<'g, T: Holds> LinkedEntry<'g, T> {
         requires open { IsOpenIn guard.now local.old domain.now }
         requires entry { IsEntryOf self.now domain.now }
         ensures set { IsTrue result → (k : ℕ) × HasRetagged local.old (entry_cell self.now) 1 k 0 local.new }
-        ensures kept { IsFalse result → ((t : ℕ) × (k : ℕ) × (t ≢ 1) × HasFoundLast local.old (entry_cell self.now) t k local.new) ⊎ HasReadOften local.old (entry_cell self.now) (2 ^ 64) local.new }
+        ensures kept { IsFalse result → HasFoundTag local.old (entry_cell self.now) (λ t. t ≢ 1) local.new }
         ensures same { IsStill local.old local.new }
     {
         self.link.update_tag_if(
@@ -186,7 +186,7 @@ impl<'g, T: Holds> LinkedEntry<'g, T> {
         requires open { IsOpenIn guard.now local.old domain.now }
         requires entry { IsEntryOf self.now domain.now }
         ensures set { IsTrue result → (t : ℕ) × (k : ℕ) × (t < 2) × HasRetagged local.old (entry_cell self.now) t k 2 local.new }
-        ensures kept { IsFalse result → ((t : ℕ) × (k : ℕ) × (2 ≤ t) × HasFoundLast local.old (entry_cell self.now) t k local.new) ⊎ HasReadOften local.old (entry_cell self.now) (2 ^ 64) local.new }
+        ensures kept { IsFalse result → HasFoundTag local.old (entry_cell self.now) (λ t. 2 ≤ t) local.new }
         ensures same { IsStill local.old local.new }
     {
         self.link.update_tag_if(
@@ -216,7 +216,7 @@ impl<'g, T: Holds> LinkedEntry<'g, T> {
         requires this { IsEntryOf self.now domain.now }
         requires mine { kept_in entry ≡ (place_of domain.now).0 }
         ensures pushed { IfOk result (λ p. HasPushedBehind local.old self.now (mark_number mark) entry local.new) }
-        ensures entry { IfOk result (λ p. (ptr_slot p ≡ owner_slot (Some entry)) × (tag_number (ptr_tag p) ≡ mark_number mark) × ((x : T) → IsOwnerOf entry x → ptr_item p ≡ Some x)) }
+        ensures entry { IfOk result (λ p. PointsTo p entry (mark_number mark)) }
         ensures back { IfErr result (λ s. IsLentAs s entry) }
         ensures refused { OnErr result (IsRefusedFor local.old self.now entry local.new) }
         ensures same { IsStill local.old local.new }
@@ -289,7 +289,7 @@ impl<'g, T: Holds> LinkedEntry<'g, T> {
     ) -> Ptr<'h, T>
         requires open { IsOpenIn guard.now local.old domain.now }
         requires entry { IsEntryOf self.now domain.now }
-        ensures found { IfSome (ptr_slot result) (λ k. k < links_count (links_of self.now) → HasFoundNext local.old (links_of self.now) (entry_cell self.now) k local.new) }
+        ensures found { HasFoundNextIn local.old (links_of self.now) (entry_cell self.now) (ptr_slot result) local.new }
         ensures none { IfNone (ptr_slot result) (HasFoundNone local.old (links_of self.now) (entry_cell self.now) local.new) }
         ensures bare { ptr_tag result ≡ Tag.None }
         ensures same { IsStill local.old local.new }
@@ -321,7 +321,7 @@ impl<'g, T: Holds> LinkedEntry<'g, T> {
         requires open { IsOpenIn guard.now local.old domain.now }
         requires entry { IsEntryOf self.now domain.now }
         ensures home { IfSome result (λ s. kept_in s ≡ (place_of domain.now).0) }
-        ensures found { IfSome result (λ s. IfSome (owner_slot (Some s)) (λ k. k < links_count (links_of self.now) → HasFoundNext local.old (links_of self.now) (entry_cell self.now) k local.new)) }
+        ensures found { IfSome result (λ s. HasFoundNextIn local.old (links_of self.now) (entry_cell self.now) (owner_slot (Some s)) local.new) }
         ensures same { IsStill local.old local.new }
     {
         self.next_ptr(domain, guard, local)

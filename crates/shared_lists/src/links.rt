@@ -1,6 +1,6 @@
 //! What follows each item of a place in the list that it is in.
 
-ghost use Rattle.std.specs.Prelude.{◌≡◌, ◌<◌, ◌≤◌, ℕ, All, IfOk, IfNone, IfSome};
+ghost use Rattle.std.specs.Prelude.{◌≡◌, ◌<◌, ◌≤◌, All, IfOk, IfNone, IfSome};
 ghost use Rattle.sdd_domain.specs.Cells.{cell_number};
 
 use crate::refusal::NotMade;
@@ -24,6 +24,7 @@ impl<T: Holds> Links<T> {
     ghost use Rattle.sdd_domain.specs.Comparing.{code_of};
     ghost use Rattle.sdd_domain.specs.Pointers.{ptr_slot, ptr_tag};
     ghost use Rattle.sdd_domain.specs.Tokens.{place_of, home_of, slot_count};
+    ghost use Rattle.shared_lists.specs.Entries.{HasReadLink};
     ghost use Rattle.shared_lists.specs.Lists.{AreLinksOf, IsLinkOf, cells_around, links_count, IsAsBefore, IsOpenIn, IsStill};
 
     /// Links for the slots of a place. It takes as many cells as the place has slots, and memory for their names.
@@ -65,7 +66,7 @@ impl<T: Holds> Links<T> {
     ) -> Ptr<'g, T>
         requires open { IsOpenIn guard.now local.old domain.now }
         requires links { AreLinksOf self.now domain.now }
-        ensures looked { IfSome (ptr_slot item.entry) (λ i. i < links_count self.now → (cell : ℕ) × IsLinkOf self.now i cell × HasReadCell local.old cell (tag_number (ptr_tag result)) (code_of (ptr_slot result)) local.new) }
+        ensures looked { IfSome (ptr_slot item.entry) (λ slot. HasReadLink local.old self.now slot result local.new) }
         ensures same { IsStill local.old local.new }
     {
         let Some(link) = self.of_item(item) else {

@@ -1,6 +1,6 @@
 //! What the tag of a link says of its entry.
 
-ghost use Rattle.std.specs.Prelude.{◌≡◌, ◌<◌, ◌≤◌, ◌↔◌, IsTrue};
+ghost use Rattle.std.specs.Prelude.{◌≡◌, ◌≤◌, ◌↔◌, IsTrue};
 ghost use Rattle.sdd_plain.specs.Epochs.{tag_number};
 ghost use Rattle.shared_lists.specs.Entries.{mark_number};
 

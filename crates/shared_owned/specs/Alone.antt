@@ -1,9 +1,10 @@
 -- what owners that are alone, their cells and pointers show to clauses
-use Rattle.std.specs.Prelude.{◌≡◌, ℕ, ◌<◌, Option, None, Some}
+use Rattle.std.specs.Prelude.{◌≡◌, ◌⊎◌, ℕ, ◌<◌, ◌^◌, Option, None, Some}
 use Rattle.atomic_table.specs.Seated.{TableId}
 use Rattle.sdd_plain.specs.declared.tag.Tag.{Tag}
 use Rattle.sdd_domain.specs.Cells.{cell_number}
-use Rattle.sdd_domain.specs.Comparing.{owner_code, owner_slot, IsBack}
+use Rattle.sdd_domain.specs.CellSteps.{HasReadOften}
+use Rattle.sdd_domain.specs.Comparing.{owner_code, owner_slot, HasFoundPtrLast, IsBack}
 use Rattle.sdd_domain.specs.Pointers.{ptr_slot, ptr_tag, ptr_item}
 use Rattle.sdd_domain.specs.Sharing.{kept_in, IsOwnerOf}
 use Rattle.sdd_domain.specs.Tokens.{cell_count, own_of, IsInNestButMisses}
@@ -64,3 +65,7 @@ IsCellOf c d = cell_number c.cell < cell_count d
 -- the same participant of the same place, with the same guards open and the same owners in hand; its misses may differ
 abbrev pub IsAsBefore : {T : Type 0} → Local T → Local T → Type 0
 IsAsBefore old new = IsInNestButMisses old new × ((own_of new).nesting ≡ (own_of old).nesting)
+
+-- it found a pointer last of which this holds, or read the cell 2^64 times
+abbrev pub HasKeptTag : {T : Type 0} → Local T → ℕ → (OwnedPtr T → Type 0) → Local T → Type 0
+HasKeptTag {T} old cell Is new = ((r : OwnedPtr T) × Is r × HasFoundPtrLast old cell r.of new) ⊎ HasReadOften old cell (2 ^ 64) new

@@ -1,6 +1,6 @@
 //! Cells of owners that are alone.
 
-ghost use Rattle.std.specs.Prelude.{◌≡◌, ◌<◌, ◌+◌, ◌⊎◌, ◌↔◌, ◌^◌, ℕ, Bool, true, false, [], Some, IsTrue, IsFalse, IfSome, IfOk, IfErr, OnOk, OnErr};
+ghost use Rattle.std.specs.Prelude.{◌≡◌, ◌<◌, ◌+◌, ◌↔◌, ℕ, Bool, true, false, [], Some, IsTrue, IsFalse, IfSome, IfOk, IfErr, OnOk, OnErr};
 ghost use Rattle.shared_owned.specs.Alone.{owner_in};
 
 use crate::owned::Owned;
@@ -47,7 +47,7 @@ impl<T: Holds> AtomicOwned<T> {
     ghost use Rattle.sdd_domain.specs.Comparing.{code_of, HasFoundPtrLast, HasSwappedCell, HasTagged};
     ghost use Rattle.sdd_domain.specs.Pointers.{named_slot, named_tag};
     ghost use Rattle.sdd_domain.specs.Tokens.{place_of, home_of, number_of, own_of, hand_of, born_of, misses_of, nest_of, nest_in, IsInNestButMisses, IsInNestButGarbage, IsUnchanged, IsUnchangedButMisses};
-    ghost use Rattle.shared_owned.specs.Alone.{IsCellOf, cell_of, place_in, sole_slot, sole_code, IsSoleBack, pointer_slot, pointer_tag};
+    ghost use Rattle.shared_owned.specs.Alone.{IsCellOf, HasKeptTag, cell_of, place_in, sole_slot, sole_code, IsSoleBack, pointer_slot, pointer_tag};
     ghost use Rattle.shared_owned.specs.declared.pointer.OwnedPtr.{OwnedPtr};
 
     /// Claims a free cell of the place, trying each once: it owns nothing and has no tag. `NoSlot` if all are taken, which is
@@ -255,7 +255,7 @@ impl<T: Holds> AtomicOwned<T> {
         ensures asked { (r : OwnedPtr T) × (b : Bool) × F.post f r b × (IsTrue result → IsTrue b) }
         ensures same { IsUnchanged local.old local.new }
         ensures set { IsTrue result → (r : OwnedPtr T) × F.post f r true × HasTagged local.old (cell_of self.now) r.of tag local.new }
-        ensures kept { IsFalse result → ((r : OwnedPtr T) × F.post f r false × HasFoundPtrLast local.old (cell_of self.now) r.of local.new) ⊎ HasReadOften local.old (cell_of self.now) (2 ^ 64) local.new }
+        ensures kept { IsFalse result → HasKeptTag local.old (cell_of self.now) (λ r. F.post f r false) local.new }
     {
         let ask = |of|
             requires { F.IsAlwaysCallable f }

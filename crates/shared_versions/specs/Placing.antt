@@ -14,6 +14,8 @@ use Rattle.shared_versions.specs.Drafts.{Plan, blocks_planned, nothing}
 use Rattle.shared_versions.specs.Nodes.{IsSegment, segment_pairs}
 use Rattle.shared_versions.specs.Readers.{HasWidth, version_in}
 use Rattle.shared_versions.specs.Sight.{Sight}
+use Rattle.shared_versions.specs.Units.{blocks_of_units}
+use Rattle.shared_versions.specs.declared.units.One.{One}
 use Rattle.shared_versions.specs.declared.keeping.ToKeep.{ToKeep}
 use Rattle.shared_versions.specs.declared.keeping.ToKeep.TheVariants as to_keep
 use Rattle.shared_versions.specs.declared.node.Node.{Node}
@@ -102,6 +104,10 @@ module _ {K V : Type 0} where
   -- the segments to be kept, which come from the last one on, have these pairs
   abbrev pub KeepPairs : (ℕ → List (K × V)) → List (ToKeep K V) → List (List (K × V)) → Type 0
   KeepPairs named all blocks = reverse (map (pairs_to_keep named) all) ≡ blocks
+
+  -- they have the pairs of these units
+  abbrev pub KeepUnits : (ℕ → List (K × V)) → List (ToKeep K V) → List (One K V) → Type 0
+  KeepUnits named all units = KeepPairs named all (blocks_of_units named units)
 
   -- the place that it is moved from
   abbrev pub moved_from : ToKeep K V → Option ℕ

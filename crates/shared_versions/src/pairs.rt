@@ -8,7 +8,7 @@ ghost use Rattle.sdd_domain.specs.Tokens.{place_of, home_of, hand_of, misses_of}
 ghost use Rattle.version_drafts.specs.Parts.{LiesWithin};
 ghost use Rattle.shared_versions.specs.Units.{IsWithinVersion, blocks_of_units, taken_from, unit_pairs, units_of};
 ghost use Rattle.shared_versions.specs.Nodes.{OwnsSegment, owned_pairs};
-ghost use Rattle.shared_versions.specs.Placing.{IsKeptSegment, IsSegmentOf, KeepPairs, IsStill, IsStillButMisses, IsToKeep, moved_from, pairs_kept, pairs_kept_at, pairs_owned, pairs_to_keep};
+ghost use Rattle.shared_versions.specs.Placing.{IsKeptSegment, IsSegmentOf, KeepUnits, IsStill, IsStillButMisses, IsToKeep, moved_from, pairs_kept, pairs_kept_at, pairs_owned, pairs_to_keep};
 
 use crate::keeping::{ToKeep, release_new};
 use crate::kept::{WriterOwner, clone_at};
@@ -106,7 +106,7 @@ pub(crate) fn all_owners<K: Ord + Drop, V: Drop>(
     ensures owners { IfSome result (λ all. All (IsSegmentOf (place_of domain.now).0) all.0.items) }
     ensures to_keep { IfSome result (λ all. All (IsToKeep (place_of domain.now).0 (length kept.old.items)) all.1.items) }
     ensures pairs { IfSome result (λ all. reverse (map pairs_owned all.0.items) ≡ blocks_of_units (pairs_kept_at kept.old.items) (units_of parts.items)) }
-    ensures same_pairs { IfSome result (λ all. KeepPairs (pairs_kept_at kept.old.items) all.1.items (blocks_of_units (pairs_kept_at kept.old.items) (units_of parts.items))) }
+    ensures same_pairs { IfSome result (λ all. KeepUnits (pairs_kept_at kept.old.items) all.1.items (units_of parts.items)) }
     ensures from { IfSome result (λ all. reverse (map moved_from all.1.items) ≡ map taken_from (units_of parts.items)) }
     ensures kept { All (IsKeptSegment (place_of domain.now).0) kept.new.items }
     ensures still { map pairs_kept kept.new.items ≡ map pairs_kept kept.old.items }

@@ -1,5 +1,5 @@
 -- A list that grows behind its greatest key.
-use Rattle.std.proofs.Common.{◌≡◌, ℕ, zero, suc, ◌+◌, ◌-◌, ◌≤◌, ◌<◌, true, false, List, [], ◌∷◌, ◌++◌, append_assoc, append-nil, drop, length, take, Option, Some, None, refl, sym, ap, ◌∙◌, subst, arith}
+use Rattle.std.proofs.Common.{◌≡◌, ℕ, zero, suc, ◌+◌, ◌-◌, ◌≤◌, ◌<◌, true, false, List, [], ◌∷◌, ◌++◌, append_assoc, drop, length, take, Option, Some, None, refl, sym, ap, ◌∙◌, subst, arith}
 use Rattle.std.proofs.Math.Seq.{take-add}
 use Rattle.std.proofs.lemmas.List.{drop-drop}
 use Rattle.std.specs.Prelude.{slice_get}
@@ -16,7 +16,7 @@ use Rattle.tree_nodes.specs.declared.walk.Position.{Position}
 use Rattle.tree_nodes.specs.Shape.{AllKeys}
 use Rattle.tree_nodes.specs.Content.{pairs_of, IsSound}
 use Rattle.tree_nodes.specs.Copy.{place, IsExtended, IsPositionOrEnd}
-use Rattle.tree_nodes.specs.Depth.{IsAbove, ascending_headroom}
+use Rattle.tree_nodes.specs.Depth.{ascending_headroom}
 use Rattle.tree_nodes.specs.Walk.{position, IsPosition}
 use Rattle.tree_nodes.proofs.SpotLemmas.{spot_pair}
 use Rattle.tree_nodes.proofs.ShapeLemmas.{turned, all_weaken}
@@ -55,12 +55,6 @@ module _ {X : Type 0} where
   take_behind [] ys k j e = let same : k ≡ j = omega (arith, e) in ap (λ (n : ℕ). take n ys) same
   take_behind (x ∷ xs) ys zero j e = absurd (omega (arith, e))
   take_behind (x ∷ xs) ys (suc k) j e = ap (λ zs. x ∷ zs) (take_behind xs ys k j (omega (arith, e)))
-
-  take_taken : (j n : ℕ) (ys : List X) → j ≤ n → take j (take n ys) ≡ take j ys
-  take_taken zero n ys h = refl
-  take_taken (suc j) zero ys h = absurd (omega (arith, h))
-  take_taken (suc j) (suc n) [] h = refl
-  take_taken (suc j) (suc n) (y ∷ ys) h = ap (λ zs. y ∷ zs) (take_taken j n ys (omega (arith, h)))
 
   pub slice_taken : (j n : ℕ) (ys : List X) → j < n → slice_get (take n ys) j ≡ slice_get ys j
   slice_taken j zero ys h = absurd (omega (arith, h))
@@ -125,39 +119,3 @@ module _ {K V : Type 0} {cmp : K → K → Ordering} (o : IsTotalOrder cmp) (a :
 
     here : slice_get whole done ≡ Some p
     here = slice_dropped start (place a r) done (pairs_of a) (let x = e.from in omega (arith, x)) ∙ (ap (slice_get (pairs_of a)) stands ∙ ((spot_pair cmp a s spot is_spot).0 ∙ there))
-
-    -- the next pair of the source is above all of the tree
-    pub next_above : IsAbove cmp p.0 (pairs_of b)
-    next_above =
-        let less : done < count = (let x = e.from in let y = e.upto in omega (arith, x, y, some)) in
-        let front : take (length base + done) (base ++ take count whole) ≡ pairs_of b = take_behind base (take count whole) (length base + done) done refl ∙ (ap (λ ps. base ++ ps) (take_taken done count whole (omega (arith, less))) ∙ sym e.pairs) in
-        subst (IsAbove cmp p.0) front (front_less o (length base + done) (base ++ take count whole) p up (slice_behind base (take count whole) (length base + done) done refl ∙ (slice_taken done count whole less ∙ here)))
-
-    -- once it is behind them, the tree reaches one place further
-    pub next_extended : (c : Arenas K V) (q : Option (Position K V)) (rest : ℕ) → IsSound cmp c → IsPositionOrEnd a q → pairs_of c ≡ pairs_of b ++ p ∷ [] → place a q ≡ position a spot + 1 → rest + 1 ≡ left → ascending_headroom cmp b ≤ ascending_headroom cmp c + 1 → IsExtended cmp a base start count room c q rest
-    next_extended c q rest sound is more next fewer places' =
-        let x = e.from in
-        let y = e.upto in
-        let z = e.places in
-        let step : place a q - start ≡ done + 1 = omega (arith, next, stands, x) in
-        record {
-          sound = sound;
-          spot = is;
-          from = omega (arith, next, stands, x);
-          upto = omega (arith, next, stands, y, fewer);
-          pairs = more ∙ (ap (λ ps. ps ++ p ∷ []) e.pairs ∙ (append_assoc base (take done whole) (p ∷ []) ∙ (ap (λ ps. base ++ ps) (sym (take_next o done whole p here)) ∙ sym (ap (λ (m : ℕ). base ++ take m whole) step))));
-          places = omega (arith, z, places', step);
-        }
-
--- nothing was done yet
-pub unextended : {K V : Type 0} (cmp : K → K → Ordering) (a : Arenas K V) (b : Arenas K V) (r : Option (Position K V)) (count : ℕ) → IsSound cmp b → IsPositionOrEnd a r → IsExtended cmp a (pairs_of b) (place a r) count (ascending_headroom cmp b) b r count
-unextended cmp a b r count sound spot =
-    let none : place a r - place a r ≡ 0 = omega arith in
-    record {
-      sound = sound;
-      spot = spot;
-      from = omega arith;
-      upto = omega arith;
-      pairs = sym (ap (λ (n : ℕ). pairs_of b ++ take n (drop (place a r) (pairs_of a))) none ∙ append-nil (pairs_of b));
-      places = omega (arith, none);
-    }

@@ -1,5 +1,5 @@
 -- Pairs behind all others go to the last leaf.
-use Rattle.std.proofs.Common.{◌≡◌, ◌≢◌, ◌≤◌, ◌<◌, ℕ, ◌+◌, ◌-◌, ◌^◌, Bool, true, false, List, [], ◌∷◌, ◌++◌, append_assoc, append-nil, drop, length, take, Option, Some, refl, sym, ap, ◌∙◌, subst, arith}
+use Rattle.std.proofs.Common.{◌≡◌, ◌≢◌, ◌≤◌, ◌<◌, ℕ, ◌+◌, ◌-◌, Bool, true, false, List, [], ◌∷◌, ◌++◌, append_assoc, append-nil, drop, length, take, Option, Some, refl, sym, ap, ◌∙◌, subst, arith}
 use Rattle.std.proofs.Math.Seq.{take-add}
 use Rattle.std.proofs.lemmas.List.{length-append, length-drop, length-take}
 use Rattle.std.specs.declared.cmp.Ordering.{Ordering}
@@ -93,12 +93,6 @@ living_of false xs h some = refl
 
 pub run_length : {X : Type 0} (from count : ℕ) (xs : List X) → from + count ≤ length xs → length (take count (drop from xs)) ≡ count
 run_length from count xs h = simp (length-take, length-drop) (omega (arith, h))
-
--- the last leaf, which has room, takes so many as it has places for
-pub takes_few : {K V : Type 0} (a : Arenas K V) (n : ℕ) (h : LastLeafHasRoom a n) (l : Leaf K V) (here : get a.leaves n ≡ Some l) (room : ℕ) → (0 < room → l.array.used ≡ length l.array.pairs) → l.array.used + room ≤ 15 → a.len + room < 2 ^ 64 → LastLeafTakes a n room
-takes_few a n h l here room packed most countable =
-    let same = some_same (sym h.there ∙ here) in
-    record { own = h.own; fore = h.fore; last = h.last; leaf = l; there = here; some = subst (λ (x : Leaf _ _). 0 < length x.array.pairs) same h.some; packed = packed; most = most; countable = countable }
 
 -- the last leaf, which has room, as the leaf that was found
 abbrev pub found_open : {K V : Type 0} (a : Arenas K V) (n : ℕ) (h : LastLeafHasRoom a n) (l : Leaf K V) → get a.leaves n ≡ Some l → LastLeafHasRoom a n

@@ -1,22 +1,21 @@
 -- What stands on the way to a key in the arenas of a planted tree.
-use Rattle.std.proofs.Common.{◌≡◌, ◌≢◌, ◌≤◌, ◌<◌, ◌⊎◌, inl, inr, ℕ, suc, ◌-◌, ◌==◌, Option, Some, None, true, false, cond, List, refl, sym, ap, ◌∙◌, subst, arith}
+use Rattle.std.proofs.Common.{◌≡◌, ◌≢◌, ◌≤◌, ◌<◌, ◌⊎◌, inl, inr, ℕ, suc, ◌-◌, Option, Some, None, cond, List, refl, sym, ap, ◌∙◌, subst, arith}
 use Rattle.std.specs.Option.{option_map}
 use Rattle.std.specs.declared.cmp.Ordering.{Ordering}
 use Rattle.std.specs.Cmp.{IsTotalOrder}
-use Rattle.slab.specs.Slab.{Slab, get, with_value, Updates, slab_len}
-use Rattle.slab.proofs.SlabLemmas.{Updates-with_value, ContainsKey-within}
+use Rattle.slab.specs.Slab.{Slab, get, with_value, slab_len}
+use Rattle.slab.proofs.SlabLemmas.{ContainsKey-within}
 use Rattle.std.proofs.lemmas.List.Sums.{sum_by-set}
 use Rattle.std.specs.Option.{is_some}
-use Rattle.std.proofs.lemmas.Bool.Decides.{eqb_tells}
 use Rattle.leaf_array.specs.Cells.{Cells}
 use Rattle.tree_nodes.specs.declared.leaf.Leaf.{Leaf}
 use Rattle.tree_nodes.specs.declared.node.InnerNode.{InnerNode}
 use Rattle.tree_nodes.specs.declared.arenas.Arenas.{Arenas}
 use Rattle.tree_nodes.specs.Shape.{way, child_for, IsNode, IsTree, Stands}
-use Rattle.tree_nodes.specs.Content.{content_of, pairs_of, IsLeafFull, HasNoTree, IsSound, AreSameArrays}
+use Rattle.tree_nodes.specs.Content.{content_of, pairs_of, IsLeafFull, HasNoTree, IsSound}
 use Rattle.tree_nodes.specs.Depth.{ascending_headroom}
 use Rattle.tree_nodes.proofs.FocusLemmas.{over, over_is, focus}
-use Rattle.tree_nodes.proofs.WayLemmas.{IsStep, some_same, leaf_there, leaf_thawed, step_down}
+use Rattle.tree_nodes.proofs.WayLemmas.{IsStep, some_same, leaf_there, step_down}
 
 module _ {K V : Type 0} (cmp : K → K → Ordering) (o : IsTotalOrder cmp) (key : K) (a : Arenas K V) where
   pub planted : IsSound cmp a → a.height ≢ 0 → Stands cmp (content_of a) a.height a.root
@@ -46,9 +45,6 @@ module _ {K V : Type 0} (cmp : K → K → Ordering) (o : IsTotalOrder cmp) (key
       let none : (content_of a).leaf n ≡ None = leaf_content n None e in
       let x : None ≡ Some t.0 = sym none ∙ ap (content_of a).leaf on ∙ t.1 in
       cc
-
-  pub leaf_open : IsSound cmp a → a.height ≢ 0 → (n : ℕ) → n ≡ way cmp (content_of a) key a.height a.root → (l : Leaf K V) → get a.leaves n ≡ Some l → l.array.frozen ≡ false
-  leaf_open s h n on l here = leaf_thawed cmp o key (content_of a) a.height a.root l.array (planted s h).tree (ap (content_of a).leaf (sym on) ∙ leaf_content n (Some l) here)
 
   -- the node at a height
   module _ (s : IsSound cmp a) (left : ℕ) (least : 0 < left) (most : left ≤ a.height) where
@@ -89,20 +85,6 @@ module _ {K V : Type 0} (cmp : K → K → Ordering) (a : Arenas K V) (height at
   -- and a tree under it, on the way to a key
   pub tree_step : (key : K) (steps : ℕ) (node : InnerNode K) → get a.nodes at ≡ Some node → IsStep cmp key (content_of a) (height - 1) steps at (child_for cmp key node.children.pairs node.last)
   tree_step key steps node here = step_down cmp key (content_of a) (height - 1) steps at (node.children, node.last) more.0 more.1 more.2 (ap (option_map (λ (n : InnerNode K). (n.children, n.last))) here)
-
--- other links leave the arrays
-pub same_arrays : {K V : Type 0} (s : Slab (Leaf K V)) (k : ℕ) (l m : Leaf K V) → get s k ≡ Some l → m.array ≡ l.array → AreSameArrays s (with_value s k m)
-same_arrays {K} {V} s k l m here same n = split (eqb_tells n k)
-  where
-    array : Option (Leaf K V) → Option (Cells K V)
-    array = option_map (λ (l : Leaf K V). l.array)
-
-    u : Updates s (with_value s k m) k (Some m)
-    u = Updates-with_value s k m (rw here refl)
-
-    split : ((n == k) ≡ true × (n ≡ k)) ⊎ ((n == k) ≡ false × (n ≢ k)) → array (get (with_value s k m) n) ≡ array (get s n)
-    split (inl e) = ap (λ (j : ℕ). array (get (with_value s k m) j)) e.1 ∙ ap array u.changed ∙ ap Some same ∙ ap array (sym here) ∙ ap (λ (j : ℕ). array (get s j)) (sym e.1)
-    split (inr e) = ap array (u.others n e.1)
 
 -- a write through a slab leaves as many values
 pub same_len : {T : Type 0} (s : Slab T) (k : ℕ) (old new : T) → get s k ≡ Some old → slab_len (with_value s k new) ≡ slab_len s

@@ -5,7 +5,6 @@ use Rattle.std.specs.declared.cmp.Ordering.TheVariants.{Less, Greater}
 use Rattle.std.specs.Ordering.{is_lt}
 use Rattle.std.specs.Cmp.{IsTotalOrder}
 use Rattle.std.proofs.lemmas.Bool.Decides.{eqb_tells}
-use Rattle.std.proofs.lemmas.List.{length-append}
 use Rattle.leaf_array.specs.Cells.{lesser}
 use Rattle.tree_nodes.specs.declared.arenas.Arenas.{Arenas}
 use Rattle.tree_nodes.specs.Shape.{AllKeys, joined_over}
@@ -65,6 +64,3 @@ module _ {K V : Type 0} (cmp : K → K → Ordering) (o : IsTotalOrder cmp) (key
   open_above =
       subst (AllKeys (λ k. cmp k key ≡ Less)) (held_is a n open_.leaf open_.there)
       (leaf_keys (λ k. cmp k key ≡ Less) (pairs_in_leaf a) n (leaves_of a) open_.own.1 (subst (AllKeys (λ k. cmp k key ≡ Less)) (all_held a) above))
-
-pub longer_by_one : {X : Type 0} (old new : List X) (x : X) → new ≡ old ++ x ∷ [] → length new ≡ length old + 1
-longer_by_one old new x e = ap length e ∙ simp length-append refl

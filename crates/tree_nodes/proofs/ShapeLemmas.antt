@@ -90,9 +90,6 @@ module _ {K V : Type 0} where
     pub leaf : (n : ℕ) → leaves n ≢ 0 → b.leaf n ≡ a.leaf n
     pub node : (n : ℕ) → nodes n ≢ 0 → b.node n ≡ a.node n
 
-  pub agrees_less : (a b : ArenaContent K V) (leaves nodes fewer few : ℕ → ℕ) → ((n : ℕ) → fewer n ≢ 0 → leaves n ≢ 0) → ((n : ℕ) → few n ≢ 0 → nodes n ≢ 0) → Agrees a b leaves nodes → Agrees a b fewer few
-  agrees_less a b leaves nodes fewer few f h s = record { leaf = λ n e. s.leaf n (f n e); node = λ n e. s.node n (h n e) }
-
 module _ {K V : Type 0} {cmp : K → K → Ordering} (o : IsTotalOrder cmp) (a : ArenaContent K V) where
   pub bounded_along : (f : ℕ → List (K × V)) (P : ℕ → Option K → Option K → Type 0) → ((at : ℕ) (low high : Option K) → P at low high → AllKeys (IsWithin cmp low high) (f at)) → (es : List (K × ℕ)) (last : ℕ) (low high : Option K) → AreBetween cmp P es last low high → AllKeys (IsWithin cmp low high) (joined_along f es last)
   bounded_along f P each [] last low high b = each last low high b

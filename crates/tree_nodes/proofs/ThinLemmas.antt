@@ -165,9 +165,6 @@ module _ {K V : Type 0} {cmp : K → K → Ordering} {test : K → Bool} {a : Ar
       ∙ sym (filter-append q (joined_over (pairs_in_leaf a) t.fore) (pairs_in_leaf a n ++ joined_over (pairs_in_leaf a) t.rear))
       ∙ sym (ap (filter q) whole_pairs)
 
-  pub thin_counted : length l.array.pairs ≤ a.len
-  thin_counted = subst (λ (ps : List (K × V)). length ps ≤ a.len) (held_is a n l t.here) (middle_length (joined_over (pairs_in_leaf a) t.fore) (pairs_in_leaf a n) (pairs_in_leaf a n) (joined_over (pairs_in_leaf a) t.rear) a.len (t.sound.count ∙ ap length whole_pairs)).0
-
   pub thin_sound : (before after : ℕ) → before ≡ length l.array.pairs → after ≡ length m.array.pairs → IsSound cmp (with_leaf a n m (a.len - before + after))
   thin_sound before after b f =
       let len : ℕ = a.len - before + after in

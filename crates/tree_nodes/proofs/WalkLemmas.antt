@@ -16,7 +16,7 @@ use Rattle.tree_nodes.specs.Bounds.{before_start}
 use Rattle.tree_nodes.specs.Walk.{pairs_before, rest, pairs_in_leaf, starts_at, ends_at, IsOwnLeaf}
 use Rattle.tree_nodes.proofs.ShapeLemmas.{held_under}
 use Rattle.tree_nodes.proofs.ChainLemmas.{times_counted, times_append, first_times}
-use Rattle.tree_nodes.proofs.RowLemmas.{Own, starts, ends, reach, neighbours, parting, joined_over_parted, before_parted, linked_there, last_or, last_joined, first_own, last_own}
+use Rattle.tree_nodes.proofs.RowLemmas.{Own, starts, ends, reach, neighbours, parting, joined_over_parted, before_parted, linked_there, last_or, last_joined, last_own}
 use Rattle.tree_nodes.proofs.WayLemmas.{some_same, around}
 use Rattle.tree_nodes.proofs.NodeLemmas.{leaf_content}
 use Rattle.tree_nodes.proofs.InsertionPointLemmas.{bound_at, bound_middle}
@@ -154,9 +154,6 @@ leaf_counted cmp a s n own l here =
 
 -- where the first and the last leaf of a sound tree stand
 module _ {K V : Type 0} (cmp : K → K → Ordering) (a : Arenas K V) (s : IsSound cmp a) (h : a.height ≢ 0) (n : ℕ) where
-  pub first_is_own : first_or None (leaves_of a) ≡ Some n → IsOwnLeaf a (Some n) × (starts_at a (Some n) ≡ 0)
-  first_is_own e = let r = first_own (pairs_in_leaf a) (leaves_of a) n e in ((h, r.0), r.1)
-
   pub last_is_own : last_or None (leaves_of a) ≡ Some n → IsOwnLeaf a (Some n) × (ends_at a (Some n) ≡ length (pairs_of a))
   last_is_own e = let r = last_own (pairs_in_leaf a) (leaves_of a) n (once cmp a s h n) e in ((h, r.0), r.1 ∙ sym (ap length (all_held a)))
 

@@ -26,3 +26,7 @@ module _ {K V : Type 0} where
     pub upto : place source next + left ≡ start + count
     pub pairs : pairs_of tree ≡ base ++ take (place source next - start) (drop start (pairs_of source))
     pub places : room ≤ ascending_headroom cmp tree + (place source next - start)
+
+  -- one tree is another, and behind its pairs those of a source from one place on
+  abbrev pub Extends : (K → K → Ordering) → Arenas K V → Option (Position K V) → ℕ → Arenas K V → Arenas K V → Option (Position K V) → ℕ → Type 0
+  Extends cmp source from count before after next left = IsExtended cmp source (pairs_of before) (place source from) count (ascending_headroom cmp before) after next left

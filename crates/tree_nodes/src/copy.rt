@@ -4,7 +4,7 @@ ghost use Rattle.std.specs.Prelude.{ℕ, ◌≡◌, ◌≤◌, ◌<◌, ◌+◌,
 ghost use Rattle.leaf_array.specs.Pairs.{IsAscending};
 ghost use Rattle.leaf_array.specs.Values.{ClonesAreSame};
 ghost use Rattle.tree_nodes.specs.Content.{pairs_of, IsSound};
-ghost use Rattle.tree_nodes.specs.Copy.{place, IsExtended, IsPositionOrEnd};
+ghost use Rattle.tree_nodes.specs.Copy.{place, Extends, IsPositionOrEnd};
 ghost use Rattle.tree_nodes.specs.Depth.{ascending_headroom};
 ghost use Rattle.tree_nodes.specs.Push.{LastLeafTakes};
 
@@ -85,7 +85,7 @@ impl<K: Ord, V> Arenas<K, V> {
         requires spot { IsPositionOrEnd source.now from }
         requires within { place source.now from + count ≤ length (pairs_of source.now) }
         requires rising { IsAscending K.cmp (pairs_of self.old ++ take count (drop (place source.now from) (pairs_of source.now))) }
-        ensures { IfOk result (λ next. IsExtended K.cmp source.now (pairs_of self.old) (place source.now from.entry) count (ascending_headroom K.cmp self.old) self.new next 0) }
+        ensures { IfOk result (λ next. Extends K.cmp source.now from.entry count self.old self.new next 0) }
     {
         let mut next = from;
         let mut left = count;
@@ -121,7 +121,7 @@ impl<K: Ord, V> Arenas<K, V> {
         requires spot { IsPositionOrEnd source.now from }
         requires within { place source.now from + count ≤ length (pairs_of source.now) }
         requires rising { IsAscending K.cmp (pairs_of self.old ++ take count (drop (place source.now from) (pairs_of source.now))) }
-        ensures { IfOk result (λ r. IsExtended K.cmp source.now (pairs_of self.old) (place source.now from.entry) count (ascending_headroom K.cmp self.old) self.new r.0 r.1) }
+        ensures { IfOk result (λ r. Extends K.cmp source.now from.entry count self.old self.new r.0 r.1) }
     {
         let Some(at) = self.open_leaf() else {
             return Ok((from, count));

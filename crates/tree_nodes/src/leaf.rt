@@ -15,7 +15,7 @@ ghost use Rattle.leaf_array.specs.Pairs.{has_key, IsAscending};
 ghost use Rattle.leaf_array.specs.Values.{ClonesAreSame};
 ghost use Rattle.std.specs.declared.ops.Bound.TheVariants.{Included, Excluded};
 ghost use Rattle.tree_nodes.specs.Bounds.{before_start};
-ghost use Rattle.tree_nodes.specs.SplitPoints.{IsSplitPoint, key_at, is_keyed};
+ghost use Rattle.tree_nodes.specs.SplitPoints.{IsSplitPoint, key_at, last_key, is_keyed};
 ghost use Rattle.leaf_array.specs.Results.{is_removal, IsSuccess, IsDuplicate, IsFull, given_back};
 
 use leaf_array::{Array, InsertResult, RemoveResult};
@@ -184,7 +184,7 @@ impl<K: Ord, V> Leaf<K, V> {
     /// Whether the leaf has a pair past an upper bound.
     pub(crate) fn ends_past(&self, upper: &Bound<&K>) -> bool
         ensures some { result ≡ true → 0 < length self.now.array.pairs }
-        ensures past { result ≡ true → IfSome (key_at self.now.array.pairs (length self.now.array.pairs - 1)) (λ k. is_past_end K.cmp (deref_bound upper.now) k ≡ true) }
+        ensures past { result ≡ true → IfSome (last_key self.now.array.pairs) (λ k. is_past_end K.cmp (deref_bound upper.now) k ≡ true) }
     {
         let len = self.array.len();
         if len == 0 {

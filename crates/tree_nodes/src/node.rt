@@ -16,7 +16,8 @@
 //! ```
 //! <!-- end -->
 
-ghost use Rattle.std.specs.Prelude.{◌≡◌, ◌≢◌, ◌+◌, ◌-◌, ◌<◌, ◌≤◌, ◌==◌, ◌++◌, ◌∷◌, ◌↔◌, IsTrue, IsSome, IfSome, Some, None, [], true, false, length, take, slice_get};
+ghost use Rattle.std.specs.Prelude.{◌≡◌, ◌≢◌, ◌+◌, ◌-◌, ◌<◌, ◌≤◌, ◌==◌, ◌++◌, ◌∷◌, ◌↔◌, IsTrue, IsSome, IfSome, Some, None, [], true, false, length, take};
+ghost use Rattle.tree_nodes.specs.SplitPoints.{last_pair};
 ghost use Rattle.std.specs.List.{remove};
 ghost use Rattle.leaf_array.specs.Cells.{lesser};
 ghost use Rattle.std.specs.BTreeMap.{is_at, insert_entry};
@@ -241,7 +242,7 @@ impl<K: Ord> InnerNode<K> {
         ensures node { IsNode self.new.children }
         ensures inner { place < length self.old.children.pairs → (self.new.children.pairs ≡ remove self.old.children.pairs place) × (self.new.last ≡ self.old.last) }
         ensures outer { place ≡ length self.old.children.pairs → self.new.children.pairs ≡ take (length self.old.children.pairs - 1) self.old.children.pairs }
-        ensures last { place ≡ length self.old.children.pairs → IfSome (slice_get self.old.children.pairs (length self.old.children.pairs - 1)) (λ e. self.new.last ≡ e.1) }
+        ensures last { place ≡ length self.old.children.pairs → IfSome (last_pair self.old.children.pairs) (λ e. self.new.last ≡ e.1) }
     {
         if place < self.children.len() {
             self.children.bury(place);

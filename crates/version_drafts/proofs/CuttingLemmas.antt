@@ -18,7 +18,7 @@ use Rattle.version_drafts.specs.declared.segments.Part.TheVariants as parts
 use Rattle.version_drafts.specs.declared.segments.Row.{Row}
 use Rattle.version_drafts.specs.declared.segments.SegmentBuilder.{SegmentBuilder}
 use Rattle.version_views.proofs.BlockListLemmas.{pairs_in-append}
-use Rattle.version_views.proofs.FilterLemmas.{rising_under, rising_none, rising_front, rising_rear, all_rear}
+use Rattle.version_views.proofs.FilterLemmas.{rising_under, rising_none, rising_rear, all_rear}
 use Rattle.version_views.proofs.SeparatorSearchLemmas.{inside_of}
 use Rattle.version_drafts.proofs.StretchLemmas.{between_more}
 
@@ -86,10 +86,6 @@ made_both ps qs = sum_by-append makes ps qs
 
 pub made_behind : {K V : Type 0} (ps : List (Part K V)) (p : Part K V) → made_in (ps ++ p ∷ []) ≡ made_in ps + makes p
 made_behind ps p = let sum = sum_by-append makes ps (p ∷ []) in let one = sum_by-cons makes p [] in omega (arith, sum, one)
-
--- a key that comes next is above all before it
-pub above_front : {K V : Type 0} (cmp : K → K → Ordering) (front rest : List (K × V)) (p : K × V) → IsAscending cmp (front ++ p ∷ rest) → IsAbove cmp p.0 front
-above_front cmp front rest p up = rising_under cmp front p (rising_front cmp (front ++ p ∷ []) rest (subst (IsAscending cmp) (sym (append_assoc front (p ∷ []) rest)) up))
 
 -- ---- what is last is taken away
 

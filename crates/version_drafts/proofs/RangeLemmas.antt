@@ -1,5 +1,5 @@
 -- Ranges that are gone from a list.
-use Rattle.std.proofs.Common.{◌≡◌, Bool, true, false, not, cond, ◌||◌, List, [], ◌∷◌, ◌++◌, arith, drop, length, Option, Some, None, refl, sym, ap, ◌∙◌}
+use Rattle.std.proofs.Common.{◌≡◌, Bool, true, false, not, cond, ◌||◌, List, [], ◌∷◌, ◌++◌, arith, length, Option, Some, None, refl, sym, ap, ◌∙◌}
 use Rattle.std.proofs.lemmas.Cmp.{alike_right}
 use Rattle.std.specs.Prelude.{slice_get}
 use Rattle.std.specs.BTreeMap.Range.{is_from_start, is_past_end, range_contains}
@@ -82,17 +82,6 @@ module _ {K : Type 0} (cmp : K → K → Ordering) where
   without_any gone (p ∷ b) a = let l = a.0 in rw l (without_any gone b a.1)
 
   -- ---- pairs that are yet to be read
-
-  pub left_next : {V : Type 0} (gone : List (Gone K)) (p : K × V) (ps : List (K × V)) → is_gone cmp gone p.0 ≡ true → without_gone cmp gone (p ∷ ps) ≡ without_gone cmp gone ps
-  left_next gone p ps a = rw a refl
-
-  pub left_first : {V : Type 0} (gone : List (Gone K)) (ps : List (K × V)) → FirstIsLeft cmp gone ps → slice_get (without_gone cmp gone ps) 0 ≡ slice_get ps 0
-  left_first gone [] l = refl
-  left_first gone (p ∷ ps) l = rw l refl
-
-  pub left_rest : {V : Type 0} (gone : List (Gone K)) (ps : List (K × V)) → FirstIsLeft cmp gone ps → without_gone cmp gone (drop 1 ps) ≡ drop 1 (without_gone cmp gone ps)
-  left_rest gone [] l = refl
-  left_rest gone (p ∷ ps) l = rw l refl
 
   pub left_of : {V : Type 0} (gone : List (Gone K)) (ps : List (K × V)) (p : K × V) → Some p ≡ slice_get ps 0 → is_gone cmp gone p.0 ≡ false → FirstIsLeft cmp gone ps
   left_of gone [] p e a = tt

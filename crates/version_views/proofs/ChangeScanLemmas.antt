@@ -1,14 +1,13 @@
 -- Pairs that are yet to be read.
 use Rattle.std.proofs.Common.{◌≡◌, ℕ, zero, suc, ◌+◌, ◌-◌, ◌≤◌, true, false, cond, nat_lt, List, [], ◌∷◌, ◌++◌, drop, length, Option, Some, None, refl, sym, ap, ◌∙◌, arith}
 use Rattle.std.proofs.lemmas.Bool.{lt-ltb}
-use Rattle.std.proofs.lemmas.List.{drop-drop}
 use Rattle.std.proofs.lemmas.Bool.Decides.{nat_tests}
 use Rattle.std.specs.Prelude.{slice_get}
 use Rattle.std.specs.declared.cmp.Ordering.{Ordering}
 use Rattle.std.specs.declared.ops.Bound.TheVariants.{Unbounded}
 use Rattle.tree_index.specs.declared.cursor.End.{End}
 use Rattle.tree_index.specs.declared.cursor.End.TheVariants.{Unopened, At, Done}
-use Rattle.tree_index.specs.Cursor.{Cursor, whole, forth, up_to_end, kept_below, kept_above, pair_at, moved_forth, next_back_of, passed, passed_by}
+use Rattle.tree_index.specs.Cursor.{Cursor, whole, forth, up_to_end, kept_below, kept_above, pair_at, moved_forth, next_back_of, passed_by}
 use Rattle.version_views.specs.Cuts.{pairs_in}
 use Rattle.version_views.specs.ChangeScans.{pairs_from, unread, IsReading}
 
@@ -56,31 +55,9 @@ module _ {K V : Type 0} (cmp : K → K → Ordering) where
       ]) refl
   from_next pairs Done h = refl
 
-  pub started_next : (pairs : List (K × V)) (e : End ℕ) → (e ≡ Unopened → pairs ≡ []) → forth cmp Unbounded pairs e ≡ Unopened → pairs ≡ []
-  started_next pairs Unopened h = λ g. h refl
-  started_next pairs (At n) h =
-      elim (nat_lt (n + 1) (length pairs)) as (λ b. cond {A = End ℕ} b (At (n + 1)) Done ≡ Unopened → pairs ≡ []) [
-        | true ↦ λ g. cc
-        | false ↦ λ g. cc
-      ]
-  started_next pairs Done h = λ g. cc
-
   -- a cursor that reads goes on to the next pair
   pub stepped : (c d : Cursor K V) → IsReading c → d ≡ moved_forth cmp c → unread d ≡ drop 1 (unread c)
   stepped c d h e = ap unread e ∙ ap (λ b. pairs_from c.pairs (forth cmp b c.pairs c.forward)) h.from ∙ from_next c.pairs c.forward h.started
-
-  pub still_reading : (c d : Cursor K V) → IsReading c → d ≡ moved_forth cmp c → IsReading d
-  still_reading c d h e = rw e (record { from = h.from; upto = h.upto; alone = h.alone; started = λ g. started_next c.pairs c.forward h.started (sym (ap (λ b. forth cmp b c.pairs c.forward) h.from) ∙ g) })
-
-  -- a cursor that reads goes past a run
-  pub run_passed : (count : ℕ) (pairs : List (K × V)) (e : End ℕ) → count ≤ length (pairs_from pairs e) → pairs_from pairs (passed_by count pairs e) ≡ drop count (pairs_from pairs e)
-  run_passed count pairs Unopened le = sym (drop_out count [] (omega arith))
-  run_passed count pairs (At n) le =
-      (elim (nat_lt (n + count) (length pairs)) as (λ b. nat_lt (n + count) (length pairs) ≡ b → pairs_from pairs (cond b (At (n + count)) Done) ≡ drop count (drop n pairs)) [
-        | true ↦ λ b. sym (drop-drop count n pairs)
-        | false ↦ λ b. sym (drop-drop count n pairs ∙ drop_out (n + count) pairs (grind (arith, nat_tests)))
-      ]) refl
-  run_passed count pairs Done le = sym (drop_out count [] (omega arith))
 
   unopened_before : (count : ℕ) (pairs : List (K × V)) (e : End ℕ) → passed_by count pairs e ≡ Unopened → e ≡ Unopened
   unopened_before count pairs Unopened = λ g. refl
@@ -90,9 +67,6 @@ module _ {K V : Type 0} (cmp : K → K → Ordering) where
         | false ↦ λ g. cc
       ]
   unopened_before count pairs Done = λ g. cc
-
-  pub reading_passed : (count : ℕ) (c d : Cursor K V) → IsReading c → d ≡ passed count c → IsReading d
-  reading_passed count c d h e = rw e (record { from = h.from; upto = h.upto; alone = h.alone; started = λ g. h.started (unopened_before count c.pairs c.forward g) })
 
   -- ---- the last pair
 

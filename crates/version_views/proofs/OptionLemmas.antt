@@ -1,5 +1,5 @@
 -- lists of items that may be there, and maps of them
-use Rattle.std.proofs.Common.{◌≡◌, ℕ, zero, suc, ◌<◌, List, [], ◌∷◌, length, get_or, map, refl, replicate, sym, ap, arith, is_some, Bool, Option, Some, None, IfNone, IfSome, IsSome, IsTrue, ◌↔◌}
+use Rattle.std.proofs.Common.{◌≡◌, ℕ, zero, suc, ◌<◌, List, [], ◌∷◌, length, get_or, map, refl, replicate, sym, ap, arith, is_some, Bool, Option, Some, None, IfNone, IsSome, IsTrue, ◌↔◌}
 use Rattle.std.specs.List.{All, slice_get}
 use Rattle.std.specs.Borrow.{Bor}
 use Rattle.std.specs.Option.{option_copied, option_map}
@@ -16,12 +16,6 @@ mapped_none f [] i e = absurd cc
 mapped_none f (None ∷ xs) zero e = refl
 mapped_none f (Some x ∷ xs) zero e = absurd cc
 mapped_none f (x ∷ xs) (suc i) e = mapped_none f xs i e
-
-pub none_mapped : {X Y : Type 0} (f : X → Y) (xs : List (Option X)) (i : ℕ) → slice_get xs i ≡ Some None → slice_get (map (option_map f) xs) i ≡ Some None
-none_mapped f [] i e = absurd cc
-none_mapped f (None ∷ xs) zero e = refl
-none_mapped f (Some x ∷ xs) zero e = absurd cc
-none_mapped f (x ∷ xs) (suc i) e = none_mapped f xs i e
 
 pub some_mapped : {X Y : Type 0} (f : X → Y) (xs : List (Option X)) (i : ℕ) (x : X) → slice_get xs i ≡ Some (Some x) → slice_get (map (option_map f) xs) i ≡ Some (Some (f x))
 some_mapped f [] i x e = absurd cc
@@ -65,10 +59,6 @@ none_free f xs (Some i) all = tt
 
 pub idle_mapped : {X Y : Type 0} (f : X → Y) (xs : List (Option X)) (b : Bool) → IsTrue b ↔ All (λ x. x ≡ None) xs → IsTrue b ↔ All (λ y. y ≡ None) (map (option_map f) xs)
 idle_mapped f xs b both = (λ t. none_all f xs (both.0 t), λ all. both.1 (all_none f xs all))
-
-pub free_mapped : {X Y : Type 0} (f : X → Y) (xs : List (Option X)) (r : Option ℕ) → IfSome r (λ i. slice_get xs i ≡ Some None) → IfSome r (λ i. slice_get (map (option_map f) xs) i ≡ Some None)
-free_mapped f xs None free = tt
-free_mapped f xs (Some i) free = none_mapped f xs i free
 
 pub copied_some : {X : Type 0} (o : Option (Bor X)) → is_some (option_copied o) ≡ is_some o
 copied_some None = refl

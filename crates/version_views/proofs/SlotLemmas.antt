@@ -1,6 +1,5 @@
 -- segments of a directory, by their places
-use Rattle.std.proofs.Common.{◌≡◌, ℕ, zero, suc, ◌<◌, Some, List, [], ◌∷◌, length, map, get_or, slice_get, refl, sym, ap, ◌∙◌, arith, subst}
-use Rattle.std.specs.List.{All}
+use Rattle.std.proofs.Common.{◌≡◌, ℕ, zero, suc, ◌<◌, Some, List, [], ◌∷◌, length, map, get_or, slice_get, refl, sym, ap, ◌∙◌, arith}
 use Rattle.std.proofs.lemmas.List.{length-map}
 use Rattle.sdd_table.specs.Tokens.{kept_slot}
 use Rattle.sdd_table.specs.declared.owner.Kept.{Kept}
@@ -21,17 +20,8 @@ get_map f [] i d e h = absurd (omega (arith, h))
 get_map f (x ∷ xs) zero d e h = refl
 get_map f (x ∷ xs) (suc i) d e h = get_map f xs i d e (omega (arith, h))
 
-pub slots_many : {X : Type 0} (f : ℕ → X) (slots : List ℕ) (place : ℕ) → place < length (map f slots) → place < length slots
-slots_many f slots place h = let size = length-map slots f in omega (arith, size, h)
-
 -- what stands in the slot of a segment, by its place
 module _ (ks : List Kept) (k : Kept) (place : ℕ) (is : k ≡ get_or ks place k) (h : place < length (map kept_slot ks)) where
-  pub segment_at : (P : ℕ → Type 0) → All P (map kept_slot ks) → P (kept_slot k)
-  segment_at P all =
-      let size = length-map ks kept_slot in
-      let same : get_or (map kept_slot ks) place 0 ≡ kept_slot k = get_map kept_slot ks place 0 k (omega (arith, size, h)) ∙ sym (ap kept_slot is) in
-      subst P same (all place 0 h)
-
   pub block_at : {X : Type 0} (f : ℕ → X) → slice_get (map f (map kept_slot ks)) place ≡ Some (f (kept_slot k))
   block_at f =
       let size = length-map ks kept_slot in

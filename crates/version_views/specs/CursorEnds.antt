@@ -9,9 +9,11 @@ use Rattle.std.specs.Range.Bound.{bound_map}
 use Rattle.leaf_array.specs.Cells.{lesser}
 use Rattle.leaf_array.specs.Pairs.{IsAscending, has_key}
 use Rattle.tree_index.specs.Cursor.{whole, turned, before_start, up_to_end}
+use Rattle.tree_index.specs.Proximity.{IsLocated}
 use Rattle.tree_index.specs.Shape.{AllKeys}
 use Rattle.tree_index.specs.declared.cursor.End.{End}
 use Rattle.tree_index.specs.declared.cursor.End.TheVariants.{Unopened, At, Done}
+use Rattle.tree_index.specs.declared.proximity.Proximity.{Proximity}
 use Rattle.version_views.specs.Cuts.{pairs_in}
 use Rattle.version_views.specs.declared.position.CursorEnd.{CursorEnd}
 use Rattle.version_views.specs.declared.position.CursorEnd.TheVariants as cursor_ends
@@ -127,6 +129,10 @@ module _ {K V : Type 0} where
   -- whatever key no pair has, and n pairs have lesser ones
   abbrev pub OfAbsent : (K → K → Ordering) → List (List (K × V)) → ℕ → (K → Type 0) → Type 0
   OfAbsent cmp blocks n P = (key : K) → lesser cmp key (pairs_in blocks) ≡ n → has_key cmp key (pairs_in blocks) ≡ false → P key
+
+  -- such a key is located so
+  abbrev pub LocatesAbsent : (K → K → Ordering) → List (List (K × V)) → ℕ → Proximity K V → Type 0
+  LocatesAbsent cmp blocks n found = OfAbsent cmp blocks n (λ key. IsLocated cmp key (pairs_in blocks) found)
 
   -- the ends of its cursor change places
   abbrev pub swapped : (K → K → Ordering) → CursorEnd K V → CursorEnd K V

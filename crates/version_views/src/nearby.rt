@@ -4,7 +4,7 @@ ghost use Rattle.std.specs.Prelude.{◌≡◌, ◌+◌};
 ghost use Rattle.tree_index.specs.Cursor.{whole};
 ghost use Rattle.tree_index.specs.Proximity.{IsLocated};
 ghost use Rattle.version_views.specs.Cuts.{pairs_in};
-ghost use Rattle.version_views.specs.CursorEnds.{fore_place, rear_place, pairs_before_block, AreRising, OfAbsent, IsForeAt, IsRearAt, IsWalking};
+ghost use Rattle.version_views.specs.CursorEnds.{fore_place, rear_place, pairs_before_block, AreRising, LocatesAbsent, IsForeAt, IsRearAt, IsWalking};
 ghost use Rattle.version_views.specs.Nearby.{as_proximity};
 
 use crate::position::{CursorEnd, Position};
@@ -63,7 +63,7 @@ impl<'a, K: Ord, V, W: Trees<K, V>> VersionView<'a, K, V, W> {
     fn before_first(&self, first: Position<'a, K, V>) -> Nearby<'a, K, V, W>
         requires rising { AreRising K.cmp self.now }
         requires first { IsForeAt self.now (pairs_before_block self.now first.segment) first }
-        ensures { OfAbsent K.cmp self.now (pairs_before_block self.now first.entry.segment) (λ key. IsLocated K.cmp key (pairs_in self.now) (as_proximity result)) }
+        ensures { LocatesAbsent K.cmp self.now (pairs_before_block self.now first.entry.segment) (as_proximity result) }
     {
         match self.last_before(first.segment) {
             Some((smaller, _)) => {
@@ -78,7 +78,7 @@ impl<'a, K: Ord, V, W: Trees<K, V>> VersionView<'a, K, V, W> {
     fn behind_last(&self, last: Position<'a, K, V>) -> Nearby<'a, K, V, W>
         requires rising { AreRising K.cmp self.now }
         requires last { IsRearAt self.now (pairs_before_block self.now (last.segment + 1)) last }
-        ensures { OfAbsent K.cmp self.now (pairs_before_block self.now (last.entry.segment + 1)) (λ key. IsLocated K.cmp key (pairs_in self.now) (as_proximity result)) }
+        ensures { LocatesAbsent K.cmp self.now (pairs_before_block self.now (last.entry.segment + 1)) (as_proximity result) }
     {
         match self.first_behind(last.segment) {
             Some((larger, _)) => {

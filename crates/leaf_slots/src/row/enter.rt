@@ -1,8 +1,8 @@
 //! One place more.
 
-ghost use Rattle.std.specs.Prelude.{◌≡◌, ◌++◌, ◌∷◌, [], take, drop, IsTrue, List};
+ghost use Rattle.std.specs.Prelude.{◌≡◌, ◌∷◌, [], drop, IsTrue, List};
 ghost use Rattle.leaf_slots.specs.declared.place.Place.{Place};
-ghost use Rattle.leaf_slots.specs.Places.{has_room, pushed};
+ghost use Rattle.leaf_slots.specs.Places.{has_room, pushed, IsInsertedAt};
 
 use crate::place::{Place, fill};
 use crate::row::{Last, Link};
@@ -20,7 +20,7 @@ pub(crate) trait Enter<K, V> {
     /// Puts a place in at `at`.
     fn insert(&mut self, at: usize, place: Place<K, V>)
         requires { IsTrue (has_room (drop at (places self.old))) }
-        ensures { places self.new ≡ take at (places self.old) ++ pushed place (drop at (places self.old)) };
+        ensures { IsInsertedAt at place (places self.old) (places self.new) };
 }
 
 impl<K, V> Enter<K, V> for Last<K, V> {
@@ -37,7 +37,7 @@ impl<K, V> Enter<K, V> for Last<K, V> {
     #[inline(always)]
     fn insert(&mut self, at: usize, place: Place<K, V>)
         requires { IsTrue (has_room (drop at (self.old.head ∷ []))) }
-        ensures { self.new.head ∷ [] ≡ take at (self.old.head ∷ []) ++ pushed place (drop at (self.old.head ∷ [])) }
+        ensures { IsInsertedAt at place (self.old.head ∷ []) (self.new.head ∷ []) }
     {
         if at > 0 {
             unreachable!();
@@ -63,7 +63,7 @@ impl<K, V, R: Enter<K, V>> Enter<K, V> for Link<K, V, R> {
     #[inline(always)]
     fn insert(&mut self, at: usize, place: Place<K, V>)
         requires { IsTrue (has_room (drop at (self.old.head ∷ R.places self.old.rest))) }
-        ensures { self.new.head ∷ R.places self.new.rest ≡ take at (self.old.head ∷ R.places self.old.rest) ++ pushed place (drop at (self.old.head ∷ R.places self.old.rest)) }
+        ensures { IsInsertedAt at place (self.old.head ∷ R.places self.old.rest) (self.new.head ∷ R.places self.new.rest) }
     {
         if at == 0 {
             self.push(place);

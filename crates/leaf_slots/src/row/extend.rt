@@ -1,9 +1,9 @@
 //! Clones of another row's pairs, from any place on, or from the same one on: there both rows are passed as one, and no place
 //! is found by its number.
 
-ghost use Rattle.std.specs.Prelude.{◌≡◌, ◌+◌, ◌<◌, ◌≤◌, ◌++◌, ◌∷◌, [], length, take, drop, IfSome, List};
+ghost use Rattle.std.specs.Prelude.{◌≡◌, ◌+◌, ◌<◌, ◌≤◌, ◌∷◌, [], length, take, drop, IfSome, List};
 ghost use Rattle.leaf_slots.specs.declared.place.Place.{Place};
-ghost use Rattle.leaf_slots.specs.Places.{lined, live_pairs, IsEmptied};
+ghost use Rattle.leaf_slots.specs.Places.{lined, live_pairs, IsEmptied, IsFilledFrom};
 
 use crate::place::{Place, fill, pair_of, slot_of};
 use crate::row::{Last, Link};
@@ -32,7 +32,7 @@ pub(crate) trait Extend<K: Clone + Drop, V: Clone + Drop> {
         requires within { from + count ≤ length (live_pairs source.now) }
         requires small { from + count ≤ 15 }
         ensures most { result ≤ count }
-        ensures places { places self.new ≡ take skip (places self.old) ++ (lined (bitmap + skip) (take result (drop from (live_pairs source.now))) ++ drop (skip + result) (places self.old)) };
+        ensures places { IsFilledFrom skip bitmap result (drop from (live_pairs source.now)) (places self.old) (places self.new) };
 }
 
 impl<K: Clone + Drop, V: Clone + Drop> Extend<K, V> for Last<K, V> {
@@ -106,7 +106,7 @@ pub(crate) trait ExtendAligned<K: Clone + Drop, V: Clone + Drop>: Sized {
         requires empty { IsEmptied (drop skip (places self.old)) }
         requires within { skip + count ≤ length (live_pairs (places source.now)) }
         ensures most { result ≤ count }
-        ensures places { places self.new ≡ take skip (places self.old) ++ (lined (bitmap + skip) (take result (drop skip (live_pairs (places source.now)))) ++ drop (skip + result) (places self.old)) };
+        ensures places { IsFilledFrom skip bitmap result (drop skip (live_pairs (places source.now))) (places self.old) (places self.new) };
 }
 
 impl<K: Clone + Drop, V: Clone + Drop> ExtendAligned<K, V> for Last<K, V> {

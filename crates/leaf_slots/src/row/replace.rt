@@ -1,9 +1,9 @@
 //! A place in the stead of another.
 
-ghost use Rattle.std.specs.Prelude.{◌≡◌, ◌+◌, ◌<◌, ◌++◌, ◌∷◌, [], length, take, drop, IsSome, Some, slice_index_or, List};
+ghost use Rattle.std.specs.Prelude.{◌≡◌, ◌<◌, ◌∷◌, [], length, IsSome, Some, slice_index_or, List};
 ghost use Rattle.leaf_slots.specs.declared.place.Place.{Place};
 ghost use Rattle.leaf_slots.specs.declared.place.Place.TheVariants.{Empty};
-ghost use Rattle.leaf_slots.specs.Places.{live_pair, paired};
+ghost use Rattle.leaf_slots.specs.Places.{live_pair, IsPairedAt, IsReplacedAt};
 
 use crate::place::{Place, overwrite};
 use crate::row::{Last, Link};
@@ -17,7 +17,7 @@ pub(crate) trait Put<K, V> {
     fn put(&mut self, at: usize, place: Place<K, V>) -> Place<K, V>
         requires { at < length (places self.old) }
         ensures old { result ≡ slice_index_or (places self.old) at Empty }
-        ensures new { places self.new ≡ take at (places self.old) ++ place ∷ drop (at + 1) (places self.old) };
+        ensures new { IsReplacedAt at place (places self.old) (places self.new) };
 }
 
 /// A row in which a live place gets another pair.
@@ -28,7 +28,7 @@ pub(crate) trait Overwrite<K, V> {
     fn overwrite(&mut self, at: usize, key: K, value: V) -> (K, V)
         requires { IsSome (live_pair (slice_index_or (places self.old) at Empty)) }
         ensures pair { Some result ≡ live_pair (slice_index_or (places self.old) at Empty) }
-        ensures new { places self.new ≡ take at (places self.old) ++ paired key value (drop at (places self.old)) };
+        ensures new { IsPairedAt at key value (places self.old) (places self.new) };
 }
 
 impl<K, V> Put<K, V> for Last<K, V> {
@@ -38,7 +38,7 @@ impl<K, V> Put<K, V> for Last<K, V> {
     fn put(&mut self, at: usize, place: Place<K, V>) -> Place<K, V>
         requires { at < length (self.old.head ∷ []) }
         ensures old { result ≡ slice_index_or (self.old.head ∷ []) at Empty }
-        ensures new { self.new.head ∷ [] ≡ take at (self.old.head ∷ []) ++ place ∷ drop (at + 1) (self.old.head ∷ []) }
+        ensures new { IsReplacedAt at place (self.old.head ∷ []) (self.new.head ∷ []) }
     {
         mem::replace(&mut self.head, place)
     }
@@ -51,7 +51,7 @@ impl<K, V, R: Put<K, V>> Put<K, V> for Link<K, V, R> {
     fn put(&mut self, at: usize, place: Place<K, V>) -> Place<K, V>
         requires { at < length (self.old.head ∷ R.places self.old.rest) }
         ensures old { result ≡ slice_index_or (self.old.head ∷ R.places self.old.rest) at Empty }
-        ensures new { self.new.head ∷ R.places self.new.rest ≡ take at (self.old.head ∷ R.places self.old.rest) ++ place ∷ drop (at + 1) (self.old.head ∷ R.places self.old.rest) }
+        ensures new { IsReplacedAt at place (self.old.head ∷ R.places self.old.rest) (self.new.head ∷ R.places self.new.rest) }
     {
         if at > 0 {
             return self.rest.put(at - 1, place);
@@ -67,7 +67,7 @@ impl<K, V> Overwrite<K, V> for Last<K, V> {
     fn overwrite(&mut self, at: usize, key: K, value: V) -> (K, V)
         requires { IsSome (live_pair (slice_index_or (self.old.head ∷ []) at Empty)) }
         ensures pair { Some result ≡ live_pair (slice_index_or (self.old.head ∷ []) at Empty) }
-        ensures new { self.new.head ∷ [] ≡ take at (self.old.head ∷ []) ++ paired key value (drop at (self.old.head ∷ [])) }
+        ensures new { IsPairedAt at key value (self.old.head ∷ []) (self.new.head ∷ []) }
     {
         if at > 0 {
             unreachable!();
@@ -83,7 +83,7 @@ impl<K, V, R: Overwrite<K, V>> Overwrite<K, V> for Link<K, V, R> {
     fn overwrite(&mut self, at: usize, key: K, value: V) -> (K, V)
         requires { IsSome (live_pair (slice_index_or (self.old.head ∷ R.places self.old.rest) at Empty)) }
         ensures pair { Some result ≡ live_pair (slice_index_or (self.old.head ∷ R.places self.old.rest) at Empty) }
-        ensures new { self.new.head ∷ R.places self.new.rest ≡ take at (self.old.head ∷ R.places self.old.rest) ++ paired key value (drop at (self.old.head ∷ R.places self.old.rest)) }
+        ensures new { IsPairedAt at key value (self.old.head ∷ R.places self.old.rest) (self.new.head ∷ R.places self.new.rest) }
     {
         if at > 0 {
             return self.rest.overwrite(at - 1, key, value);

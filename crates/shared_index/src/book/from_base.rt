@@ -1,13 +1,13 @@
 //! A book that begins with a list, as another index left it.
 
-ghost use Rattle.std.specs.Prelude.{◌≡◌, ◌≤◌, ◌<◌, ◌-◌, ◌∷◌, [], IfErr, IfOk, OnErr, OnOk, length, replicate, vec_capacity};
+ghost use Rattle.std.specs.Prelude.{◌≡◌, ◌≤◌, ◌<◌, ◌-◌, ◌∷◌, [], IfErr, IfOk, OnOk, replicate, vec_capacity};
 ghost use Rattle.leaf_array.specs.Pairs.{IsAscending};
 ghost use Rattle.leaf_array.specs.Values.{ClonesAreSame};
 ghost use Rattle.sdd_domain.specs.Cells.{cell_number};
 ghost use Rattle.sdd_domain.specs.Tokens.{place_of, home_of, hand_of, misses_of, cell_count};
 ghost use Rattle.shared_versions.specs.Drafts.{list_of};
 ghost use Rattle.shared_versions.specs.Placing.{IsStillButMisses};
-ghost use Rattle.shared_index.specs.Books.{fresh_book, misses_without};
+ghost use Rattle.shared_index.specs.Books.{IsFreshBook, misses_without};
 ghost use Rattle.shared_index.specs.SharedBase.{MayRefuseBase, misses_unbegun};
 ghost use Rattle.shared_index.specs.SharedInvariant.{IsUnengaged};
 
@@ -87,7 +87,7 @@ impl<L: Naming, K: Clone + Ord, V: Clone + Eq, const S: usize> Book<L, K, V, S> 
         requires last { L.last ≡ 18446744073709551615 }
         requires keys { ClonesAreSame K.is_clone }
         requires values { ClonesAreSame V.is_clone }
-        ensures book { IfOk result (λ made. made.0 ≡ fresh_book (record { number = base.number; pairs = base.pairs.items }) 18446744073709551615 (misses_of local) made.0.cell_steps) }
+        ensures book { IfOk result (λ made. IsFreshBook (record { number = base.number; pairs = base.pairs.items }) 18446744073709551615 (misses_of local) made.0) }
         ensures root { IfOk result (λ made. cell_number made.1 < cell_count domain.now) }
         ensures shares { IfOk result (λ made. made.2.items ≡ base.number ∷ replicate (shares - 1) 0) }
         ensures cause { IfErr result (λ back. MayRefuseBase K.cmp base.pairs.items back.2.cause) }
