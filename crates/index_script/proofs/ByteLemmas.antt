@@ -1,34 +1,15 @@
 -- Known bytes, lines, and what was taken of an input.
-use Rattle.std.proofs.Common.{◌≡◌, ◌≢◌, ℕ, ◌+◌, ◌-◌, List, [], ◌∷◌, ◌++◌, length, take, drop, refl, sym, ap, ◌∙◌, subst, arith, append_assoc, append-nil, inl, inr, Option, Some, None, Result, Ok, Err, OnOk}
+use Rattle.std.proofs.Common.{◌≡◌, ◌≢◌, ℕ, ◌+◌, ◌-◌, List, [], ◌∷◌, ◌++◌, length, take, drop, refl, sym, ap, ◌∙◌, subst, arith, append_assoc, append-nil, inl, inr, Option}
 use Rattle.std.proofs.lemmas.List.{take_all, length-drop}
 use Rattle.std.proofs.Math.Seq.{take-add}
 use Rattle.std.specs.Io.KnownBytes.{Consumes, Appends, IsAtEnd}
 use Rattle.std.specs.List.{AllByRecursion}
+use Rattle.std.proofs.KnownBytes.{Appends-trans, Appends-nil, Consumes-nil, Consumes-trans}
 use Rattle.index_script.specs.Lines.{Lacks, joined_lines, Begins, ended, kept}
 use Rattle.index_script.specs.Script.{Script, ActsOnLine, Outputs}
 use Rattle.index_script.specs.Runs.{Answered, Breaks, RunsToEnd, StopsWriting, StopsForMemory}
 use Rattle.index_script.specs.Inside.{Answers, Falters, Taken, Feeds, BreaksOff, FeedBreaks, StopsShort, FeedStops, TakesAllRead, Finishes}
 use Rattle.index_script.proofs.NumberLemmas.{kept_some}
-
-pub Appends-trans : (a b c : Option (List ℕ)) (xs ys : List ℕ) → Appends a b xs → Appends b c ys → Appends a c (xs ++ ys)
-Appends-trans None b c xs ys p q = tt
-Appends-trans (Some u) None c xs ys p q = absurd p
-Appends-trans (Some u) (Some v) None xs ys p q = absurd q
-Appends-trans (Some u) (Some v) (Some w) xs ys p q = q ∙ ap (λ l. l ++ ys) p ∙ append_assoc u xs ys
-
-pub Appends-same : (a : Option (List ℕ)) → Appends a a []
-Appends-same None = tt
-Appends-same (Some u) = sym (append-nil u)
-
-pub Consumes-same : (a : Option (List ℕ)) → Consumes a a []
-Consumes-same None = tt
-Consumes-same (Some u) = refl
-
-pub Consumes-trans : (a b c : Option (List ℕ)) (xs ys : List ℕ) → Consumes a b xs → Consumes b c ys → Consumes a c (xs ++ ys)
-Consumes-trans None b c xs ys p q = tt
-Consumes-trans (Some u) None c xs ys p q = absurd p
-Consumes-trans (Some u) (Some v) None xs ys p q = absurd q
-Consumes-trans (Some u) (Some v) (Some w) xs ys p q = p ∙ ap (λ l. xs ++ l) q ∙ sym (append_assoc xs ys w)
 
 -- the next bytes are written behind those before them
 pub Appends-next : (a b c : Option (List ℕ)) (bytes : List ℕ) (i n : ℕ) → Appends a b (take i bytes) → Appends b c (take n (take (length bytes - i) (drop i bytes))) → Appends a c (take (i + n) bytes)
@@ -260,11 +241,7 @@ module _ (width : ℕ) where
     lines = [];
     rest = [];
     new = start;
-    read = Consumes-same r;
+    read = Consumes-nil r;
     begins = record { whole = refl; unbroken = tt };
-    answered = record { output = []; outputs = (refl, refl); written = Appends-same w };
+    answered = record { output = []; outputs = (refl, refl); written = Appends-nil w };
   }
-
-pub on_ok : {T E P Q : Type 0} (r : Result T E) → (P → Q) → OnOk r P → OnOk r Q
-on_ok (Ok x) f p = f p
-on_ok (Err e) f p = tt

@@ -2,7 +2,6 @@
 use Rattle.std.proofs.Common.{◌≡◌, ◌≢◌, ◌⊎◌, ⊎_elim, ◌+◌, ℕ, List, [], ◌∷◌, ◌++◌, Option, None, Some, IfSome, true, inl, inr, append_assoc, append-nil, refl, sym, ap, ◌∙◌, subst, arith}
 use Rattle.std.specs.Option.{is_some}
 use Rattle.std.proofs.lemmas.Bool.{false≢true}
-use Rattle.std.specs.Prelude.{OnOk, Result, Ok, Err}
 use Rattle.sdd_domain.specs.Cells.{cell_number}
 use Rattle.sdd_domain.specs.CellSteps.{CellStep, NamesWith, cell_steps_of, HasMade, HasMadeSome, StepsOnNoCell, HasReadCell, HasExchanged, step_on}
 use Rattle.sdd_domain.specs.Comparing.{owner_code, owner_slot, code_of}
@@ -23,10 +22,6 @@ pub done_then : {T P Q : Type 0} → (r : Pushed T) → (P → Q) → IfDone r P
 done_then Done f = f
 done_then (Unwanted s) f = λ p. tt
 done_then (Slow s) f = λ p. tt
-
-pub ok_then : {A E P Q : Type 0} → (r : Result A E) → (P → Q) → OnOk r P → OnOk r Q
-ok_then (Ok x) f = f
-ok_then (Err e) f = λ p. tt
 
 module _ {T : Type 0} where
   -- an owner that is there is of the item that was found, and none is of none

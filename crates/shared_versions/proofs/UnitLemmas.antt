@@ -1,8 +1,9 @@
 -- The segments of parts, one by one.
-use Rattle.std.proofs.Common.{◌≡◌, ℕ, zero, suc, ◌+◌, ◌-◌, ◌<◌, ◌≤◌, Some, List, [], ◌∷◌, ◌++◌, length, get_or, map, append_assoc, append-nil, length-append, refl, sym, ap, ◌∙◌, subst, arith}
+use Rattle.std.proofs.Common.{◌≡◌, ℕ, zero, suc, ◌+◌, ◌-◌, ◌<◌, ◌≤◌, List, [], ◌∷◌, ◌++◌, length, get_or, map, append_assoc, append-nil, length-append, refl, sym, ap, ◌∙◌, subst, arith}
 use Rattle.std.proofs.lemmas.List.{length-map, map-append}
 use Rattle.std.proofs.lemmas.List.Elements.{All-append, All-cons, All-head, All-nil, All-push, All-tail}
-use Rattle.std.specs.List.{All, slice_get}
+use Rattle.std.specs.List.{All}
+use Rattle.std.proofs.lemmas.Option.{get_or_from_slice_get}
 use Rattle.version_drafts.specs.Parts.{LiesWithin, between, blocks_of_parts, segments_in}
 use Rattle.version_drafts.specs.declared.segments.Part.{Part}
 use Rattle.version_drafts.specs.declared.segments.Part.TheVariants as parts
@@ -15,12 +16,6 @@ use Rattle.shared_versions.specs.declared.units.One.TheVariants as one
 places_many : (from n : ℕ) → length (places from n) ≡ n
 places_many from zero = refl
 places_many from (suc n) = let rest = places_many from n in let both = length-append (places from n) ((from + n) ∷ []) in omega (arith, rest, both)
-
--- what is read at a place
-read_at : {X : Type 0} (bs : List X) (i : ℕ) (b d : X) → slice_get bs i ≡ Some b → get_or bs i d ≡ b
-read_at [] i b d e = absurd (cc)
-read_at (x ∷ bs) zero b d e = cc
-read_at (x ∷ bs) (suc i) b d e = read_at bs i b d e
 
 module _ {K V : Type 0} where
   -- as many as the parts have
@@ -66,7 +61,7 @@ module _ {K V : Type 0} where
         ap (map (unit_pairs named)) (map-append one.Taken (places from n) ((from + n) ∷ []))
         ∙ (map-append (unit_pairs named) (map one.Taken (places from n)) (one.Taken (from + n) ∷ [])
         ∙ (ap (λ bs. bs ++ named (from + n) ∷ []) (row_blocks from n (omega (arith, le)))
-        ∙ (ap (λ b. between from (from + n) blocks ++ b ∷ []) (read_at blocks (from + n) here.0 [] here.1)
+        ∙ (ap (λ b. between from (from + n) blocks ++ b ∷ []) (get_or_from_slice_get blocks (from + n) here.0 [] here.1)
         ∙ (sym (between_more from (from + n) blocks here.0 (omega arith) here.1) ∙ ap (λ m. between from m blocks) (sym next)))))
 
     -- their pairs are those of the parts

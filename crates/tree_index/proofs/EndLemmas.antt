@@ -1,6 +1,6 @@
 -- Where the forward end of a cursor goes.
 use Rattle.std.proofs.Common.{◌≡◌, ◌<◌, ℕ, ◌+◌, arith, cond, false, List, length, sym, ap, subst}
-use Rattle.std.specs.Prelude.{nat_lt, OnOk, Result, Ok, Err}
+use Rattle.std.specs.Prelude.{nat_lt}
 use Rattle.std.specs.declared.cmp.Ordering.{Ordering}
 use Rattle.std.specs.declared.ops.Bound.{Bound}
 use Rattle.std.proofs.lemmas.Bool.{lt-ltb}
@@ -23,7 +23,3 @@ module _ {K V : Type 0} (pairs : List (K × V)) (p count n : ℕ) (e : n ≡ p +
 
   pub passed_out : n ≡ length pairs → ◌≡◌ {A = End ℕ} Done (passed_by count pairs (At p))
   passed_out end = subst (λ (m : ℕ). ◌≡◌ {A = End ℕ} Done (cond (nat_lt m (length pairs)) (At m) Done)) e (sym (ap (λ b. cond {A = End ℕ} b (At n) Done) (let out : nat_lt n (length pairs) ≡ false = grind (arith, nat_tests) in out)))
-
-pub on_ok : {X E A B : Type 0} (r : Result X E) → (A → B) → OnOk r A → OnOk r B
-on_ok (Ok x) f h = f h
-on_ok (Err e) f h = tt

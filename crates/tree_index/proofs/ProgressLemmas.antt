@@ -1,19 +1,15 @@
 -- Each pair that a cursor gives leaves fewer between its ends.
-use Rattle.std.proofs.Common.{◌≡◌, ◌<◌, ◌≤◌, ℕ, zero, suc, ◌+◌, ◌-◌, Bool, true, false, cond, List, [], ◌∷◌, length, refl, sym, ap, subst, arith}
+use Rattle.std.proofs.Common.{◌≡◌, ◌<◌, ◌≤◌, ℕ, ◌+◌, ◌-◌, Bool, true, false, cond, List, length, refl, sym, ap, subst, arith}
 use Rattle.std.proofs.lemmas.Bool.{ltb-true}
-use Rattle.std.specs.Prelude.{nat_lt, slice_get, Option, Some, None}
+use Rattle.std.specs.Prelude.{nat_lt, Option, Some, None}
 use Rattle.std.specs.Borrow.{Bor}
 use Rattle.std.specs.Iterator.{MakesProgress, at_most}
 use Rattle.std.specs.declared.cmp.Ordering.{Ordering}
 use Rattle.std.specs.declared.ops.Bound.{Bound}
+use Rattle.std.proofs.lemmas.Option.{slice_get_within}
 use Rattle.tree_index.specs.declared.cursor.End.{End}
 use Rattle.tree_index.specs.declared.cursor.End.TheVariants.{Unopened, At, Done}
 use Rattle.tree_index.specs.Cursor.{Cursor, GoesBack, GoesForth, back, count_between, forth, kept_above, kept_below, lies_before, moved_back, moved_forth, next_back_of, next_of, pair_at, start_of, stop_of}
-
-got_within : {X : Type 0} (xs : List X) (i : ℕ) (x : X) → slice_get xs i ≡ Some x → i < length xs
-got_within [] i x e = absurd (cc)
-got_within (y ∷ xs) zero x e = omega arith
-got_within (y ∷ xs) (suc i) x e = let r = got_within xs i x e in omega (arith, r)
 
 module _ {K V : Type 0} (cmp : K → K → Ordering) (b : Bound K) where
   kept_above_some : (o : Option (K × V)) (y : K × V) → Some y ≡ kept_above cmp b o → (x : K × V) × (o ≡ Some x)
@@ -31,7 +27,7 @@ if_so false o y e = absurd (cc)
 -- the end stands at a pair
 at_pair : {K V : Type 0} (pairs : List (K × V)) (e : End ℕ) (x : K × V) → pair_at pairs e ≡ Some x → (p : ℕ) × (e ≡ At p) × (p < length pairs)
 at_pair pairs Unopened x h = absurd (cc)
-at_pair pairs (At p) x h = (p, refl, got_within pairs p x h)
+at_pair pairs (At p) x h = (p, refl, slice_get_within pairs p x h)
 at_pair pairs Done x h = absurd (cc)
 
 module _ {K V : Type 0} (c : Cursor K V) where

@@ -3,6 +3,7 @@ use Rattle.std.proofs.Common.{◌≡◌, ◌≤◌, ℕ, zero, suc, ◌+◌, Boo
 use Rattle.std.specs.Prelude.{slice_get, IfSome, IfNone}
 use Rattle.std.specs.declared.cmp.Ordering.{Ordering}
 use Rattle.std.specs.Cmp.Lexicographic.{pointwise}
+use Rattle.std.proofs.lemmas.List.{drop_all}
 use Rattle.tree_nodes.specs.declared.arenas.Arenas.{Arenas}
 use Rattle.tree_nodes.specs.declared.walk.Position.{Position}
 use Rattle.tree_nodes.specs.Content.{pairs_of, IsSound}
@@ -15,12 +16,6 @@ module _ {X : Type 0} where
   drop_at n [] x h = absurd (let e : None ≡ Some x = h in cc)
   drop_at zero (y ∷ xs) x h = let same : ◌≡◌ {A = Option X} (Some y) (Some x) = h in let e : y ≡ x = cc in ap (λ z. z ∷ xs) e
   drop_at (suc n) (y ∷ xs) x h = let more : suc n + 1 ≡ suc (n + 1) = omega arith in drop_at n xs x h ∙ ap (λ k. x ∷ drop k (y ∷ xs)) (sym more)
-
-  pub drop_all : (n : ℕ) (xs : List X) → length xs ≤ n → drop n xs ≡ []
-  drop_all zero [] h = refl
-  drop_all (suc n) [] h = refl
-  drop_all zero (x ∷ xs) h = absurd (omega (arith, h))
-  drop_all (suc n) (x ∷ xs) h = drop_all n xs (omega (arith, h))
 
   module _ (E : X → X → Bool) (xs ys : List X) (n : ℕ) where
     pub step_equal : (x y : X) → slice_get xs n ≡ Some x → slice_get ys n ≡ Some y → pointwise E (drop n xs) (drop n ys) ≡ (E x y && pointwise E (drop (n + 1) xs) (drop (n + 1) ys))

@@ -192,7 +192,3 @@ module _ {K V : Type 0} (cmp : K → K → Ordering) (key : K) (a : Arenas K V) 
         least = omega (arith, t.least);
         single = subst (λ (n : ℕ). IsSingle (content_of a) n f.child child) (sym more) (subst (IsSingle (content_of a) (suc (f.height - suc height)) f.child) (sym (q ∙ last)) (single_more (content_of a) (f.height - suc height) f.child at (node.children, node.last) t.single there none));
       }
-
-pub no_pairs : {X : Type 0} (xs : List X) → length xs ≡ 0 → xs ≡ []
-no_pairs [] h = refl
-no_pairs (x ∷ xs) h = absurd (omega (arith, h))

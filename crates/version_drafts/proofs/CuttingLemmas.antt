@@ -8,6 +8,7 @@ use Rattle.std.specs.Cmp.{IsTotalOrder}
 use Rattle.std.specs.declared.cmp.Ordering.{Ordering}
 use Rattle.std.specs.declared.cmp.Ordering.TheVariants.{Less}
 use Rattle.std.specs.List.{All}
+use Rattle.std.proofs.lemmas.Option.{slice_get_within}
 use Rattle.leaf_array.specs.Pairs.{IsAscending}
 use Rattle.tree_index.specs.Depth.{IsAbove}
 use Rattle.version_views.specs.Cuts.{greatest_key, pairs_in, IsTight}
@@ -19,7 +20,6 @@ use Rattle.version_drafts.specs.declared.segments.Row.{Row}
 use Rattle.version_drafts.specs.declared.segments.SegmentBuilder.{SegmentBuilder}
 use Rattle.version_views.proofs.BlockListLemmas.{pairs_in-append}
 use Rattle.version_views.proofs.FilterLemmas.{rising_under, rising_none, rising_rear, all_rear}
-use Rattle.version_views.proofs.SeparatorSearchLemmas.{inside_of}
 use Rattle.version_drafts.proofs.StretchLemmas.{between_more}
 
 -- ---- blocks in a row
@@ -160,7 +160,7 @@ module _ {K V : Type 0} {cmp : K → K → Ordering} {s : ℕ} {blocks : List (L
       within_left : All (LiesWithin (length blocks)) items
       within_left =
           let front = all_fore (LiesWithin (length blocks)) held_at.front (parts.Taken held_at.from (place + 1) ∷ []) (subst (All (LiesWithin (length blocks))) held_at.is h.row.within) in
-          let inside = inside_of blocks place held_at.block held_at.there in
+          let inside = slice_get_within blocks place held_at.block held_at.there in
           subst (All (LiesWithin (length blocks))) (sym fewer) (All-append (LiesWithin (length blocks)) held_at.front (stretch_of held_at.from place) front (stretch_within blocks (length blocks) held_at.from place (omega (arith, inside))))
 
       pub given_joined : (tail : List (K × V)) → tail ≡ held_at.block ++ c.tail.pairs → pairs_in (blocks_of_parts blocks items) ++ tail ≡ given_pairs blocks c
@@ -229,10 +229,6 @@ open_one (x ∷ xs) h = refl
 pub open_none : {X : Type 0} (xs : List X) → length xs ≡ 0 → one_open xs ≡ 0
 open_none [] h = refl
 open_none (x ∷ xs) h = absurd (omega (arith, h))
-
-pub empty_of : {X : Type 0} (xs : List X) → length xs ≡ 0 → xs ≡ []
-empty_of [] h = refl
-empty_of (x ∷ xs) h = absurd (omega (arith, h))
 
 -- ---- pairs are given
 

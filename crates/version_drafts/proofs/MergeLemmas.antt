@@ -13,6 +13,7 @@ use Rattle.std.proofs.lemmas.List.{take-append-drop}
 use Rattle.std.proofs.lemmas.Nat.{mul-le}
 use Rattle.std.specs.List.{All}
 use Rattle.std.specs.Option.{option_map}
+use Rattle.std.proofs.lemmas.Option.{slice_get-get_or}
 use Rattle.tree_index.specs.Shape.{AllKeys}
 use Rattle.tree_index.proofs.WayLemmas.{some_same}
 use Rattle.version_views.specs.Cuts.{greatest_key, pairs_in, IsTight}
@@ -21,7 +22,6 @@ use Rattle.version_drafts.specs.Parts.{made_in}
 use Rattle.version_drafts.specs.declared.segments.Row.{Row}
 use Rattle.version_drafts.specs.declared.segments.SegmentBuilder.{SegmentBuilder}
 use Rattle.version_views.proofs.BlockListLemmas.{pairs_in-append}
-use Rattle.version_views.proofs.SlotLemmas.{slice_of}
 use Rattle.version_drafts.proofs.CuttingLemmas.{open_none, open_one}
 use Rattle.version_views.proofs.FilterLemmas.{rising_front, rising_head, rising_rear, rising_tail}
 use Rattle.version_views.proofs.ChangeScanLemmas.{block_at}
@@ -113,7 +113,7 @@ module _ {K V : Type 0} where
 
   pub none_greatest : (ps : List (K × V)) → ◌≡◌ {A = Option K} None (greatest_key ps) → ps ≡ []
   none_greatest [] e = refl
-  none_greatest (p ∷ ps) e = absurd (let some = slice_of (p ∷ ps) (length (p ∷ ps) - 1) p (omega arith) in let none = none_pair (slice_get (p ∷ ps) (length (p ∷ ps) - 1)) e in cc)
+  none_greatest (p ∷ ps) e = absurd (let some = slice_get-get_or (p ∷ ps) (length (p ∷ ps) - 1) p (omega arith) in let none = none_pair (slice_get (p ∷ ps) (length (p ∷ ps) - 1)) e in cc)
 
 module _ {K V : Type 0} {cmp : K → K → Ordering} (o : IsTotalOrder cmp) where
   pub all_under : (k : K) (ps : List (K × V)) (p : K × V) → IsAscending cmp ps → slice_get ps (length ps - 1) ≡ Some p → cmp k p.0 ≡ Greater → AllKeys (λ y. cmp y k ≡ Less) ps

@@ -1,5 +1,5 @@
 -- How many segments parts have.
-use Rattle.std.proofs.Common.{◌≡◌, ℕ, ◌+◌, ◌*◌, ◌/◌, ◌≤◌, List, [], ◌∷◌, ◌++◌, length, length-append, refl, ap, subst, arith}
+use Rattle.std.proofs.Common.{◌≡◌, ℕ, ◌+◌, ◌*◌, ◌/◌, ◌≤◌, List, [], ◌∷◌, length, length-append, refl, ap, subst, arith}
 use Rattle.std.proofs.lemmas.List.Elements.{All-head, All-tail}
 use Rattle.std.proofs.lemmas.List.Sums.{sum_by-cons}
 use Rattle.std.specs.List.{All}
@@ -36,12 +36,3 @@ few_of s ps pairs tight lies is =
     let few = blocks_fit s (blocks_of_parts [] ps) tight in
     let many = segments_many [] ps lies in
     subst (λ n. segments_in ps ≤ 2 * (n / (s + 1)) + 1) (ap length is) (omega (arith, few, many))
-
--- lists that are the same with one more each have the same before it, and the same one
-pub ends_same : {X : Type 0} (xs ys : List X) (x y : X) → xs ++ x ∷ [] ≡ ys ++ y ∷ [] → (xs ≡ ys) × (x ≡ y)
-ends_same [] [] x y e = let same : x ≡ y = cc in (refl, same)
-ends_same [] (b ∷ []) x y e = absurd (cc)
-ends_same [] (b ∷ c ∷ ys) x y e = absurd (cc)
-ends_same (a ∷ []) [] x y e = absurd (cc)
-ends_same (a ∷ c ∷ xs) [] x y e = absurd (cc)
-ends_same (a ∷ xs) (b ∷ ys) x y e = let tails : xs ++ x ∷ [] ≡ ys ++ y ∷ [] = cc in let heads : a ≡ b = cc in let t = ends_same xs ys x y tails in (rw (heads, t.0) refl, t.1)

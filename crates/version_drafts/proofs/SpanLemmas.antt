@@ -10,6 +10,7 @@ use Rattle.std.specs.declared.cmp.Ordering.TheVariants.{Less}
 use Rattle.std.specs.declared.ops.Bound.{Bound}
 use Rattle.std.specs.declared.ops.Bound.TheVariants.{Included, Excluded, Unbounded}
 use Rattle.std.specs.Ordering.{is_le, is_lt}
+use Rattle.std.proofs.lemmas.Option.{slice_get_within}
 use Rattle.tree_index.specs.Shape.{AllKeys}
 use Rattle.tree_index.proofs.ShapeLemmas.{all_weaken, turned}
 use Rattle.tree_index.proofs.WayLemmas.{some_same}
@@ -19,7 +20,6 @@ use Rattle.version_views.specs.SeparatorSearch.{IsOrdered, IsPlaceOf}
 use Rattle.version_drafts.specs.declared.gone.Gone.{Gone}
 use Rattle.version_views.proofs.FilterLemmas.{all_front, all_rear}
 use Rattle.version_views.proofs.PlaceLemmas.{around_place}
-use Rattle.version_views.proofs.SeparatorSearchLemmas.{inside_of}
 
 module _ {K V : Type 0} (P : K → Type 0) where
   all_in : (blocks : List (List (K × V))) (i : ℕ) (b : List (K × V)) → slice_get blocks i ≡ Some b → AllKeys P (pairs_in blocks) → AllKeys P b
@@ -57,8 +57,8 @@ from_or (Some place) i = elim (cases_lt i place) [
 module _ {K V : Type 0} {cmp : K → K → Ordering} (o : IsTotalOrder cmp) (blocks : List (List (K × V))) where
   pub among_of : (key : K) (keys : List K) (place : ℕ) → IsOrdered cmp blocks keys → IsPlaceOf cmp key keys place → IsAmong cmp blocks key place
   among_of key keys place ordered at = record {
-    before = λ i b e lt. let within = inside_of blocks i b e in all_in_front (λ k. cmp k key ≡ Less) blocks i place b e lt (around_place cmp o key blocks keys place ordered at (omega (arith, within))).before;
-    behind = λ i b e lt. let within = inside_of blocks i b e in all_in_rear (λ k. cmp key k ≡ Less) blocks i place b e lt (around_place cmp o key blocks keys place ordered at (omega (arith, within))).behind;
+    before = λ i b e lt. let within = slice_get_within blocks i b e in all_in_front (λ k. cmp k key ≡ Less) blocks i place b e lt (around_place cmp o key blocks keys place ordered at (omega (arith, within))).before;
+    behind = λ i b e lt. let within = slice_get_within blocks i b e in all_in_rear (λ k. cmp key k ≡ Less) blocks i place b e lt (around_place cmp o key blocks keys place ordered at (omega (arith, within))).behind;
   }
 
   module _ (i : ℕ) (b : List (K × V)) (here : slice_get blocks i ≡ Some b) where

@@ -1,10 +1,11 @@
 -- Pairs that are yet to be read.
-use Rattle.std.proofs.Common.{◌≡◌, ℕ, zero, suc, ◌+◌, ◌-◌, ◌≤◌, true, false, cond, nat_lt, List, [], ◌∷◌, ◌++◌, drop, length, Option, Some, None, refl, sym, ap, ◌∙◌, arith}
+use Rattle.std.proofs.Common.{◌≡◌, ℕ, zero, suc, ◌+◌, ◌-◌, true, false, cond, nat_lt, List, [], ◌∷◌, ◌++◌, drop, length, Option, Some, None, refl, sym, ap, ◌∙◌, arith}
 use Rattle.std.proofs.lemmas.Bool.{lt-ltb}
 use Rattle.std.proofs.lemmas.Bool.Decides.{nat_tests}
 use Rattle.std.specs.Prelude.{slice_get}
 use Rattle.std.specs.declared.cmp.Ordering.{Ordering}
 use Rattle.std.specs.declared.ops.Bound.TheVariants.{Unbounded}
+use Rattle.std.proofs.lemmas.List.{drop_all}
 use Rattle.tree_index.specs.declared.cursor.End.{End}
 use Rattle.tree_index.specs.declared.cursor.End.TheVariants.{Unopened, At, Done}
 use Rattle.tree_index.specs.Cursor.{Cursor, whole, forth, up_to_end, kept_below, kept_above, pair_at, moved_forth, next_back_of, passed_by}
@@ -16,12 +17,6 @@ module _ {X : Type 0} where
   drop_next zero xs = refl
   drop_next (suc n) [] = let e : suc n + 1 ≡ suc (n + 1) = omega arith in rw e refl
   drop_next (suc n) (x ∷ xs) = let e : suc n + 1 ≡ suc (n + 1) = omega arith in rw e (drop_next n xs)
-
-  pub drop_out : (n : ℕ) (xs : List X) → length xs ≤ n → drop n xs ≡ []
-  drop_out zero [] le = refl
-  drop_out zero (x ∷ xs) le = absurd (omega (arith, le))
-  drop_out (suc n) [] le = refl
-  drop_out (suc n) (x ∷ xs) le = drop_out n xs (omega (arith, le))
 
   first_left : (n : ℕ) (xs : List X) → slice_get xs n ≡ slice_get (drop n xs) 0
   first_left zero xs = refl
@@ -51,7 +46,7 @@ module _ {K V : Type 0} (cmp : K → K → Ordering) where
   from_next pairs (At n) h =
       (elim (nat_lt (n + 1) (length pairs)) as (λ b. nat_lt (n + 1) (length pairs) ≡ b → pairs_from pairs (cond b (At (n + 1)) Done) ≡ drop 1 (drop n pairs)) [
         | true ↦ λ b. drop_next n pairs
-        | false ↦ λ b. sym (sym (drop_next n pairs) ∙ drop_out (n + 1) pairs (grind (arith, nat_tests)))
+        | false ↦ λ b. sym (sym (drop_next n pairs) ∙ drop_all (n + 1) pairs (grind (arith, nat_tests)))
       ]) refl
   from_next pairs Done h = refl
 

@@ -2,7 +2,7 @@
 use Rattle.std.proofs.Common.{◌≡◌, ◌⊎◌, inl, inr, ℕ, suc, ◌+◌, ◌-◌, ◌<◌, ◌≤◌, true, false, cond, nat_lt, Option, None, Some, List, [], ◌∷◌, length, refl, sym, ap, ◌∙◌, arith, subst}
 use Rattle.std.proofs.lemmas.Bool.{lt-ltb}
 use Rattle.std.proofs.lemmas.Bool.Decides.{leb_tells}
-use Rattle.std.proofs.lemmas.Option.{get_or_from_slice_get}
+use Rattle.std.proofs.lemmas.Option.{get_or_from_slice_get, slice_get_within}
 use Rattle.std.specs.BTreeMap.Range.{is_past_end}
 use Rattle.std.specs.Cmp.{IsTotalOrder}
 use Rattle.std.specs.Ordering.{is_lt}
@@ -22,7 +22,7 @@ use Rattle.version_views.specs.CursorEnds.{fore_place, further, pairs_before_blo
 use Rattle.version_views.specs.declared.position.CursorEnd.TheVariants as cursor_ends
 use Rattle.version_views.specs.declared.position.Position.{Position}
 use Rattle.version_views.proofs.PlaceLemmas.{next_before, pair_in, place_inside_all}
-use Rattle.version_views.proofs.SeparatorSearchLemmas.{get_some, inside_of}
+use Rattle.version_views.proofs.SeparatorSearchLemmas.{get_some}
 use Rattle.version_views.proofs.ChangeScanLemmas.{above_all, kept_all}
 
 module _ {X : Type 0} (a b : ℕ) (x y : X) where
@@ -39,7 +39,7 @@ pub some_none : {X : Type 0} {x : X} → Some x ≡ None → ⊥
 some_none e = cc
 
 pub block_some : {K V : Type 0} (cmp : K → K → Ordering) (blocks : List (List (K × V))) (i : ℕ) (b : List (K × V)) → AreRising cmp blocks → slice_get blocks i ≡ Some b → 1 ≤ length b
-block_some cmp blocks i b h here = subst (λ ps. 1 ≤ length ps) (get_or_from_slice_get blocks i b b here) (h.some i b (inside_of blocks i b here))
+block_some cmp blocks i b h here = subst (λ ps. 1 ≤ length ps) (get_or_from_slice_get blocks i b b here) (h.some i b (slice_get_within blocks i b here))
 
 module _ {K V : Type 0} (cmp : K → K → Ordering) where
   -- ---- the first pair of a cursor over a block

@@ -73,7 +73,3 @@ pub at_some : {X : Type 0} (n : ℕ) (xs : List X) (x d : X) → n < length xs �
 at_some n [] x d h e = absurd (omega (arith, h))
 at_some zero (y ∷ ys) x d h e = ap Some (sym e)
 at_some (suc n) (y ∷ ys) x d h e = at_some n ys x d (omega (arith, h)) e
-
-pub no_items : {X : Type 0} (xs : List X) → length xs ≡ 0 → xs ≡ []
-no_items [] e = refl
-no_items (x ∷ xs) e = absurd (omega (arith, e))

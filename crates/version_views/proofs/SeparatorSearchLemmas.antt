@@ -8,7 +8,7 @@ use Rattle.std.specs.List.Sorted.{IsStrictlySortedBy}
 use Rattle.std.specs.List.{AllByRecursion}
 use Rattle.std.specs.Map.{keys_of}
 use Rattle.std.specs.Option.{option_map}
-use Rattle.std.proofs.lemmas.Option.{slice_get-map}
+use Rattle.std.proofs.lemmas.Option.{slice_get-map, slice_get_within}
 use Rattle.std.proofs.lemmas.Map.Keys.{sorted_head}
 use Rattle.leaf_array.specs.Pairs.{IsAscending}
 use Rattle.tree_index.specs.Shape.{AllKeys}
@@ -29,11 +29,6 @@ pub get_some : {X : Type 0} (xs : List X) (i : ℕ) → i < length xs → (x : X
 get_some [] i h = absurd (omega (arith, h))
 get_some (x ∷ xs) zero h = (x, refl)
 get_some (x ∷ xs) (suc i) h = get_some xs i (omega (arith, h))
-
-pub inside_of : {X : Type 0} (xs : List X) (i : ℕ) (x : X) → slice_get xs i ≡ Some x → i < length xs
-inside_of [] i x e = absurd (cc)
-inside_of (y ∷ xs) zero x e = omega arith
-inside_of (y ∷ xs) (suc i) x e = let r = inside_of xs i x e in omega (arith, r)
 
 pub got_mapped : {X Y : Type 0} (f : X → Y) (xs : List X) (i : ℕ) (d : X) → i < length xs → slice_get (map f xs) i ≡ Some (f (get_or xs i d))
 got_mapped f [] i d h = absurd (omega (arith, h))
@@ -136,7 +131,7 @@ module _ {K V : Type 0} where
       pub front_below : (place : ℕ) (b : List (K × V)) → IsPlaceOf cmp key keys place → slice_get blocks place ≡ Some b → AllKeys (λ k. cmp k key ≡ Less) (pairs_in (take place blocks))
       front_below zero b at here = tt
       front_below (suc j) b at here =
-          let inside = inside_of blocks (suc j) b here in
+          let inside = slice_get_within blocks (suc j) b here in
           let e = ends_in j (omega (arith, inside)) in
           let is : pairs_in (take (suc j) blocks) ≡ (pairs_in (take j blocks) ++ e.2) ++ e.1 ∷ [] = up_to_block blocks j e.0 e.3 ∙ ap (λ c. pairs_in (take j blocks) ++ c) e.5 ∙ sym (append_assoc (pairs_in (take j blocks)) e.2 (e.1 ∷ [])) in
           let whole = around_block blocks (suc j) b here in

@@ -1,14 +1,10 @@
 -- segments of a directory, by their places
 use Rattle.std.proofs.Common.{◌≡◌, ℕ, zero, suc, ◌<◌, Some, List, [], ◌∷◌, length, map, get_or, slice_get, refl, sym, ap, ◌∙◌, arith}
 use Rattle.std.proofs.lemmas.List.{length-map}
+use Rattle.std.proofs.lemmas.Option.{slice_get-get_or}
 use Rattle.sdd_table.specs.Tokens.{kept_slot}
 use Rattle.sdd_table.specs.declared.owner.Kept.{Kept}
 use Rattle.tree_index.proofs.WayLemmas.{some_same}
-
-pub slice_of : {X : Type 0} (xs : List X) (i : ℕ) (d : X) → i < length xs → slice_get xs i ≡ Some (get_or xs i d)
-slice_of [] i d h = absurd (omega (arith, h))
-slice_of (x ∷ xs) zero d h = refl
-slice_of (x ∷ xs) (suc i) d h = slice_of xs i d (omega (arith, h))
 
 pub slice_map : {X Y : Type 0} (f : X → Y) (xs : List X) (i : ℕ) (x : X) → slice_get xs i ≡ Some x → slice_get (map f xs) i ≡ Some (f x)
 slice_map f [] i x e = absurd (cc)
@@ -25,5 +21,5 @@ module _ (ks : List Kept) (k : Kept) (place : ℕ) (is : k ≡ get_or ks place k
   pub block_at : {X : Type 0} (f : ℕ → X) → slice_get (map f (map kept_slot ks)) place ≡ Some (f (kept_slot k))
   block_at f =
       let size = length-map ks kept_slot in
-      let here : slice_get ks place ≡ Some k = slice_of ks place k (omega (arith, size, h)) ∙ sym (ap (λ x. Some x) is) in
+      let here : slice_get ks place ≡ Some k = slice_get-get_or ks place k (omega (arith, size, h)) ∙ sym (ap (λ x. Some x) is) in
       slice_map f (map kept_slot ks) place (kept_slot k) (slice_map kept_slot ks place k here)

@@ -1,5 +1,6 @@
 use Rattle.std.proofs.Common.{◌++◌, ◌∷◌, [], arith, length-append}
-use Rattle.index_script.proofs.ByteLemmas.{Appends-same, Feeds-line, Feeds-part, Feeds-breaks, Feeds-stops, regroup}
+use Rattle.std.proofs.KnownBytes.{Appends-nil}
+use Rattle.index_script.proofs.ByteLemmas.{Feeds-line, Feeds-part, Feeds-breaks, Feeds-stops, regroup}
 use Rattle.index_script.proofs.run.feed.Goals as goal
 
 pub returns-in-Err-clause-write : goal.returns-in-Err-clause-write
@@ -35,4 +36,4 @@ returns-clause-ok g c =
 pub returns-in_default-extend-clause-memory : goal.returns-in_default-extend-clause-memory
 returns-in_default-extend-clause-memory g c = λ e.
     let i = c.lines.invariant in
-    Feeds-stops _ c.args.script.now c.lines.script c.args.begun.now c.lines.begun _ (g.W.Write.contents c.lines.writer) _ c.args.piece.now i.0 _ i.3 i.1 (Appends-same _)
+    Feeds-stops _ c.args.script.now c.lines.script c.args.begun.now c.lines.begun _ (g.W.Write.contents c.lines.writer) _ c.args.piece.now i.0 _ i.3 i.1 (Appends-nil _)

@@ -1,6 +1,7 @@
 use Rattle.std.proofs.Common.{[], take, subst, rules}
 use Rattle.std.specs.Io.KnownBytes.{Consumes}
-use Rattle.index_script.proofs.ByteLemmas.{on_ok, serves-ends, serves-falters, serves-piece, serves-breaks, serves-runs_out}
+use Rattle.std.proofs.lemmas.Result.{on_ok_weaker}
+use Rattle.index_script.proofs.ByteLemmas.{serves-ends, serves-falters, serves-piece, serves-breaks, serves-runs_out}
 use Rattle.index_script.proofs.run.serve.Goals as goal
 
 pub returns-then-count-eq0-clause-done : goal.returns-then-count-eq0-clause-done
@@ -9,7 +10,7 @@ returns-then-count-eq0-clause-done g c =
     let read = c.in-Ok-read.ensures.bytes in
     let none : Consumes (g.R.Read.remaining c.loop-read.reader) (g.R.Read.remaining c.read.new.self) [] =
     subst (λ n. Consumes (g.R.Read.remaining c.loop-read.reader) (g.R.Read.remaining c.read.new.self) (take n c.read.new.buf)) c.if-count-eq0.true read.0 in
-    on_ok c.finish.result
+    on_ok_weaker c.finish.result
     (serves-ends _ c.args.script.now c.loop-read.script _ (g.R.Read.remaining c.loop-read.reader) _ _ (g.W.Write.contents c.loop-read.writer) c.loop-read.begun i.served _ _ none (read.1 c.if-count-eq0.true (search rules)))
     c.finish.ensures.ok
 

@@ -1,8 +1,8 @@
 use Rattle.std.proofs.Common.{◌≡◌, ◌∷◌, [], ◌++◌, length, ap, ◌∙◌, sym, subst, arith, append_assoc, append-nil}
 use Rattle.std.specs.Vec.Iter.{into_iter_items}
+use Rattle.std.proofs.lemmas.List.{nil_from_length}
 use Rattle.local_index.specs.Desk.{Run}
 use Rattle.local_index.proofs.DeskLemmas.{stopped, played-more}
-use Rattle.version_views.proofs.OptionLemmas.{no_items}
 use Rattle.local_index.proofs.play.play_all.Goals as goal
 
 pub returns-in_default-clause-stopped : goal.returns-in_default-clause-stopped
@@ -36,5 +36,5 @@ pub returns-clause-run : goal.returns-clause-run
 returns-clause-run g c =
     let i = c.loop-call.invariant in
     let step = rw c.in-None.is at c.next.ensures.steps in
-    let rest : into_iter_items c.loop-call.call-iterator ≡ [] = no_items _ (omega (arith, step.0, i.counted)) in
+    let rest : into_iter_items c.loop-call.call-iterator ≡ [] = nil_from_length _ (omega (arith, step.0, i.counted)) in
     subst (λ cs. Run g.K.Ord.cmp g.row.S (record { index = c.args.index.now; desk = c.args.desk.now }) cs c.loop-call.replies.items (record { index = c.loop-call.index; desk = c.loop-call.desk })) (sym (append-nil c.loop-call.yielded) ∙ ap (λ r. c.loop-call.yielded ++ r) (sym rest) ∙ i.whole) i.played

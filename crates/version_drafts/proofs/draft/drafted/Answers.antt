@@ -1,5 +1,5 @@
 use Rattle.std.proofs.Common.{◌≡◌, ◌≤◌, ◌+◌, ◌++◌, ◌∷◌, [], append_assoc, append-nil, drop, length, sym, ap, ◌∙◌, subst, arith}
-use Rattle.std.proofs.lemmas.List.{drop_more}
+use Rattle.std.proofs.lemmas.List.{drop_more, drop_all}
 use Rattle.std.specs.List.{All}
 use Rattle.std.proofs.lemmas.List.Elements.{All-nil}
 use Rattle.version_drafts.specs.Changes.{apply_delta, changed}
@@ -7,7 +7,6 @@ use Rattle.version_drafts.specs.Gone.{IsSpan, without_gone}
 use Rattle.version_drafts.proofs.RangeLemmas.{without_none}
 use Rattle.version_views.specs.Cuts.{pairs_in}
 use Rattle.version_views.specs.Writes.{after_writes, replies_to, reply_to}
-use Rattle.version_views.proofs.ChangeScanLemmas.{drop_out}
 use Rattle.version_drafts.proofs.draft.drafted.Goals as goal
 
 pub loop-write-init : goal.loop-write-init
@@ -52,7 +51,7 @@ returns-clause-list g c =
     let cmp = g.K.Ord.cmp in
     let now = changed cmp c.loop-write.changes (pairs_in c.args.old.now) in
     let all : length c.args.writes.now ≤ c.loop-write.write-index = omega (arith, c.loop-write-test.false) in
-    c.in_ok-segments.ensures.list ∙ (sym (ap (λ ws. after_writes cmp ws now) (drop_out c.loop-write.write-index c.args.writes.now all)) ∙ c.loop-write.invariant.list)
+    c.in_ok-segments.ensures.list ∙ (sym (ap (λ ws. after_writes cmp ws now) (drop_all c.loop-write.write-index c.args.writes.now all)) ∙ c.loop-write.invariant.list)
 
 pub returns-clause-few : goal.returns-clause-few
 returns-clause-few g c =
@@ -68,7 +67,7 @@ returns-clause-replies g c =
     let now = changed cmp c.loop-write.changes (pairs_in c.args.old.now) in
     let told = c.loop-write.replies.items in
     let all : length c.args.writes.now ≤ c.loop-write.write-index = omega (arith, c.loop-write-test.false) in
-    sym (ap (λ ws. told ++ replies_to cmp ws now) (drop_out c.loop-write.write-index c.args.writes.now all) ∙ append-nil told) ∙ c.loop-write.invariant.replies
+    sym (ap (λ ws. told ++ replies_to cmp ws now) (drop_all c.loop-write.write-index c.args.writes.now all) ∙ append-nil told) ∙ c.loop-write.invariant.replies
 
 pub apply-requires-clause-keys : goal.apply-requires-clause-keys
 apply-requires-clause-keys g c = c.requires.keys

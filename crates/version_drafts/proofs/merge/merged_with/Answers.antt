@@ -1,5 +1,6 @@
 use Rattle.std.proofs.Common.{◌*◌, ◌+◌, false, not, length, sym, ap, ◌∙◌, ◌++◌, subst, arith}
 use Rattle.std.proofs.lemmas.Bool.{false≢true}
+use Rattle.std.proofs.lemmas.List.{drop_all}
 use Rattle.leaf_array.specs.Pairs.{IsAscending}
 use Rattle.version_drafts.specs.Changes.{apply_delta}
 use Rattle.version_views.specs.Cuts.{pairs_in}
@@ -9,7 +10,6 @@ use Rattle.version_drafts.proofs.DeltaLemmas.{rising_amended}
 use Rattle.version_views.proofs.FilterLemmas.{rising_kept}
 use Rattle.version_drafts.proofs.GapLemmas.{turns_gone}
 use Rattle.version_drafts.proofs.MergeLemmas.{trees_behind}
-use Rattle.version_views.proofs.ChangeScanLemmas.{drop_out}
 use Rattle.version_drafts.proofs.merge.merged_with.Goals as goal
 
 pub loop-place-init : goal.loop-place-init
@@ -62,7 +62,7 @@ put_all-requires-clause-rising g c =
     let blocks = c.args.old.now in
     let gone = c.args.gone.now in
     let i = c.loop-place.invariant in
-    let none = drop_out c.loop-place.place blocks (omega (arith, c.segment_count-count.ensures, c.loop-place-test.false)) in
+    let none = drop_all c.loop-place.place blocks (omega (arith, c.segment_count-count.ensures, c.loop-place-test.false)) in
     let given' = given_pairs c.args.old.now c.loop-place.out in
     let all = sym (ap (λ bs. given' ++ apply_delta cmp c.loop-place.left (without_gone cmp gone (pairs_in bs))) none) ∙ i.list in
     let up = rising_amended g.met.K.Ord.total c.args.edits.now (without_gone cmp gone (pairs_in blocks)) c.len.ensures.rising (rising_kept cmp (λ k. not (is_gone cmp gone k)) (pairs_in blocks) c.requires.whole.rising) in
@@ -73,7 +73,7 @@ returns-clause-list g c =
     let cmp = g.K.Ord.cmp in
     let blocks = c.args.old.now in
     let i = c.loop-place.invariant in
-    let none = drop_out c.loop-place.place blocks (omega (arith, c.segment_count-count.ensures, c.loop-place-test.false)) in
+    let none = drop_all c.loop-place.place blocks (omega (arith, c.segment_count-count.ensures, c.loop-place-test.false)) in
     let given' = given_pairs c.args.old.now c.loop-place.out in
     let all = sym (ap (λ bs. given' ++ apply_delta cmp c.loop-place.left (without_gone cmp c.args.gone.now (pairs_in bs))) none) ∙ i.list in
     c.in_ok-segments.ensures.list ∙ (c.in_ok-put_all.ensures.list ∙ all)
@@ -129,7 +129,7 @@ pass-requires-clause-counted g c = c.loop-place.invariant.counted
 pub finish-requires-clause-counted : goal.finish-requires-clause-counted
 finish-requires-clause-counted g c =
     let blocks = c.args.old.now in
-    let none = drop_out c.loop-place.place blocks (omega (arith, c.segment_count-count.ensures, c.loop-place-test.false)) in
+    let none = drop_all c.loop-place.place blocks (omega (arith, c.segment_count-count.ensures, c.loop-place-test.false)) in
     let ahead' = ap (λ bs. length (pairs_in bs)) none in
     omega (arith, c.loop-place.invariant.counted, c.in_ok-put_all.ensures.counted, ahead')
 

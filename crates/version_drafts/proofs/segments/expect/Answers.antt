@@ -1,5 +1,5 @@
 use Rattle.std.proofs.Common.{rules, refl, sym, ◌∙◌}
-use Rattle.version_drafts.proofs.CuttingLemmas.{empty_of}
+use Rattle.std.proofs.lemmas.List.{nil_from_length}
 use Rattle.version_drafts.proofs.segments.expect.Goals as goal
 
 pub returns-in_ok-out-clause-row : goal.returns-in_ok-out-clause-row
@@ -13,7 +13,7 @@ returns-in_ok-out-clause-length g c = refl
 
 -- the tree that is begun is as empty as the one that was open
 pub returns-in_ok-out-clause-tail : goal.returns-in_ok-out-clause-tail
-returns-in_ok-out-clause-tail g c = c.in_ok-out.ensures ∙ sym (empty_of c.args.out.now.tail.pairs (search rules))
+returns-in_ok-out-clause-tail g c = c.in_ok-out.ensures ∙ sym (nil_from_length c.args.out.now.tail.pairs (search rules))
 
 pub returns-else-pairs-gt0-clause-row : goal.returns-else-pairs-gt0-clause-row
 returns-else-pairs-gt0-clause-row g c = refl

@@ -1,9 +1,9 @@
 use Rattle.std.proofs.Common.{◌++◌, inr, length, sym, ap, ◌∙◌, subst, arith}
 use Rattle.std.proofs.lemmas.List.{length-append}
+use Rattle.std.proofs.lemmas.Option.{slice_get_within}
 use Rattle.leaf_array.specs.Pairs.{IsAscending}
 use Rattle.tree_index.proofs.WayLemmas.{some_same}
 use Rattle.version_drafts.proofs.CuttingLemmas.{closing_apart, closing_fresh, closing_joined, given_joined, held_at, held_rising, held_size, made_joined}
-use Rattle.version_views.proofs.SeparatorSearchLemmas.{inside_of}
 use Rattle.version_drafts.proofs.segments.join.Goals as goal
 
 pub returns-in-None-clause-closing : goal.returns-in-None-clause-closing
@@ -17,7 +17,7 @@ returns-then-len-out-clause-closing g c =
     closing_apart c.requires.whole c.requires.some (inr (omega (arith, more, size, room)))
 
 pub segment-requires : goal.segment-requires
-segment-requires g c = inside_of c.args.old.now c.in-Some.place _ (held_at c.requires.whole c.in-Some.place c.in-Some.is).there
+segment-requires g c = slice_get_within c.args.old.now c.in-Some.place _ (held_at c.requires.whole c.in-Some.place c.in-Some.is).there
 
 pub absorb-requires-clause-rising : goal.absorb-requires-clause-rising
 absorb-requires-clause-rising g c =

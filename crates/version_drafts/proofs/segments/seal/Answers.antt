@@ -1,10 +1,11 @@
 use Rattle.std.proofs.Common.{◌≡◌, ◌++◌, ◌<◌, ◌==◌, false, length, refl, sym, ap, ◌∙◌, arith, append-nil}
 use Rattle.std.proofs.lemmas.Bool.{eqb-true}
 use Rattle.std.proofs.lemmas.Bool.Decides.{nat_tests}
+use Rattle.std.proofs.lemmas.List.{nil_from_length}
 use Rattle.version_views.specs.Cuts.{pairs_in}
 use Rattle.version_drafts.specs.Parts.{blocks_of_parts}
 use Rattle.version_drafts.specs.declared.segments.Part.TheVariants as parts
-use Rattle.version_drafts.proofs.CuttingLemmas.{empty_of, made_closed, open_none, open_one, pairs_closed, row_closed}
+use Rattle.version_drafts.proofs.CuttingLemmas.{made_closed, open_none, open_one, pairs_closed, row_closed}
 use Rattle.version_drafts.proofs.segments.seal.Goals as goal
 
 pub returns-then-is_empty-clause-row : goal.returns-then-is_empty-clause-row
@@ -12,7 +13,7 @@ returns-then-is_empty-clause-row g c = c.requires.whole.row
 
 pub returns-then-is_empty-clause-pairs : goal.returns-then-is_empty-clause-pairs
 returns-then-is_empty-clause-pairs g c =
-    let none = empty_of c.args.out.now.tail.pairs (eqb-true (length c.args.out.now.tail.pairs) 0 (sym c.is_empty.ensures ∙ c.if-is_empty.true)) in
+    let none = nil_from_length c.args.out.now.tail.pairs (eqb-true (length c.args.out.now.tail.pairs) 0 (sym c.is_empty.ensures ∙ c.if-is_empty.true)) in
     let front = pairs_in (blocks_of_parts c.args.old.now c.args.out.now.row.parts.items) in
     sym (append-nil front) ∙ ap (λ ps. front ++ ps) (sym none)
 
@@ -25,7 +26,7 @@ pub returns-then-is_empty-clause-last : goal.returns-then-is_empty-clause-last
 returns-then-is_empty-clause-last g c = λ some. let none = eqb-true (length c.args.out.now.tail.pairs) 0 (sym c.is_empty.ensures ∙ c.if-is_empty.true) in absurd (omega (arith, none, some))
 
 pub returns-then-is_empty-clause-tail : goal.returns-then-is_empty-clause-tail
-returns-then-is_empty-clause-tail g c = empty_of c.args.out.now.tail.pairs (eqb-true (length c.args.out.now.tail.pairs) 0 (sym c.is_empty.ensures ∙ c.if-is_empty.true))
+returns-then-is_empty-clause-tail g c = nil_from_length c.args.out.now.tail.pairs (eqb-true (length c.args.out.now.tail.pairs) 0 (sym c.is_empty.ensures ∙ c.if-is_empty.true))
 
 pub join-requires-clause-some : goal.join-requires-clause-some
 join-requires-clause-some g c =

@@ -1,14 +1,14 @@
 use Rattle.std.proofs.Common.{◌≡◌, ◌+◌, ◌<◌, ◌++◌, ◌∷◌, [], nat_lt, true, refl, sym, ◌∙◌, arith}
 use Rattle.std.proofs.lemmas.Bool.Decides.{nat_tests}
+use Rattle.std.proofs.lemmas.List.{same_from_push}
 use Rattle.version_drafts.specs.Parts.{stretch_of}
 use Rattle.version_drafts.specs.declared.segments.Part.TheVariants as parts
-use Rattle.version_drafts.proofs.PartLemmas.{ends_same}
 use Rattle.version_drafts.proofs.segments.shorten.Goals as goal
 
 pub unreachable-requires : goal.unreachable-requires
 unreachable-requires g c =
     let e = c.requires in
-    let t = ends_same c.pop.new.self.items e.0 c.in-Some-Made.field-0 (parts.Taken e.1 (c.args.place + 1)) (sym c.in-Some-Made.ensures.items ∙ e.2) in
+    let t = same_from_push c.pop.new.self.items e.0 c.in-Some-Made.field-0 (parts.Taken e.1 (c.args.place + 1)) (sym c.in-Some-Made.ensures.items ∙ e.2) in
     let other : parts.Made c.in-Some-Made.field-0-0 ≡ parts.Taken e.1 (c.args.place + 1) = sym c.in-Some-Made.field-0-is ∙ t.1 in
     cc
 
@@ -16,7 +16,7 @@ pub returns : goal.returns
 returns g c = λ front from e.
     let taken = c.in-Some-Taken in
     let place = c.args.place in
-    let t = ends_same c.pop.new.self.items front taken.field-0 (parts.Taken from (place + 1)) (sym taken.ensures.items ∙ e) in
+    let t = same_from_push c.pop.new.self.items front taken.field-0 (parts.Taken from (place + 1)) (sym taken.ensures.items ∙ e) in
     let one : parts.Taken taken.from taken.field-0-1 ≡ parts.Taken from (place + 1) = sym taken.field-0-is ∙ t.1 in
     let begins : taken.from ≡ from = cc in
     let less : from < place = omega (arith, c.if-from-place.false, begins) in

@@ -1,7 +1,6 @@
-use Rattle.std.proofs.Common.{◌≡◌, ◌≤◌, ◌+◌, ◌++◌, ◌∷◌, [], append_assoc, append-nil, drop, length, sym, ap, ◌∙◌, arith}
-use Rattle.std.proofs.lemmas.List.{drop_more}
+use Rattle.std.proofs.Common.{◌≤◌, ◌+◌, ◌++◌, ◌∷◌, [], append_assoc, append-nil, drop, length, sym, ap, ◌∙◌, arith}
+use Rattle.std.proofs.lemmas.List.{drop_more, drop_all}
 use Rattle.version_views.specs.Writes.{after_writes, replies_to, reply_to}
-use Rattle.version_views.proofs.ChangeScanLemmas.{drop_out}
 use Rattle.version_views.proofs.plain.applied.Goals as goal
 
 pub apply-requires-clause-keys : goal.apply-requires-clause-keys
@@ -37,7 +36,7 @@ returns-clause-list g c =
     let cmp = g.K.Ord.cmp in
     let now = c.loop-write.list.items in
     let all : length c.args.writes.now ≤ c.loop-write.write-index = omega (arith, c.loop-write-test.false) in
-    sym (ap (λ ws. after_writes cmp ws now) (drop_out c.loop-write.write-index c.args.writes.now all)) ∙ c.loop-write.invariant.list
+    sym (ap (λ ws. after_writes cmp ws now) (drop_all c.loop-write.write-index c.args.writes.now all)) ∙ c.loop-write.invariant.list
 
 pub returns-clause-replies : goal.returns-clause-replies
 returns-clause-replies g c =
@@ -45,7 +44,7 @@ returns-clause-replies g c =
     let now = c.loop-write.list.items in
     let told = c.loop-write.replies.items in
     let all : length c.args.writes.now ≤ c.loop-write.write-index = omega (arith, c.loop-write-test.false) in
-    sym (ap (λ ws. told ++ replies_to cmp ws now) (drop_out c.loop-write.write-index c.args.writes.now all) ∙ append-nil told) ∙ c.loop-write.invariant.replies
+    sym (ap (λ ws. told ++ replies_to cmp ws now) (drop_all c.loop-write.write-index c.args.writes.now all) ∙ append-nil told) ∙ c.loop-write.invariant.replies
 
 pub loop-write-init : goal.loop-write-init
 loop-write-init g c =

@@ -1,12 +1,13 @@
 use Rattle.std.proofs.Common.{◌≡◌, ◌-◌, ◌≤◌, ◌<◌, sym, ap, ◌∙◌, refl, subst, arith}
 use Rattle.std.proofs.lemmas.Option.{IfSome_then}
+use Rattle.std.proofs.lemmas.Result.{on_ok_weaker}
 use Rattle.slab.specs.Slab.{get, HasRoomFor, Slab}
 use Rattle.tree_nodes.specs.declared.leaf.Leaf.{Leaf}
 use Rattle.tree_nodes.proofs.NodeLemmas.{roomier_sound, roomier_ascents, roomier_pairs, roomier_full}
 use Rattle.tree_nodes.specs.declared.arenas.Arenas.{Arenas}
 use Rattle.tree_nodes.specs.Content.{pairs_of, IsLeafFull, leaf_on_way}
 use Rattle.tree_nodes.specs.Depth.{IsAbove, ascending_headroom}
-use Rattle.tree_nodes.proofs.DepthLemmas.{flat_node, on_err, on_ok}
+use Rattle.tree_nodes.proofs.DepthLemmas.{flat_node, on_err}
 use Rattle.tree_nodes.proofs.RoomierLemmas.{crowded_are_as_many, sparse_are_fewer, roomier_split, roomier_way}
 use Rattle.tree_nodes.proofs.arenas.Arenas.make_room.Goals as goal
 
@@ -65,7 +66,7 @@ pub split_leaf-requires-clause-room : goal.split_leaf-requires-clause-room
 split_leaf-requires-clause-room g c = subst (λ (s : Slab (Leaf g.row.K.Denot g.row.V.Denot)). HasRoomFor s 1) (sym c.open_node.ensures.leaves) c.in_ok-reserve.ensures.room
 
 pub returns-then-self-eq0-clause-ascending : goal.returns-then-self-eq0-clause-ascending
-returns-then-self-eq0-clause-ascending g c = on_ok c.init_root.result (λ more above some. more) c.init_root.ensures.ascending
+returns-then-self-eq0-clause-ascending g c = on_ok_weaker c.init_root.result (λ more above some. more) c.init_root.ensures.ascending
 
 pub split_leaf-requires-clause-parent : goal.split_leaf-requires-clause-parent
 split_leaf-requires-clause-parent g c = c.in_ok-above.ensures.room

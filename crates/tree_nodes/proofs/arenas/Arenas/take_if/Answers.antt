@@ -4,12 +4,13 @@ use Rattle.std.specs.Map.{lookup_entry}
 use Rattle.slab.specs.Slab.{get}
 use Rattle.leaf_array.specs.Cells.{Cells}
 use Rattle.std.specs.Option.{option_map}
+use Rattle.std.proofs.lemmas.List.{nil_from_length}
 use Rattle.leaf_array.specs.Edits.{removed}
 use Rattle.tree_nodes.specs.Shape.{leaf_pairs}
 use Rattle.tree_nodes.specs.Content.{leaf_on_way}
 use Rattle.tree_nodes.specs.Walk.{pairs_in_leaf}
 use Rattle.tree_nodes.specs.declared.arenas.Arenas.{Arenas}
-use Rattle.tree_nodes.proofs.PruneLemmas.{each_some, no_pairs}
+use Rattle.tree_nodes.proofs.PruneLemmas.{each_some}
 use Rattle.tree_nodes.specs.declared.leaf.Leaf.{Leaf}
 use Rattle.tree_nodes.proofs.ArenaLemmas.{IsOnWay, Rewritten, with_leaf, written_there, thawed_on_way, leaf_counted, taken_of, taken_written, removed_length, still_sound, kept_written, removed_written, lookup_written, none_sound, bare_pairs}
 use Rattle.tree_nodes.proofs.arenas.Arenas.take_if.Given.{Over}
@@ -90,5 +91,5 @@ returns-in-Some-clause-emptied g c =
     let new : Arenas g.row.K.Denot g.row.V.Denot = with_leaf c.args.self.now n (m g at) (len g at) in
     let there = written_there (there g at) (m g at) (len g at) (w g at) in
     each_some (λ (k : ℕ). (k ≡ n) × (c.len-after.result ≡ 0)) (λ (k : ℕ). (k ≡ leaf_on_way g.K.Ord.cmp c.args.key.now new) × (pairs_in_leaf new k ≡ [])) c.emptied.result
-    (λ k e. (e.0 ∙ c.leaf_of-at.ensures ∙ sym way, ap (pairs_in_leaf new) (e.0 ∙ c.leaf_of-at.ensures) ∙ ap leaf_pairs (ap (option_map (λ (x : Leaf g.row.K.Denot g.row.V.Denot). x.array)) (ap (get new.leaves) (sym way) ∙ there)) ∙ no_pairs (m g at).array.pairs (sym c.len-after.ensures.count ∙ e.1)))
+    (λ k e. (e.0 ∙ c.leaf_of-at.ensures ∙ sym way, ap (pairs_in_leaf new) (e.0 ∙ c.leaf_of-at.ensures) ∙ ap leaf_pairs (ap (option_map (λ (x : Leaf g.row.K.Denot g.row.V.Denot). x.array)) (ap (get new.leaves) (sym way) ∙ there)) ∙ nil_from_length (m g at).array.pairs (sym c.len-after.ensures.count ∙ e.1)))
     c.emptied.ensures

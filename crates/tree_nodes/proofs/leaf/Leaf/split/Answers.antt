@@ -1,8 +1,8 @@
 use Rattle.std.proofs.Common.{length, take, drop, cond, sym, ap, ◌∙◌, arith}
 use Rattle.std.proofs.Math.Seq.{take-length}
+use Rattle.std.proofs.lemmas.List.{drop_all}
 use Rattle.leaf_array.specs.Cells.{Cells}
 use Rattle.tree_nodes.specs.declared.leaf.Leaf.{Leaf}
-use Rattle.tree_nodes.proofs.EqualLemmas.{drop_all}
 use Rattle.tree_nodes.proofs.leaf.Leaf.split.Goals.{then-whole, else-whole}
 use Rattle.tree_nodes.proofs.leaf.Leaf.split.Goals as goal
 

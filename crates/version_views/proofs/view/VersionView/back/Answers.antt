@@ -1,12 +1,12 @@
 use Rattle.std.proofs.Common.{◌≡◌, ◌+◌, ◌-◌, ◌<◌, length, sym, ap, ◌∙◌, arith, subst}
 use Rattle.std.specs.Borrow.{Bor}
 use Rattle.std.specs.Range.Bound.{bound_map}
+use Rattle.std.proofs.lemmas.Option.{slice_get_within}
 use Rattle.tree_index.specs.Cursor.{back, deref_pair}
 use Rattle.tree_index.specs.declared.cursor.End.TheVariants.{At, Done}
 use Rattle.version_views.specs.Cuts.{pairs_in}
 use Rattle.version_views.specs.CursorEnds.{pairs_before_block, rear_place, StandsRear}
 use Rattle.version_views.proofs.CursorEndLemmas.{leaves_rear, on_less, on_more, rear_pair, stays_rear, IsRearStep}
-use Rattle.version_views.proofs.SeparatorSearchLemmas.{inside_of}
 use Rattle.version_views.proofs.view.VersionView.back.Goals as goal
 
 -- the step stays in its segment
@@ -31,7 +31,7 @@ pub last_before-requires-clause-within : goal.last_before-requires-clause-within
 last_before-requires-clause-within g c =
     let blocks = c.args.self.now in
     let stood = subst (StandsRear blocks) c.in-At.is c.requires.stands in
-    subst (λ i. i < length blocks) (sym c.step_back.ensures.segment) (inside_of blocks c.in-At.position.segment c.in-At.position.cursor.pairs stood.here)
+    subst (λ i. i < length blocks) (sym c.step_back.ensures.segment) (slice_get_within blocks c.in-At.position.segment c.in-At.position.cursor.pairs stood.here)
 
 pub returns-in-Some-last_before-clause-place : goal.returns-in-Some-last_before-clause-place
 returns-in-Some-last_before-clause-place g c =

@@ -1,12 +1,12 @@
 use Rattle.std.proofs.Common.{◌<◌, cond, length, nat_lt, sym, ap, ◌∙◌, subst}
 use Rattle.std.specs.Borrow.{Bor}
 use Rattle.std.specs.Range.Bound.{bound_map}
+use Rattle.std.proofs.lemmas.Option.{slice_get_within}
 use Rattle.tree_index.specs.Cursor.{forth, deref_pair}
 use Rattle.tree_index.specs.declared.cursor.End.TheVariants.{At, Done}
 use Rattle.version_views.specs.Cuts.{pairs_in}
 use Rattle.version_views.specs.CursorEnds.{fore_place, StandsFore}
 use Rattle.version_views.proofs.CursorEndLemmas.{fore_pair, leaves_fore, stays_fore, IsForeStep}
-use Rattle.version_views.proofs.SeparatorSearchLemmas.{inside_of}
 use Rattle.version_views.proofs.view.VersionView.forth.Goals as goal
 
 -- the step stays in its segment
@@ -31,7 +31,7 @@ pub onward-requires-clause-within : goal.onward-requires-clause-within
 onward-requires-clause-within g c =
     let blocks = c.args.self.now in
     let stood = subst (StandsFore blocks) c.in-At.is c.requires.stands in
-    subst (λ i. i < length blocks) (sym c.step.ensures.segment) (inside_of blocks c.in-At.position.segment c.in-At.position.cursor.pairs stood.here)
+    subst (λ i. i < length blocks) (sym c.step.ensures.segment) (slice_get_within blocks c.in-At.position.segment c.in-At.position.cursor.pairs stood.here)
 
 -- the step leaves its segment
 pub returns-in_default-clause-place : goal.returns-in_default-clause-place

@@ -1,10 +1,10 @@
 use Rattle.std.proofs.Common.{◌≡◌, ◌+◌, length, sym, ap, ◌∙◌, arith, subst}
+use Rattle.std.proofs.lemmas.Option.{slice_get_within}
 use Rattle.tree_index.specs.Cursor.{pair_at}
 use Rattle.tree_index.specs.declared.cursor.End.TheVariants.{At, Done}
 use Rattle.version_views.specs.Cuts.{pairs_in}
 use Rattle.version_views.specs.CursorEnds.{pairs_before_block, FoundFore}
 use Rattle.version_views.proofs.CursorEndLemmas.{on_less, on_more}
-use Rattle.version_views.proofs.SeparatorSearchLemmas.{inside_of}
 use Rattle.version_views.proofs.view.VersionView.onward.Goals as goal
 
 -- what was found in the copy of the version
@@ -22,7 +22,7 @@ returns-in-Some-clause-place g c =
     let found = found_of g c in
     let pairs = pairs_in c.args.self.now in
     let n = pairs_before_block c.args.self.now (c.args.segment + 1) in
-    found.0.place ∙ sym (on_less n (length pairs) (At n) Done (inside_of pairs n _ found.1))
+    found.0.place ∙ sym (on_less n (length pairs) (At n) Done (slice_get_within pairs n _ found.1))
 
 pub returns-in-Some-clause-pair : goal.returns-in-Some-clause-pair
 returns-in-Some-clause-pair g c =

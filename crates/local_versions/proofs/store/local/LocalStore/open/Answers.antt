@@ -6,8 +6,8 @@ use Rattle.sdd_world.specs.Tokens.{shared_cell}
 use Rattle.version_views.specs.Items.{held_by}
 use Rattle.std.specs.List.{slice_get}
 use Rattle.std.specs.List.{All}
+use Rattle.std.proofs.lemmas.List.{nil_from_length}
 use Rattle.local_versions.specs.Store.{IsReader, Store, read_by, store_of}
-use Rattle.version_views.proofs.OptionLemmas.{no_items}
 use Rattle.version_views.proofs.OptionLemmas.{all_mapped, none_read}
 use Rattle.local_versions.proofs.FreePlaceLemmas.{all_taken, stack_taken, taken_free}
 use Rattle.local_versions.proofs.StoreLemmas.{opened_cell, opened_shows, opened_used, reader_free, store_opened}
@@ -74,4 +74,4 @@ returns-clause-free g c =
     sym (ap (λ (x : Store _ _). slice_get x.readers c.in-Some.place) c.self.view_is) ∙ none_read (read_by c.self.inside.world) c.self.inside.readers.items c.in-Some.place free.0 free.1
 
 pub returns-in_default-clause-full : goal.returns-in_default-clause-full
-returns-in_default-clause-full g c = subst (λ (x : Store _ _). All IsSome x.readers) c.self.view_is (all_mapped (read_by c.self.inside.world) c.self.inside.readers.items (all_taken c.self.inside.readers.items c.self.inside.free c.self.invariant.1 (no_items c.self.inside.free.items (omega (arith, c.in_default.ensures.cases.0, c.self.inside.free.ok.0)))))
+returns-in_default-clause-full g c = subst (λ (x : Store _ _). All IsSome x.readers) c.self.view_is (all_mapped (read_by c.self.inside.world) c.self.inside.readers.items (all_taken c.self.inside.readers.items c.self.inside.free c.self.invariant.1 (nil_from_length c.self.inside.free.items (omega (arith, c.in_default.ensures.cases.0, c.self.inside.free.ok.0)))))
