@@ -23,14 +23,14 @@ module _ {K V : Type 0} (cmp : K → K → Ordering) where
   abbrev pub inserted : K → V → List (K × V) → List (K × V)
   inserted key value pairs = cond (has_key cmp key pairs) pairs (upserted key value pairs)
 
-  -- an entry put into an ascending list that doesn't have its key, in the words of std's maps, is an insert
-  abbrev pub EnteringIsInserting : Type 0
-  EnteringIsInserting = (key : K) (val : V) (ps : List (K × V)) → IsAscending cmp ps → has_key cmp key ps ≡ false → insert_entry cmp ps key val ≡ inserted key val ps
-
-  -- one put in the place of any with its key is an upsert
-  abbrev pub ExchangingIsUpserting : Type 0
-  ExchangingIsUpserting = (key : K) (value : V) (pairs : List (K × V)) → IsAscending cmp pairs → insert_entry cmp (remove_entry (is_at (cmp key)) pairs) key value ≡ upserted key value pairs
-
   -- a removal: no pair with the key
   abbrev pub removed : K → List (K × V) → List (K × V)
   removed key pairs = filter (λ p. not (is_at (cmp key) p.0)) pairs
+
+-- an entry put into an ascending list that doesn't have its key, in the words of std's maps, is an insert
+abbrev pub EnteringIsInserting : {K : Type 0} → (V : Type 0) → (K → K → Ordering) → Type 0
+EnteringIsInserting {K} V cmp = (key : K) (val : V) (ps : List (K × V)) → IsAscending cmp ps → has_key cmp key ps ≡ false → insert_entry cmp ps key val ≡ inserted cmp key val ps
+
+-- one put in the place of any with its key is an upsert
+abbrev pub ExchangingIsUpserting : {K : Type 0} → (V : Type 0) → (K → K → Ordering) → Type 0
+ExchangingIsUpserting {K} V cmp = (key : K) (value : V) (pairs : List (K × V)) → IsAscending cmp pairs → insert_entry cmp (remove_entry (is_at (cmp key)) pairs) key value ≡ upserted cmp key value pairs

@@ -25,12 +25,12 @@ pub fn upserting_is_found<K: Ord, V>()
 
 /// An entry put into an ascending list that doesn't have its key, in the words of std's maps, is an insert.
 pub fn entering_is_inserting<K: Ord, V>()
-    ensures { EnteringIsInserting {K} {V} K.cmp }
+    ensures { EnteringIsInserting V K.cmp }
 {}
 
 /// An entry put into an ascending list in the place of any with its key is an upsert.
 pub fn exchanging_is_upserting<K: Ord, V>()
-    ensures { ExchangingIsUpserting {K} {V} K.cmp }
+    ensures { ExchangingIsUpserting V K.cmp }
 {}
 
 /// An entry taken out of an ascending list is a removal.

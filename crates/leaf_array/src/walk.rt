@@ -3,7 +3,7 @@
 ghost use Rattle.std.specs.Prelude.{◌≡◌, IsTrue, Bool, true, false, Ok};
 ghost use Rattle.std.specs.List.{FoldsTo, enumerate_from};
 ghost use Rattle.leaf_array.specs.Words.{boundary};
-ghost use Rattle.leaf_array.specs.Calls.{ranked_slots, IsDealt, IsFolded, IsShownAll, MayDeal, MayShow, TakesEach, TakesFolded};
+ghost use Rattle.leaf_array.specs.Calls.{ranked_slots, CallsEach, IsDealt, IsFolded, IsShownAll, IsShownIf, MayDeal, MayDealAll, MayShow, TakesEach, TakesFolded};
 
 use crate::array::Array;
 use leaf_slots::slot_of;
