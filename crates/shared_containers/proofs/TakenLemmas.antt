@@ -7,7 +7,7 @@ use Rattle.sdd_domain.specs.Comparing.{owner_code, owner_slot}
 use Rattle.sdd_domain.specs.Tokens.{home_of}
 use Rattle.sdd_domain.specs.declared.local.Local.{Local}
 use Rattle.sdd_domain.specs.declared.shared.Shared.{Shared}
-pub use Rattle.shared_lists.proofs.Made.{none_made, quiet_some, read_some, exchanged_some, kept_some, retagged_some, some_then, one_behind, one_before, one_made, one_since}
+pub use Rattle.shared_lists.proofs.Made.{none_made, quiet_some, read_some, kept_some, some_then, one_behind, one_before, one_made, one_since}
 use Rattle.shared_containers.specs.Taken.{HasTakenOut, HasMarked, HasPopped, HasPoppedOf, IsCellAt}
 use Rattle.shared_containers.specs.declared.bag.Bag.{Bag}
 use Rattle.shared_lists.specs.declared.links.Links.{Links}

@@ -3,7 +3,7 @@ use Rattle.std.proofs.lemmas.Bool.{false≢true}
 use Rattle.sdd_plain.specs.Epochs.{tag_number}
 use Rattle.sdd_domain.specs.CellSteps.{HasExchanged}
 use Rattle.sdd_domain.specs.Comparing.{owner_code, code_of, IsBack}
-use Rattle.shared_lists.proofs.Made.{read_some, quiet_some, some_then, exchanged_some}
+use Rattle.shared_lists.proofs.Made.{read_some, quiet_some, some_then}
 use Rattle.shared_lists.proofs.Pushes.{push_made, pushed_before, codes_same, many_more, read_many, some_many}
 use Rattle.shared_lists.proofs.TagLemmas.{below_two}
 use Rattle.shared_lists.proofs.linked_entry.LinkedEntry.try_push.Goals as goal
