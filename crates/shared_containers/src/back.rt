@@ -1,6 +1,6 @@
 //! Appending an item at the end of a queue, once that is found.
 
-ghost use Rattle.std.specs.Prelude.{◌≡◌, ◌<◌};
+ghost use Rattle.std.specs.Prelude.{◌≡◌, ◌<◌, true};
 ghost use Rattle.sdd_domain.specs.Cells.{cell_number};
 ghost use Rattle.sdd_domain.specs.CellSteps.{HasMadeSome};
 ghost use Rattle.sdd_domain.specs.Pointers.{ptr_slot};
@@ -14,68 +14,65 @@ use crate::moves::exchange;
 use crate::outcome::Pushed;
 use crate::queue::Queue;
 use sdd_domain::atomic_shared::AtomicShared;
-use sdd_domain::domain::Domain;
-use sdd_domain::guard::Guard;
 use sdd_domain::holds::Holds;
 use sdd_domain::local::Local;
 use sdd_domain::pointer::Ptr;
 use sdd_domain::shared::Shared;
-use shared_lists::Links;
+use shared_lists::Section;
 use shared_lists::moves::follow;
 
 impl<T: Holds> Queue<T> {
     /// Puts an item behind this one, unless that is nothing.
     pub(crate) fn push_behind<F: Fn(Option<&T>) -> bool>(
         &self,
-        domain: &Domain<T>,
+        section: &Section<T>,
         behind: Ptr<T>,
         owner: Shared<T>,
         f: &F,
-        links: &Links<T>,
-        guard: &Guard,
         local: &mut Local<T>,
     ) -> Pushed<T>
-        requires open { IsOpenIn guard.now local.old domain.now }
-        requires mine { kept_in owner ≡ (place_of domain.now).0 }
-        requires queue { IsQueueOf self.now domain.now × AreLinksOf links.now domain.now }
+        requires open { IsOpenIn section.now.guard.now local.old section.now.domain.now }
+        requires mine { kept_in owner ≡ (place_of section.now.domain.now).0 }
+        requires queue { IsQueueOf self.now section.now.domain.now }
+        requires links { AreLinksOf section.now.links.now section.now.domain.now }
         requires callable { F.IsAlwaysCallable f.now }
-        ensures pushed { IsPushed result owner (place_of domain.now).0 (Said (F.post f.now)) }
-        ensures put { IfDone result (HasFilledLink local.old links.now (ptr_slot behind.entry) owner local.new) }
+        ensures pushed { IsPushed result owner (place_of section.now.domain.now).0 (Said (F.post f.now)) }
+        ensures put { IfDone result (HasFilledLink local.old section.now.links.now (ptr_slot behind.entry) owner local.new) }
         ensures some { HasMadeSome local.old local.new }
         ensures same { IsStill local.old local.new }
     {
         let Some(slot) = behind.slot() else {
             return Pushed::Slow(owner);
         };
-        match links.at(slot) {
-            Some(link) => self.append(domain, link, behind, owner, f, guard, local),
+        if !f(behind.as_ref()) {
+            return Pushed::Unwanted(owner);
+        }
+        match section.links.at(slot) {
+            Some(link) => self.append(section, link, behind, owner, local),
             None => Pushed::Slow(owner),
         }
     }
 
     /// Puts an item behind another one, whose link this is, or in front, if nothing was there yet, and notes it as near the end.
-    pub(crate) fn append<F: Fn(Option<&T>) -> bool>(
+    pub(crate) fn append(
         &self,
-        domain: &Domain<T>,
+        section: &Section<T>,
         cell: &AtomicShared<T>,
         behind: Ptr<T>,
         owner: Shared<T>,
-        f: &F,
-        guard: &Guard,
         local: &mut Local<T>,
     ) -> Pushed<T>
-        requires open { IsOpenIn guard.now local.old domain.now }
-        requires inside { (cell_number self.now.last < cell_count domain.now) × (cell_number cell.now < cell_count domain.now) }
-        requires mine { kept_in owner ≡ (place_of domain.now).0 }
-        requires callable { F.IsAlwaysCallable f.now }
-        ensures pushed { IsPushed result owner (place_of domain.now).0 (Said (F.post f.now)) }
+        requires open { IsOpenIn section.now.guard.now local.old section.now.domain.now }
+        requires last { cell_number self.now.last < cell_count section.now.domain.now }
+        requires inside { cell_number cell.now < cell_count section.now.domain.now }
+        requires mine { kept_in owner ≡ (place_of section.now.domain.now).0 }
+        ensures pushed { IsPushed result owner (place_of section.now.domain.now).0 (λ b. b ≡ true) }
         ensures put { IfDone result (HasFilledFirst local.old (cell_number cell.now) owner local.new) }
         ensures some { HasMadeSome local.old local.new }
         ensures same { IsStill local.old local.new }
     {
-        if !f(behind.as_ref()) {
-            return Pushed::Unwanted(owner);
-        }
+        let domain = section.domain;
+        let guard = section.guard;
         if let Some(back) = exchange(domain, cell, Ptr::null(), owner, guard, local) {
             return Pushed::Slow(back);
         }

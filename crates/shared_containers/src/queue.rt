@@ -25,8 +25,8 @@ use sdd_domain::local::Local;
 use sdd_domain::pointer::Ptr;
 use sdd_domain::shared::Shared;
 use sdd_plain::tag::Tag;
-use shared_lists::Links;
 use shared_lists::moves::{TRIES, follow};
+use shared_lists::{Links, Section};
 
 /// A queue of items of a place, which threads push and pop by `&`. It must be consumed by `end`.
 /// The tag of an item's link says whether the item was popped. Whoever sets it pops the item, so each is popped at most
@@ -302,7 +302,12 @@ impl<T: Holds> Queue<T> {
         let Ok(guard) = Guard::new(domain, local) else {
             unreachable!();
         };
-        let pushed = self.push_under(domain, owner, f, links, &guard, local);
+        let section = Section {
+            domain,
+            links,
+            guard: &guard,
+        };
+        let pushed = self.push_under(&section, owner, f, local);
         guard.close(domain, local);
         pushed
     }
@@ -310,55 +315,62 @@ impl<T: Holds> Queue<T> {
     /// The same under a guard: behind the item near the end, and else behind the first one, or in front.
     fn push_under<F: Fn(Option<&T>) -> bool>(
         &self,
-        domain: &Domain<T>,
+        section: &Section<T>,
         owner: Shared<T>,
         f: &F,
-        links: &Links<T>,
-        guard: &Guard,
         local: &mut Local<T>,
     ) -> Pushed<T>
-        requires open { IsOpenIn guard.now local.old domain.now }
-        requires mine { kept_in owner ≡ (place_of domain.now).0 }
-        requires queue { IsQueueOf self.now domain.now × AreLinksOf links.now domain.now }
+        requires open { IsOpenIn section.now.guard.now local.old section.now.domain.now }
+        requires mine { kept_in owner ≡ (place_of section.now.domain.now).0 }
+        requires queue { IsQueueOf self.now section.now.domain.now }
+        requires links { AreLinksOf section.now.links.now section.now.domain.now }
         requires callable { F.IsAlwaysCallable f.now }
-        ensures pushed { IsPushed result owner (place_of domain.now).0 (Said (F.post f.now)) }
-        ensures put { IfDone result ((xs : List CellStep) × HasAppended local.old self.now links.now owner xs local.new) }
+        ensures pushed { IsPushed result owner (place_of section.now.domain.now).0 (Said (F.post f.now)) }
+        ensures put { IfDone result ((xs : List CellStep) × HasAppended local.old self.now section.now.links.now owner xs local.new) }
         ensures some { HasMadeSome local.old local.new }
         ensures same { IsStill local.old local.new }
     {
+        let domain = section.domain;
+        let links = section.links;
+        let guard = section.guard;
         let near = self.last.load(domain, guard, local);
         let end = end_of(domain, near, links, guard, local);
         if end.is_null() {
-            return self.push_from_first(domain, owner, f, links, guard, local);
+            return self.push_from_first(section, owner, f, local);
         }
-        self.push_behind(domain, end, owner, f, links, guard, local)
+        self.push_behind(section, end, owner, f, local)
     }
 
     /// Puts an item behind the last one from the first one on, or in front.
     fn push_from_first<F: Fn(Option<&T>) -> bool>(
         &self,
-        domain: &Domain<T>,
+        section: &Section<T>,
         owner: Shared<T>,
         f: &F,
-        links: &Links<T>,
-        guard: &Guard,
         local: &mut Local<T>,
     ) -> Pushed<T>
-        requires open { IsOpenIn guard.now local.old domain.now }
-        requires mine { kept_in owner ≡ (place_of domain.now).0 }
-        requires queue { IsQueueOf self.now domain.now × AreLinksOf links.now domain.now }
+        requires open { IsOpenIn section.now.guard.now local.old section.now.domain.now }
+        requires mine { kept_in owner ≡ (place_of section.now.domain.now).0 }
+        requires queue { IsQueueOf self.now section.now.domain.now }
+        requires links { AreLinksOf section.now.links.now section.now.domain.now }
         requires callable { F.IsAlwaysCallable f.now }
-        ensures pushed { IsPushed result owner (place_of domain.now).0 (Said (F.post f.now)) }
-        ensures put { IfDone result ((xs : List CellStep) × HasAppended local.old self.now links.now owner xs local.new) }
+        ensures pushed { IsPushed result owner (place_of section.now.domain.now).0 (Said (F.post f.now)) }
+        ensures put { IfDone result ((xs : List CellStep) × HasAppended local.old self.now section.now.links.now owner xs local.new) }
         ensures some { HasMadeSome local.old local.new }
         ensures same { IsStill local.old local.new }
     {
+        let domain = section.domain;
+        let links = section.links;
+        let guard = section.guard;
         let first = self.front.first_item(domain, links, guard, local);
         if first.is_null() {
-            return self.append(domain, &self.front.first, first, owner, f, guard, local);
+            if !f(first.as_ref()) {
+                return Pushed::Unwanted(owner);
+            }
+            return self.append(section, &self.front.first, first, owner, local);
         }
         let end = end_of(domain, first, links, guard, local);
-        self.push_behind(domain, end, owner, f, links, guard, local)
+        self.push_behind(section, end, owner, f, local)
     }
 
     /// Takes the first item out, and gives an owner of it. None where it is empty, and after `2^64 - 1` tries, at

@@ -26,8 +26,8 @@ use sdd_domain::local::Local;
 use sdd_domain::pointer::Ptr;
 use sdd_domain::shared::Shared;
 use sdd_plain::tag::Tag;
-use shared_lists::Links;
 use shared_lists::moves::{TRIES, follow};
+use shared_lists::{Links, Section};
 
 /// A stack of items of a place, which threads push and pop by `&`. It must be consumed by `end`.
 /// Each item is popped at most once: what a `pop` answers is the owner that the stack had.
@@ -308,7 +308,12 @@ impl<T: Holds> Stack<T> {
         let Ok(guard) = Guard::new(domain, local) else {
             unreachable!();
         };
-        let pushed = self.push_under(domain, owner, f, link, &guard, local);
+        let section = Section {
+            domain,
+            links,
+            guard: &guard,
+        };
+        let pushed = self.push_under(&section, owner, f, link, local);
         guard.close(domain, local);
         pushed
     }
@@ -316,27 +321,27 @@ impl<T: Holds> Stack<T> {
     /// The same under a guard, with the item's link.
     fn push_under<F: Fn(Option<&T>) -> bool>(
         &self,
-        domain: &Domain<T>,
+        section: &Section<T>,
         owner: Shared<T>,
         f: &F,
         link: &AtomicShared<T>,
-        guard: &Guard,
         local: &mut Local<T>,
     ) -> Pushed<T>
-        requires open { IsOpenIn guard.now local.old domain.now }
-        requires mine { kept_in owner ≡ (place_of domain.now).0 }
-        requires stack { IsStackOf self.now domain.now × (cell_number link.now < cell_count domain.now) }
+        requires open { IsOpenIn section.now.guard.now local.old section.now.domain.now }
+        requires mine { kept_in owner ≡ (place_of section.now.domain.now).0 }
+        requires stack { IsStackOf self.now section.now.domain.now }
+        requires inside { cell_number link.now < cell_count section.now.domain.now }
         requires callable { F.IsAlwaysCallable f.now }
-        ensures pushed { IsPushed result owner (place_of domain.now).0 (Said (F.post f.now)) }
+        ensures pushed { IsPushed result owner (place_of section.now.domain.now).0 (Said (F.post f.now)) }
         ensures put { IfDone result (HasPutBy local.old (cell_number link.now) (cell_number self.now.first) owner local.new) }
         ensures some { HasMadeSome local.old local.new }
         ensures same { IsStill local.old local.new }
     {
-        let first = self.peek(domain, guard, local);
+        let first = self.peek(section.domain, section.guard, local);
         if !f(first.as_ref()) {
             return Pushed::Unwanted(owner);
         }
-        put_before(domain, &self.first, first, owner, link, guard, local)
+        put_before(section, &self.first, first, owner, link, local)
     }
 
     /// Takes the first item out, in one step, and gives its owner. None where it is empty, and after `2^64 - 1` tries, at
@@ -428,22 +433,24 @@ impl<T: Holds> Stack<T> {
 /// Puts an item in front of what was found there, in one step: its link owns that from then on, and the owner that the stack
 /// had of it is released. If others were faster, it returns the item's owner.
 fn put_before<T: Holds>(
-    domain: &Domain<T>,
+    section: &Section<T>,
     cell: &AtomicShared<T>,
     first: Ptr<T>,
     owner: Shared<T>,
     link: &AtomicShared<T>,
-    guard: &Guard,
     local: &mut Local<T>,
 ) -> Pushed<T>
-    requires open { IsOpenIn guard.now local.old domain.now }
-    requires inside { (cell_number cell.now < cell_count domain.now) × (cell_number link.now < cell_count domain.now) }
-    requires mine { kept_in owner ≡ (place_of domain.now).0 }
-    ensures pushed { IsPushed result owner (place_of domain.now).0 (λ b. b ≡ true) }
+    requires open { IsOpenIn section.now.guard.now local.old section.now.domain.now }
+    requires inside { cell_number cell.now < cell_count section.now.domain.now }
+    requires link { cell_number link.now < cell_count section.now.domain.now }
+    requires mine { kept_in owner ≡ (place_of section.now.domain.now).0 }
+    ensures pushed { IsPushed result owner (place_of section.now.domain.now).0 (λ b. b ≡ true) }
     ensures put { IfDone result (HasPutBy local.old (cell_number link.now) (cell_number cell.now) owner local.new) }
     ensures some { HasMadeSome local.old local.new }
     ensures same { IsStill local.old local.new }
 {
+    let domain = section.domain;
+    let guard = section.guard;
     // No item is put before itself.
     if first.slot() == Some(owner.slot()) {
         return Pushed::Slow(owner);

@@ -9,8 +9,10 @@ pub mod linked_entry;
 pub mod links;
 pub mod moves;
 pub mod refusal;
+pub mod section;
 mod tags;
 
 pub use linked_entry::LinkedEntry;
 pub use links::{Links, Row};
 pub use refusal::NotMade;
+pub use section::Section;

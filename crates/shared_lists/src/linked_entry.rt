@@ -16,6 +16,7 @@ ghost use Rattle.shared_lists.specs.Lists.{AreLinksOf, IsAsBefore, IsOpenIn, IsS
 
 use crate::links::Links;
 use crate::moves::{TRIES, follow, let_go};
+use crate::section::Section;
 use crate::tags::{tag_of, tells_clear, tells_deleted, tells_marked};
 use sdd_domain::atomic_shared::AtomicShared;
 use sdd_domain::domain::Domain;
@@ -228,9 +229,15 @@ impl<'g, T: Holds> LinkedEntry<'g, T> {
             return Err(entry);
         };
         let (mut entry, pointer) = entry.get_guarded_ptr(domain, guard, local);
+        let links = self.links;
+        let section = Section {
+            domain,
+            links,
+            guard,
+        };
         let tag = tag_of(mark);
         for _i in 0..TRIES {
-            match self.try_push(domain, entry, link, tag, guard, local) {
+            match self.try_push(&section, entry, link, tag, local) {
                 Tried::Done => return Ok(pointer.with_tag(tag)),
                 Tried::Deleted(back) => return Err(back),
                 Tried::Slow(back) => entry = back,
@@ -242,37 +249,39 @@ impl<'g, T: Holds> LinkedEntry<'g, T> {
     /// One try.
     fn try_push(
         &self,
-        domain: &Domain<T>,
+        section: &Section<T>,
         entry: Shared<T>,
         link: &AtomicShared<T>,
         tag: Tag,
-        guard: &Guard,
         local: &mut Local<T>,
     ) -> Tried<T>
-        requires open { IsOpenIn guard.now local.old domain.now }
-        requires this { IsEntryOf self.now domain.now }
-        requires link { cell_number link.now < cell_count domain.now }
-        requires mine { kept_in entry ≡ (place_of domain.now).0 }
+        requires open { IsOpenIn section.now.guard.now local.old section.now.domain.now }
+        requires this { IsEntryOf self.now section.now.domain.now }
+        requires link { cell_number link.now < cell_count section.now.domain.now }
+        requires mine { kept_in entry ≡ (place_of section.now.domain.now).0 }
         ensures tried { HasTried result local.old (entry_cell self.now) (cell_number link.now) (tag_number tag) entry local.new }
         ensures same { IsStill local.old local.new }
     {
-        let next = self.link.load(domain, guard, local);
+        let next = self.link.load(section.domain, section.guard, local);
         if tells_deleted(next.tag()) {
             return Tried::Deleted(entry);
         }
-        let owner = next.get_shared(domain, local);
+        let owner = next.get_shared(section.domain, local);
         // What followed may have been taken out and retired since.
         let is_there = owns(&owner, next.slot());
-        follow(domain, link, owner, local);
+        follow(section.domain, link, owner, local);
         if !is_there {
             return Tried::Slow(entry);
         }
-        match self
-            .link
-            .compare_exchange(domain, next, (Some(entry), tag), guard, local)
-        {
+        match self.link.compare_exchange(
+            section.domain,
+            next,
+            (Some(entry), tag),
+            section.guard,
+            local,
+        ) {
             Ok((old, _)) => {
-                let_go(domain, old, local);
+                let_go(section.domain, old, local);
                 Tried::Done
             }
             Err((Some(back), _)) => Tried::Slow(back),
