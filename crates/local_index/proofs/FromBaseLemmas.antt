@@ -7,7 +7,7 @@ use Rattle.serial_history.specs.Histories.{HistoryState}
 use Rattle.serial_history.specs.Serial.{Base}
 use Rattle.local_versions.specs.Placing.{Plan, StandsAlone, list_alone, slots_for}
 use Rattle.local_versions.specs.Store.{Store}
-use Rattle.local_index.specs.Invariant.{IsIndex, IsOf}
+use Rattle.local_index.specs.Invariant.{IsIndex, HasListOfNumber}
 
 -- its fields keep what those of an index keep
 module _ {K V : Type 0} (cmp : K → K → Ordering) (width places slots number : ℕ) (pairs : List (K × V)) where
@@ -23,7 +23,7 @@ module _ {K V : Type 0} (cmp : K → K → Ordering) (width places slots number 
     some_pair = some;
     segment_fits = fits;
     present = (let same : number ≡ number + 0 = omega arith in ap (λ n. record { number = n; pairs = pairs }) same);
-    readers = All-replicate (λ r. IfSome r (IsOf cmp first [])) places None tt;
+    readers = All-replicate (λ r. IfSome r (HasListOfNumber cmp first [])) places None tt;
   }
 
   pub begun_kept : (store : Store K V) (h : HistoryState K V) (last room : ℕ) → 1 ≤ width → width ≤ 225 → store ≡ unread store.used → h ≡ record { base = first; transactions = []; last = last; room = room } → IsIndex cmp width store h.base h.transactions

@@ -6,7 +6,7 @@ use Rattle.std.specs.Option.{unwrap_or}
 use Rattle.std.proofs.lemmas.List.Elements.{All-replicate, All-set}
 use Rattle.std.proofs.lemmas.Option.{slice_get_within, unwrap_or-slice_get}
 use Rattle.version_views.specs.Writes.{after_writes}
-use Rattle.local_index.specs.Invariant.{IsIndex, IsOf, index_state}
+use Rattle.local_index.specs.Invariant.{IsIndex, HasListOfNumber, index_state}
 use Rattle.local_index.specs.State.{State, IsSessionAt, MayRefuse, latest_number, list_at, list_open, present}
 use Rattle.local_versions.specs.Store.{IsKeptHere, Store, Version, no_version}
 use Rattle.serial_history.specs.Histories.{HistoryState, IsDecidedFirst}
@@ -30,7 +30,7 @@ at_get P xs i x all e = subst P (sym (unwrap_or-slice_get xs i x) ∙ ap (λ o. 
 
 module _ {K V : Type 0} (cmp : K → K → Ordering) where
   -- a version has the list of its number in a longer history too
-  of_longer : (base : Base K V) (history : List (Transaction K V)) (t : Transaction K V) (r : Option (Version K V)) → IfSome r (IsOf cmp base history) → IfSome r (IsOf cmp base (history ++ t ∷ []))
+  of_longer : (base : Base K V) (history : List (Transaction K V)) (t : Transaction K V) (r : Option (Version K V)) → IfSome r (HasListOfNumber cmp base history) → IfSome r (HasListOfNumber cmp base (history ++ t ∷ []))
   of_longer base history t None h = h
   of_longer base history t (Some v) h =
       let within = h.within in
@@ -40,7 +40,7 @@ module _ {K V : Type 0} (cmp : K → K → Ordering) where
       }
 
   -- and so it has from a later base on, unless that is past it
-  of_later : (base : Base K V) (history : List (Transaction K V)) (n : ℕ) (has : HasNumber base history n) (r : Option (Version K V)) → IfSome r (IsOf cmp base history) → IfSome r (IsOf cmp (base_at cmp base history n) (history_behind base history n))
+  of_later : (base : Base K V) (history : List (Transaction K V)) (n : ℕ) (has : HasNumber base history n) (r : Option (Version K V)) → IfSome r (HasListOfNumber cmp base history) → IfSome r (HasListOfNumber cmp (base_at cmp base history n) (history_behind base history n))
   of_later base history n has None h = h
   of_later base history n has (Some v) h =
       let within = h.within in
@@ -66,7 +66,7 @@ module _ {K V : Type 0} (cmp : K → K → Ordering) where
     pub present_whole : store.present.pairs ≡ after_all cmp h.transactions h.base.pairs
     present_whole = ap (λ (v : Version K V). v.pairs) kept.present
 
-    present_of : IsOf cmp h.base h.transactions store.present
+    present_of : HasListOfNumber cmp h.base h.transactions store.present
     present_of = record {
       within = (let n = present_number in omega (arith, n));
       list = λ from. present_pairs ∙ ap (list_numbered cmp h.base h.transactions) (sym present_number);
@@ -77,22 +77,22 @@ module _ {K V : Type 0} (cmp : K → K → Ordering) where
     session_reads value place number view opened = (record { number = number; pairs = list_open value place }, ap (λ (x : State K V). slice_get x.places place) view ∙ opened, refl)
 
     -- a version that is kept has the list of its number
-    of_here : (v : Version K V) → IsKeptHere v store → IsOf cmp h.base h.transactions v
+    of_here : (v : Version K V) → IsKeptHere v store → HasListOfNumber cmp h.base h.transactions v
     of_here v here =
         ⊎_elim
-        (λ e. subst (IsOf cmp h.base h.transactions) (sym e) present_of)
-        (λ r. at_get (λ r. IfSome r (IsOf cmp h.base h.transactions)) store.readers r.0 (Some v) kept.readers r.1)
+        (λ e. subst (HasListOfNumber cmp h.base h.transactions) (sym e) present_of)
+        (λ r. at_get (λ r. IfSome r (HasListOfNumber cmp h.base h.transactions)) store.readers r.0 (Some v) kept.readers r.1)
         here
 
     pub kept_list : (v : Version K V) (n : ℕ) → IsKeptHere v store → v.number ≡ n → h.base.number ≤ n → v.pairs ≡ list_at cmp (index_state store h) n
     kept_list v n here numbered from = (of_here v here).list (omega (arith, numbered, from)) ∙ ap (list_numbered cmp h.base h.transactions) numbered
 
-    kept_readers : (store' : Store K V) (place : ℕ) (r : Option (Version K V)) → store' ≡ record store { readers = set store.readers place r } → IfSome r (IsOf cmp h.base h.transactions) → IsIndex cmp width store' h.base h.transactions
+    kept_readers : (store' : Store K V) (place : ℕ) (r : Option (Version K V)) → store' ≡ record store { readers = set store.readers place r } → IfSome r (HasListOfNumber cmp h.base h.transactions) → IsIndex cmp width store' h.base h.transactions
     kept_readers store' place r e of = record {
       some_pair = kept.some_pair;
       segment_fits = kept.segment_fits;
       present = ap (λ (x : Store K V). x.present) e ∙ kept.present;
-      readers = subst (λ (x : Store K V). All (λ r. IfSome r (IsOf cmp h.base h.transactions)) x.readers) (sym e) (All-set (λ r. IfSome r (IsOf cmp h.base h.transactions)) store.readers place r of kept.readers);
+      readers = subst (λ (x : Store K V). All (λ r. IfSome r (HasListOfNumber cmp h.base h.transactions)) x.readers) (sym e) (All-set (λ r. IfSome r (HasListOfNumber cmp h.base h.transactions)) store.readers place r of kept.readers);
     }
 
     -- a session opens
@@ -168,5 +168,5 @@ module _ {K V : Type 0} (cmp : K → K → Ordering) where
     some_pair = some;
     segment_fits = fits;
     present = refl;
-    readers = All-replicate (λ r. IfSome r (IsOf cmp (record { number = 0; pairs = [] }) [])) places None tt;
+    readers = All-replicate (λ r. IfSome r (HasListOfNumber cmp (record { number = 0; pairs = [] }) [])) places None tt;
   }

@@ -24,6 +24,7 @@ pub record Machine (K V : Type 0) : Type 0 where
   pub index : State K V
   pub desk : List (Option (Ticket K V))
 
+-- of this index and this desk
 abbrev pub machine : {K V : Type 0} → State K V → List (Option (Ticket K V)) → Machine K V
 machine index desk = record { index = index; desk = desk }
 

@@ -23,7 +23,7 @@ module _ {K V : Type 0} where
 
   module _ (cmp : K → K → Ordering) where
     -- a version whose number isn't below the base's has the list of its number
-    pub record IsOf (base : Base K V) (history : List (Transaction K V)) (v : Version K V) : Type 0 where
+    pub record HasListOfNumber (base : Base K V) (history : List (Transaction K V)) (v : Version K V) : Type 0 where
       pub within : v.number ≤ latest base history
       pub list : base.number ≤ v.number → v.pairs ≡ list_numbered cmp base history v.number
 
@@ -32,4 +32,4 @@ module _ {K V : Type 0} where
       pub some_pair : 1 ≤ width
       pub segment_fits : width ≤ 225
       pub present : store.present ≡ record { number = latest base history; pairs = after_all cmp history base.pairs }
-      pub readers : All (λ r. IfSome r (IsOf base history)) store.readers
+      pub readers : All (λ r. IfSome r (HasListOfNumber base history)) store.readers

@@ -150,8 +150,8 @@ module _ {K V : Type 0} {s : ℕ} where
     pub list : list_of (value_at w) directory ≡ pairs
 
   -- the directory is the version of this number with this list
-  abbrev pub IsOf : State (Item K V s) → ℕ → List (K × V) → Directory K Kept → Type 0
-  IsOf w number pairs d = (list_of (value_at w) d ≡ pairs) × (d.number ≡ number)
+  abbrev pub HasNumberAndList : State (Item K V s) → ℕ → List (K × V) → Directory K Kept → Type 0
+  HasNumberAndList w number pairs d = (list_of (value_at w) d ≡ pairs) × (d.number ≡ number)
 
   -- the version is placed beside the older one in a slot, and its one owner is in hand
   pub record Places (cmp : K → K → Ordering) (older : Option ℕ) (plan : Plan K V s) (slot : ℕ) (w w' : State (Item K V s)) : Type 0 where

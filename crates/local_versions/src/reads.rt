@@ -7,7 +7,7 @@ ghost use Rattle.sdd_world.specs.Tokens.{loaded_slot, shared_slot};
 ghost use Rattle.tree_index.specs.Proximity.{IsLocated};
 ghost use Rattle.version_views.specs.Items.{slots_of};
 ghost use Rattle.version_views.specs.Nearby.{as_proximity};
-ghost use Rattle.local_versions.specs.Placing.{HasVersion, IsOf};
+ghost use Rattle.local_versions.specs.Placing.{HasVersion, HasNumberAndList};
 ghost use Rattle.version_views.specs.Versions.{IsVersion, blocks_of, list_of};
 ghost use Rattle.version_views.specs.Views.{LooksUp, cursor_within};
 
@@ -27,7 +27,7 @@ pub fn version<'w, K: Ord, V, const S: usize>(
     requires shared { IsShared w.now (shared_slot root.now) }
     requires version { (n : ℕ) × (ps : List (K × V)) × HasVersion K.cmp w.now (shared_slot root.now) n ps }
     ensures version { IsVersion K.cmp (value_at w.now) result.now }
-    ensures is { (n : ℕ) (ps : List (K × V)) → HasVersion K.cmp w.now (shared_slot root.now) n ps → IsOf w.now n ps result.now }
+    ensures is { (n : ℕ) (ps : List (K × V)) → HasVersion K.cmp w.now (shared_slot root.now) n ps → HasNumberAndList w.now n ps result.now }
     ensures stands { value_at w.now (shared_slot root.now) ≡ Some (Item.Directory result.now) }
 {
     match shared::as_ref(w, root).directory() {
@@ -44,7 +44,7 @@ pub fn version_at<'w, K: Ord, V, const S: usize>(
     requires readable { IsReadable w.now (loaded_slot at.now) }
     requires version { (i n : ℕ) × (ps : List (K × V)) × (loaded_slot at.now ≡ Some i) × HasVersion K.cmp w.now i n ps }
     ensures version { IsVersion K.cmp (value_at w.now) result.now }
-    ensures is { (i n : ℕ) (ps : List (K × V)) → loaded_slot at.now ≡ Some i → HasVersion K.cmp w.now i n ps → IsOf w.now n ps result.now }
+    ensures is { (i n : ℕ) (ps : List (K × V)) → loaded_slot at.now ≡ Some i → HasVersion K.cmp w.now i n ps → HasNumberAndList w.now n ps result.now }
 {
     match w.read_loaded(at) {
         Some(item) => match item.directory() {
