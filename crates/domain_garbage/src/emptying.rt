@@ -13,10 +13,9 @@ ghost use Rattle.domain_garbage.specs.Opened.{TakesNoted, CanGather, CanGiveEmpt
 ghost use Rattle.domain_table.specs.Views.{of_participant};
 
 use atomic_table::Play;
-use domain_table::board::{Acting, Home, Seat, Words};
+use domain_table::board::{Acting, Home, Place, Seat, Words};
 use domain_table::holding::Holding;
 use domain_table::layout::{VACANT, owners_word};
-use sdd_plain::sizes::Sizes;
 use std::marker::PhantomData;
 
 struct OnOpen<H>(PhantomData<H>);
@@ -102,11 +101,12 @@ pub fn empty<T, H: Holding<T>>(words: &Words<T, H>, seat: &mut Seat<T>)
 }
 
 /// Gives `slot` back: all homes are empty, and the room is in the item's own, which is put back in the same step.
-pub fn vacate<T, H: Holding<T>>(words: &Words<T, H>, seat: &mut Seat<T>, sizes: &Sizes, slot: usize)
-    requires table { FitsFree words.now.table_id words.now.key.sizes seat.old.table_id seat.old.me.0.sizes sizes.now slot }
+pub fn vacate<T, H: Holding<T>>(place: Place<T, H>, seat: &mut Seat<T>, slot: usize)
+    requires table { FitsFree place seat.old slot }
     requires emptied { CanVacateAt (IsIn H.holds) slot seat.old.me }
     ensures seat { (seat.new.table_id ≡ seat.old.table_id) × (seat.new.id ≡ seat.old.id) }
     ensures vacant { Vacates (IsIn H.holds) seat.old.me seat.new.me }
 {
+    let Place { words, sizes } = place;
     words.store::<OnVacate<H>>(seat, owners_word(sizes, slot), VACANT);
 }

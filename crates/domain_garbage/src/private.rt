@@ -21,7 +21,7 @@ use crate::notes::Notes;
 use atomic_table::{Join, Play, Split};
 use domain_table::aim::{Collect, Retire};
 use domain_table::bags::{Bags, Ends};
-use domain_table::board::{Acting, Home, Seat, Stored, Words};
+use domain_table::board::{Acting, Home, Place, Seat, Stored, Words};
 use domain_table::holding::Holding;
 use domain_table::owners::release;
 use domain_table::private_chains::{join_noted, take_noted};
@@ -29,7 +29,6 @@ use domain_table::row::Row;
 use domain_table::steps::sit;
 use parted::{Calm, One};
 use sdd_plain::local_state::LocalState;
-use sdd_plain::sizes::Sizes;
 use std::collections::VecDeque;
 
 /// An item in a private bag.
@@ -133,41 +132,39 @@ pub fn reread<T, H: Holding<T>>(words: &Words<T, H>, seat: &mut Seat<T>) -> u64
 /// Retires all that is in the private bag that is at the participant's seat, in one step: it is in the participant's current
 /// bag then, in its order, and one link word at most is written.
 pub fn hand_all<T, H: Holding<T>>(
-    words: &Words<T, H>,
+    place: Place<T, H>,
     seat: &mut Seat<T>,
-    sizes: &Sizes,
     kept: NotedChain,
     bags: &mut Bags,
 )
-    requires table { FitsSizes words.now.table_id words.now.key.sizes seat.old.table_id seat.old.me.0.sizes sizes.now }
+    requires table { FitsSizes place seat.old }
     requires ready { (seat.old.me.0.kind ≡ of_participant) × (is_ready seat.old.me.0.known ≡ true) }
-    requires kept { IsKept sizes.now.slots seat.old.me.0.collected kept }
-    requires waits { WaitsIn sizes.now.slots seat.old.me.0.waits bags.old }
+    requires kept { IsKept place.sizes.now.slots seat.old.me.0.collected kept }
+    requires waits { WaitsIn place.sizes.now.slots seat.old.me.0.waits bags.old }
     ensures seat { (seat.new.table_id ≡ seat.old.table_id) × (seat.new.id ≡ seat.old.id) }
     ensures handed { HandsAll seat.old.me seat.new.me }
-    ensures waits { WaitsIn sizes.now.slots seat.new.me.0.waits bags.new }
+    ensures waits { WaitsIn place.entry.sizes.now.slots seat.new.me.0.waits bags.new }
     ensures bags { bags.new.due ≡ bags.old.due }
 {
     // The value isn't used: in this step all that the private bag has is retired by the participant.
-    let _ = words.load::<OnHandAll>(seat, 1);
-    bags.take_over(words, seat, sizes, kept.chain);
+    let _ = place.words.load::<OnHandAll>(seat, 1);
+    bags.take_over(place, seat, kept.chain);
 }
 
 /// Takes what is in the private bag at the participant's seat the longest out of its chain, if its note lies three or more
 /// below the count. It stays noted, until it is reclaimed.
 pub fn take_due<T, H: Holding<T>>(
-    words: &Words<T, H>,
+    place: Place<T, H>,
     seat: &mut Seat<T>,
-    sizes: &Sizes,
     kept: &mut NotedChain,
     count: u64,
 ) -> Option<usize>
-    requires table { FitsSizes words.now.table_id words.now.key.sizes seat.old.table_id seat.old.me.0.sizes sizes.now }
+    requires table { FitsSizes place seat.old }
     requires acts { seat.old.me.0.kind ≡ of_participant }
-    requires kept { IsKept sizes.now.slots seat.old.me.0.collected kept.old }
+    requires kept { IsKept place.sizes.now.slots seat.old.me.0.collected kept.old }
     ensures seat { (seat.new.table_id ≡ seat.old.table_id) × (seat.new.id ≡ seat.old.id) × (seat.new.me ≡ seat.old.me) }
-    ensures none { IfNone result (IsKept sizes.now.slots seat.old.me.0.collected kept.new × NoneDue count seat.old.me.0.collected) }
-    ensures taken { IfSome result (λ slot. HasDueNote sizes.now.slots count slot seat.old.me.0.collected kept.new) }
+    ensures none { IfNone result (IsKept place.entry.sizes.now.slots seat.old.me.0.collected kept.new × NoneDue count seat.old.me.0.collected) }
+    ensures taken { IfSome result (λ slot. HasDueNote place.entry.sizes.now.slots count slot seat.old.me.0.collected kept.new) }
 {
     let Some(note) = kept.notes.oldest() else {
         return None;
@@ -175,7 +172,7 @@ pub fn take_due<T, H: Holding<T>>(
     if count < 3 || note > count - 3 {
         return None;
     }
-    let (slot, chain) = take_noted(words, seat, sizes, kept.chain);
+    let (slot, chain) = take_noted(place, seat, kept.chain);
     kept.chain = chain;
     kept.notes.take();
     slot
@@ -183,88 +180,85 @@ pub fn take_due<T, H: Holding<T>>(
 
 /// Appends what has just come into the private bag, in this slot, to its chain, with its note.
 fn keep<T, H: Holding<T>>(
-    words: &Words<T, H>,
+    place: Place<T, H>,
     seat: &mut Seat<T>,
-    sizes: &Sizes,
     kept: &mut NotedChain,
     noted: Noted,
 )
-    requires table { FitsSizes words.now.table_id words.now.key.sizes seat.old.table_id seat.old.me.0.sizes sizes.now × (noted.slot < sizes.now.slots) }
+    requires table { FitsSizes place seat.old × (noted.slot < place.sizes.now.slots) }
     requires acts { seat.old.me.0.kind ≡ of_participant }
-    requires came { HasCome sizes.now.slots noted.slot noted.note seat.old.me.0.collected kept.old }
+    requires came { HasCome place.sizes.now.slots noted.slot noted.note seat.old.me.0.collected kept.old }
     ensures seat { (seat.new.table_id ≡ seat.old.table_id) × (seat.new.id ≡ seat.old.id) }
-    ensures kept { KeepsNotes sizes.now.slots kept.new seat.old.me seat.new.me }
+    ensures kept { KeepsNotes place.entry.sizes.now.slots kept.new seat.old.me seat.new.me }
 {
     let alone = Ends {
         first: noted.slot,
         last: noted.slot,
     };
-    kept.chain = join_noted(words, seat, sizes, Some(alone), kept.chain);
+    kept.chain = join_noted(place, seat, Some(alone), kept.chain);
     kept.notes.put(noted.note);
 }
 
 /// Releases the owner that is first in hand, whose item is in `slot`, under open guards: its part is joined to those of
 /// participant `number`. With the last owner the participant has retired the item.
 pub fn give_back<T, H: Holding<T>>(
-    words: &Words<T, H>,
+    place: Place<T, H>,
     seat: &mut Seat<T>,
-    sizes: &Sizes,
     number: usize,
     rows: &mut VecDeque<Row<T>>,
     bags: &mut Bags,
-    slot: usize,
-    owner: One<Stored<T>>,
+    owner: (usize, One<Stored<T>>),
 )
-    requires table { FitsSizes words.now.table_id words.now.key.sizes seat.old.table_id seat.old.me.0.sizes sizes.now × (number < sizes.now.participants) }
+    requires table { FitsSizes place seat.old × (number < place.sizes.now.participants) }
     requires ready { CanRelease number seat.old.me.0 }
-    requires owner { IsFirst seat.old.me.0 slot owner.part.life.id × IsSome owner.part.seen.value }
-    requires rows { AreRowsOf sizes.now.slots seat.old.me.0.leases rows.old.items }
-    requires waits { WaitsIn sizes.now.slots seat.old.me.0.waits bags.old }
+    requires owner { IsFirst seat.old.me.0 owner.0 owner.1.part.life.id × IsSome owner.1.part.seen.value }
+    requires rows { AreRowsOf place.sizes.now.slots seat.old.me.0.leases rows.old.items }
+    requires waits { WaitsIn place.sizes.now.slots seat.old.me.0.waits bags.old }
     ensures seat { (seat.new.table_id ≡ seat.old.table_id) × (seat.new.id ≡ seat.old.id) }
     ensures given { GivesBack seat.old.me seat.new.me }
     ensures rows { StayRowsOf seat.old.me.0.leases rows.old.items seat.new.me.0.leases rows.new.items }
     ensures same { (deque_capacity rows.new ≡ deque_capacity rows.old) × (row_slots rows.new.items ≡ row_slots rows.old.items) }
-    ensures waits { WaitsIn sizes.now.slots seat.new.me.0.waits bags.new }
+    ensures waits { WaitsIn place.entry.sizes.now.slots seat.new.me.0.waits bags.new }
     ensures bags { bags.new.due ≡ bags.old.due }
 {
-    if release::<T, H, Retire>(words, seat, sizes, number, rows, slot, owner) == 0 {
-        bags.retire(words, seat, sizes, slot);
+    let (slot, part) = owner;
+    if release::<T, H, Retire>(place, seat, number, rows, slot, part) == 0 {
+        bags.retire(place, seat, slot);
     }
 }
 
 /// Releases the owner that is first in hand, whose item is in `slot`, under open guards. Whether it was the last one: then
 /// the item is in the private bag, with the count that was read again as its note.
 pub fn put_in<T, H: Holding<T>>(
-    words: &Words<T, H>,
+    place: Place<T, H>,
     seat: &mut Seat<T>,
-    sizes: &Sizes,
     number: usize,
     rows: &mut VecDeque<Row<T>>,
     kept: &mut NotedChain,
-    noted: Noted,
-    owner: One<Stored<T>>,
+    owner: (Noted, One<Stored<T>>),
 ) -> bool
-    requires table { FitsSizes words.now.table_id words.now.key.sizes seat.old.table_id seat.old.me.0.sizes sizes.now × (number < sizes.now.participants) }
+    requires table { FitsSizes place seat.old × (number < place.sizes.now.participants) }
     requires ready { CanRelease number seat.old.me.0 }
-    requires open { (is_inside seat.old.me.0.known ≡ true) × (seat.old.me.0.known.reread ≡ Some noted.note) }
-    requires owner { IsFirst seat.old.me.0 noted.slot owner.part.life.id × IsSome owner.part.seen.value }
-    requires rows { AreRowsOf sizes.now.slots seat.old.me.0.leases rows.old.items }
-    requires kept { IsKept sizes.now.slots seat.old.me.0.collected kept.old }
-    requires most { (w : Garbage) → Has seat.old.me.0.collected w → w.age ≤ noted.note }
-    requires young { NoneDue noted.note seat.old.me.0.collected }
+    requires open { (is_inside seat.old.me.0.known ≡ true) × (seat.old.me.0.known.reread ≡ Some owner.0.note) }
+    requires owner { IsFirst seat.old.me.0 owner.0.slot owner.1.part.life.id × IsSome owner.1.part.seen.value }
+    requires rows { AreRowsOf place.sizes.now.slots seat.old.me.0.leases rows.old.items }
+    requires kept { IsKept place.sizes.now.slots seat.old.me.0.collected kept.old }
+    requires most { (w : Garbage) → Has seat.old.me.0.collected w → w.age ≤ owner.0.note }
+    requires young { NoneDue owner.0.note seat.old.me.0.collected }
     ensures seat { (seat.new.table_id ≡ seat.old.table_id) × (seat.new.id ≡ seat.old.id) }
     ensures given { PutsIn seat.old.me seat.new.me }
     ensures rows { StayRowsOf seat.old.me.0.leases rows.old.items seat.new.me.0.leases rows.new.items }
     ensures same { (deque_capacity rows.new ≡ deque_capacity rows.old) × (row_slots rows.new.items ≡ row_slots rows.old.items) }
-    ensures kept { IsKept sizes.now.slots seat.new.me.0.collected kept.new }
-    ensures last { IsTrue result → map garbage_told seat.new.me.0.collected ≡ (noted.slot, noted.note) ∷ map garbage_told seat.old.me.0.collected }
+    ensures kept { IsKept place.entry.sizes.now.slots seat.new.me.0.collected kept.new }
+    ensures last { IsTrue result → map garbage_told seat.new.me.0.collected ≡ (owner.0.slot, owner.0.note) ∷ map garbage_told seat.old.me.0.collected }
     ensures more { IsFalse result → seat.new.me.0.collected ≡ seat.old.me.0.collected }
 {
-    let left = release::<T, H, Collect>(words, seat, sizes, number, rows, noted.slot, owner);
+    let (noted, part) = owner;
+    let left = release::<T, H, Collect>(place, seat, number, rows, noted.slot, part);
     if left > 0 {
         return false;
     }
-    keep(words, seat, sizes, kept, noted);
+    keep(place, seat, kept, noted);
     true
 }
 

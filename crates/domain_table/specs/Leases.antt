@@ -7,7 +7,7 @@ use Rattle.sdd_plain.specs.declared.sizes.Sizes.{Sizes}
 use Rattle.sdd_steps.specs.declared.participant.Participant.{Participant}
 use Rattle.sdd_steps.specs.declared.participant.Loaded.{Loaded}
 use Rattle.sdd_steps.specs.State.{Has}
-use Rattle.sdd_steps.specs.Steps.{is_inside, is_ready}
+use Rattle.sdd_steps.specs.Steps.{is_ready}
 use Rattle.sdd_homes.specs.declared.Owner.{Owner}
 use Rattle.sdd_homes.specs.declared.Garbage.{Garbage}
 use Rattle.sdd_homes.specs.Book.{Apart}
@@ -150,10 +150,6 @@ HasClonedOne m r m' = (ls : List Lease) × AreAt m.0.leases ls × HasCloned m r 
 abbrev pub HasOwned : {S : Type 0} → ℕ → ℕ → Me S Acting → Me S Acting → Type 0
 HasOwned k r m m' = (o : Owner) × (ls : List Lease) × (o.slot ≡ k) × (o.round ≡ r) × AreAt m.0.leases ls × (m' ≡ (record m.0 { hand = o ∷ m.0.hand; leases = ls }, m.1))
     × ((first : Owner) (os : List Owner) → m.0.hand ≡ first ∷ os → first.slot ≡ k → o ≡ first)
-
--- the seat acts for p under an open guard, has this spare slot, and releases nothing
-abbrev pub CanExchange : ℕ → ℕ → Acting → Type 0
-CanExchange p spare d = (d.kind ≡ of_participant) × (d.number ≡ p) × (is_ready d.known ≡ true) × (is_inside d.known ≡ true) × (d.releasing ≡ 0) × (d.spare ≡ spare) × (spare < 2 ^ 31)
 
 -- the seat acts for p, which has nothing leased and releases nothing, and may make steps on items
 abbrev pub IsAtRest : ℕ → Acting → Type 0

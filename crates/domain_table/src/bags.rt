@@ -14,10 +14,9 @@ ghost use Rattle.domain_table.specs.Ledgers.{WaitsIn, Rearranges, HasDue, HasRet
 ghost use Rattle.domain_table.specs.Views.{of_participant, older_waits};
 ghost use Rattle.domain_table.specs.Plays.{with_waits};
 
-use crate::board::{Seat, Words};
+use crate::board::{Place, Seat};
 use crate::holding::Holding;
 use crate::links::{follow, load_link};
-use sdd_plain::sizes::Sizes;
 
 /// Where a bag that isn't empty begins and ends: the slots of its oldest and of its newest item.
 #[derive(Clone, Copy, Drop)]
@@ -28,14 +27,13 @@ pub struct Ends {
 
 /// Joins two bags that lie one behind the other: what is in `newer` comes behind all that is in `older`.
 fn join<T, H: Holding<T>>(
-    words: &Words<T, H>,
+    place: Place<T, H>,
     seat: &mut Seat<T>,
-    sizes: &Sizes,
     newer: Option<Ends>,
     older: Option<Ends>,
 ) -> Option<Ends>
-    requires table { FitsSizes words.now.table_id words.now.key.sizes seat.old.table_id seat.old.me.0.sizes sizes.now }
-    requires acts { (seat.old.me.0.kind ≡ of_participant) × AllBelow sizes.now.slots seat.old.me.0.waits }
+    requires table { FitsSizes place seat.old }
+    requires acts { (seat.old.me.0.kind ≡ of_participant) × AllBelow place.sizes.now.slots seat.old.me.0.waits }
     requires bags { LieInFront seat.old.me.0.waits newer older }
     ensures seat { (seat.new.table_id ≡ seat.old.table_id) × (seat.new.id ≡ seat.old.id) }
     ensures joined { IsJoined seat.old.me.0.waits newer older result (λ ws. seat.new.me ≡ with_waits ws seat.old.me) }
@@ -46,7 +44,7 @@ fn join<T, H: Holding<T>>(
     let Some(front) = older else {
         return newer;
     };
-    follow(words, seat, sizes, front.last, behind.first);
+    follow(place, seat, front.last, behind.first);
     Some(Ends {
         first: front.first,
         last: behind.last,
@@ -55,13 +53,12 @@ fn join<T, H: Holding<T>>(
 
 /// Takes out of the bag what has been in it the longest, which is behind all else that waits. The item waits on.
 fn take_first<T, H: Holding<T>>(
-    words: &Words<T, H>,
+    place: Place<T, H>,
     seat: &mut Seat<T>,
-    sizes: &Sizes,
     bag: Option<Ends>,
 ) -> (Option<usize>, Option<Ends>)
-    requires table { FitsSizes words.now.table_id words.now.key.sizes seat.old.table_id seat.old.me.0.sizes sizes.now }
-    requires acts { (seat.old.me.0.kind ≡ of_participant) × AllBelow sizes.now.slots seat.old.me.0.waits }
+    requires table { FitsSizes place seat.old }
+    requires acts { (seat.old.me.0.kind ≡ of_participant) × AllBelow place.sizes.now.slots seat.old.me.0.waits }
     requires bag { LiesBehind seat.old.me.0.waits bag }
     ensures seat { (seat.new.table_id ≡ seat.old.table_id) × (seat.new.id ≡ seat.old.id) × (seat.new.me ≡ seat.old.me) }
     ensures none { IfNone result.0 ((bag ≡ None) × (result.1 ≡ None)) }
@@ -70,7 +67,7 @@ fn take_first<T, H: Holding<T>>(
     let Some(ends) = bag else {
         return (None, None);
     };
-    let found = load_link(words, seat, sizes, ends.first);
+    let found = load_link(place, seat, ends.first);
     if ends.first == ends.last {
         return (Some(ends.first), None);
     }
@@ -107,43 +104,36 @@ impl Bags {
     }
 
     /// What the participant has just retired, in `slot`, comes into the current bag.
-    pub fn retire<T, H: Holding<T>>(
-        &mut self,
-        words: &Words<T, H>,
-        seat: &mut Seat<T>,
-        sizes: &Sizes,
-        slot: usize,
-    )
-        requires table { FitsSizes words.now.table_id words.now.key.sizes seat.old.table_id seat.old.me.0.sizes sizes.now × (slot < sizes.now.slots) }
+    pub fn retire<T, H: Holding<T>>(&mut self, place: Place<T, H>, seat: &mut Seat<T>, slot: usize)
+        requires table { FitsSizes place seat.old × (slot < place.sizes.now.slots) }
         requires acts { seat.old.me.0.kind ≡ of_participant }
-        requires retired { HasRetired sizes.now.slots slot seat.old.me.0.waits self.old }
+        requires retired { HasRetired place.sizes.now.slots slot seat.old.me.0.waits self.old }
         ensures seat { (seat.new.table_id ≡ seat.old.table_id) × (seat.new.id ≡ seat.old.id) }
-        ensures waits { Rearranges sizes.now.slots seat.old.me self.new seat.new.me }
+        ensures waits { Rearranges place.entry.sizes.now.slots seat.old.me self.new seat.new.me }
         ensures due { (self.new.due ≡ self.old.due) × (aged 3 seat.new.me.0.waits ≡ aged 3 seat.old.me.0.waits) }
     {
         let alone = Ends {
             first: slot,
             last: slot,
         };
-        self.current = join(words, seat, sizes, Some(alone), self.current);
+        self.current = join(place, seat, Some(alone), self.current);
     }
 
     /// What the participant has just taken over comes into the current bag, in its order.
     pub fn take_over<T, H: Holding<T>>(
         &mut self,
-        words: &Words<T, H>,
+        place: Place<T, H>,
         seat: &mut Seat<T>,
-        sizes: &Sizes,
         chain: Option<Ends>,
     )
-        requires table { FitsSizes words.now.table_id words.now.key.sizes seat.old.table_id seat.old.me.0.sizes sizes.now }
+        requires table { FitsSizes place seat.old }
         requires acts { seat.old.me.0.kind ≡ of_participant }
-        requires taken { HasTakenOver sizes.now.slots chain seat.old.me.0.waits self.old }
+        requires taken { HasTakenOver place.sizes.now.slots chain seat.old.me.0.waits self.old }
         ensures seat { (seat.new.table_id ≡ seat.old.table_id) × (seat.new.id ≡ seat.old.id) }
-        ensures waits { Rearranges sizes.now.slots seat.old.me self.new seat.new.me }
+        ensures waits { Rearranges place.entry.sizes.now.slots seat.old.me self.new seat.new.me }
         ensures due { self.new.due ≡ self.old.due }
     {
-        self.current = join(words, seat, sizes, chain, self.current);
+        self.current = join(place, seat, chain, self.current);
     }
 
     /// Turns the bags by one, where nothing is due.
@@ -176,36 +166,30 @@ impl Bags {
     /// Takes out what has waited the longest, if it is due. It waits on, until it is reclaimed.
     pub fn take_due<T, H: Holding<T>>(
         &mut self,
-        words: &Words<T, H>,
+        place: Place<T, H>,
         seat: &mut Seat<T>,
-        sizes: &Sizes,
     ) -> Option<usize>
-        requires table { FitsSizes words.now.table_id words.now.key.sizes seat.old.table_id seat.old.me.0.sizes sizes.now }
+        requires table { FitsSizes place seat.old }
         requires acts { seat.old.me.0.kind ≡ of_participant }
-        requires waits { WaitsIn sizes.now.slots seat.old.me.0.waits self.old }
+        requires waits { WaitsIn place.sizes.now.slots seat.old.me.0.waits self.old }
         ensures seat { (seat.new.table_id ≡ seat.old.table_id) × (seat.new.id ≡ seat.old.id) × (seat.new.me ≡ seat.old.me) }
-        ensures none { IfNone result (WaitsIn sizes.now.slots seat.old.me.0.waits self.new × (self.new.due ≡ None)) }
-        ensures taken { IfSome result (λ slot. HasDue sizes.now.slots slot seat.old.me.0.waits self.new) }
+        ensures none { IfNone result (WaitsIn place.entry.sizes.now.slots seat.old.me.0.waits self.new × (self.new.due ≡ None)) }
+        ensures taken { IfSome result (λ slot. HasDue place.entry.sizes.now.slots slot seat.old.me.0.waits self.new) }
     {
-        let (slot, due) = take_first(words, seat, sizes, self.due);
+        let (slot, due) = take_first(place, seat, self.due);
         self.due = due;
         slot
     }
 
     /// Joins the three bags to one, where nothing is due.
-    pub fn joined<T, H: Holding<T>>(
-        self,
-        words: &Words<T, H>,
-        seat: &mut Seat<T>,
-        sizes: &Sizes,
-    ) -> Option<Ends>
-        requires table { FitsSizes words.now.table_id words.now.key.sizes seat.old.table_id seat.old.me.0.sizes sizes.now }
+    pub fn joined<T, H: Holding<T>>(self, place: Place<T, H>, seat: &mut Seat<T>) -> Option<Ends>
+        requires table { FitsSizes place seat.old }
         requires acts { seat.old.me.0.kind ≡ of_participant }
-        requires waits { WaitsIn sizes.now.slots seat.old.me.0.waits self × (self.due ≡ None) }
+        requires waits { WaitsIn place.sizes.now.slots seat.old.me.0.waits self × (self.due ≡ None) }
         ensures seat { (seat.new.table_id ≡ seat.old.table_id) × (seat.new.id ≡ seat.old.id) }
-        ensures joined { WaitsInOne sizes.now.slots result seat.old.me seat.new.me }
+        ensures joined { WaitsInOne place.entry.sizes.now.slots result seat.old.me seat.new.me }
     {
-        let newer = join(words, seat, sizes, self.current, self.previous);
-        join(words, seat, sizes, newer, self.next)
+        let newer = join(place, seat, self.current, self.previous);
+        join(place, seat, newer, self.next)
     }
 }

@@ -92,5 +92,12 @@ pub type Board<T, H> = Table<Home<T>, Acting, Plan, Rule<H>, Global>;
 /// The table as threads see it.
 pub type Words<T, H> = Shared<Home<T>, Acting, Plan, Rule<H>>;
 
+/// The words of a place, with how large it is: what each call here acts on. It is handed on by value, in two registers.
+#[derive_where(Clone, Copy)]
+pub struct Place<'a, T, H: Holding<T>> {
+    pub words: &'a Words<T, H>,
+    pub sizes: &'a Sizes,
+}
+
 /// What one thread knows of it.
 pub type Seat<T> = atomic_table::Seat<Home<T>, Acting>;

@@ -1,6 +1,6 @@
 //! The single steps of a participant on the words of cells.
 
-ghost use Rattle.std.specs.Prelude.{◌≡◌, ◌≢◌, ℕ, ◌∷◌, ◌+◌, ◌-◌, ◌*◌, ◌^◌, ◌<◌, ◌≤◌, true, List, Option, length, drop, IsTrue, IsFalse};
+ghost use Rattle.std.specs.Prelude.{◌≡◌, ◌≢◌, ℕ, ◌∷◌, ◌+◌, ◌-◌, ◌*◌, ◌^◌, ◌<◌, true, List, Option, length, drop, IsTrue, IsFalse};
 ghost use Rattle.sdd_steps.specs.Steps.{is_inside, is_ready};
 ghost use Rattle.sdd_homes.specs.declared.Lease.{Lease};
 ghost use Rattle.sdd_homes.specs.Book.{Lends, Apart};
@@ -8,20 +8,19 @@ ghost use Rattle.sdd_homes.specs.declared.Owner.{Owner};
 ghost use Rattle.sdd_steps.specs.State.{Has};
 ghost use Rattle.domain_table.specs.Outcomes.{Exchanges, KeepsLease, EndsRelease, ClonesAt, LeasesFirst, LoadsCell, ReadsCell};
 ghost use Rattle.domain_table.specs.Leases.{HasFew, ReleasesOne};
-ghost use Rattle.domain_table.specs.Fitting.{FitsFree, FitsCell, HasSlotWord};
+ghost use Rattle.domain_table.specs.Fitting.{FitsFree, FitsCell, HasSlotWord, HasWords};
 ghost use Rattle.domain_table.specs.Contents.{IsIn};
-ghost use Rattle.domain_table.specs.Layout.{cell_word, claim_word, all_words, IsSized, AreAlike};
+ghost use Rattle.domain_table.specs.Layout.{cell_word, claim_word, AreAlike};
 ghost use Rattle.domain_table.specs.Plays.{Scans, load_then, read_cell_then, with_step, load_own_then, CanClose, ending, end_all_then, Brings, swap_then, IsAlike, clone_then, MayNote, HasRoom, release_then, HasBegun, begin_then, end_release_then, keep_then, exchange_then, retag_then};
 ghost use Rattle.domain_table.specs.declared.board.Home.{Home};
 ghost use Rattle.domain_table.specs.Views.{of_participant};
 ghost use Rattle.domain_table.specs.Readiness.{CanEndAt, CanKeepHome, CanStep, CanStepInside, IsFirstLeased};
 
 use crate::aim::Aim;
-use crate::board::{Acting, Home, Seat, Words};
+use crate::board::{Acting, Home, Place, Seat, Words};
 use crate::holding::Holding;
 use crate::layout::{NO_OWNER, ONE_OWNER, STATE, STRIDE, cell_word, owners_word};
 use atomic_table::Play;
-use sdd_plain::sizes::Sizes;
 use std::marker::PhantomData;
 
 struct OnLoad<H>(PhantomData<H>);
@@ -97,10 +96,10 @@ impl<T, H: Holding<T>, A: Aim> Play<Home<T>, Acting> for OnEndRelease<H, A> {
 }
 
 /// The word of a cell, as it was at some moment: no step records it.
-pub fn word_of<T, H: Holding<T>>(words: &Words<T, H>, sizes: &Sizes, cell: usize) -> u64
-    requires { (words.now.key.sizes ≡ sizes.now) × IsSized sizes.now × (cell < sizes.now.cells) × (all_words sizes.now ≤ words.now.table_id.words) }
+pub fn word_of<T, H: Holding<T>>(place: Place<T, H>, cell: usize) -> u64
+    requires { HasWords place × (cell < place.sizes.now.cells) }
 {
-    words.peek(cell_word(sizes.participants, cell))
+    place.words.peek(cell_word(place.sizes.participants, cell))
 }
 
 /// Reads the word of the cell, for `participants` of them, in one recorded step: nothing is loaded.
@@ -208,13 +207,12 @@ pub fn change_tag<T, H: Holding<T>>(
 /// Tries once to make one more owner of the item that is leased in `slot`, which has `owners` of them. The owner is in hand,
 /// with one of the parts of the lease. Whether nobody was faster.
 pub(crate) fn clone_owner<T, H: Holding<T>>(
-    words: &Words<T, H>,
+    place: Place<T, H>,
     seat: &mut Seat<T>,
-    sizes: &Sizes,
     slot: usize,
     owners: u64,
 ) -> bool
-    requires table { FitsFree words.now.table_id words.now.key.sizes seat.old.table_id seat.old.me.0.sizes sizes.now slot }
+    requires table { FitsFree place seat.old slot }
     requires ready { (seat.old.me.0.kind ≡ of_participant) × (is_ready seat.old.me.0.known ≡ true) }
     requires leased { (l : Lease) × Has seat.old.me.0.leases l × (l.slot ≡ slot) × (0 < l.count) }
     requires counted { (0 < owners) × (owners < 2 ^ 32 - 1) }
@@ -223,6 +221,7 @@ pub(crate) fn clone_owner<T, H: Holding<T>>(
     ensures refused { IsFalse result → seat.new.me ≡ seat.old.me }
     ensures alike { (l : Lease) → Has seat.old.me.0.leases l → l.slot ≡ slot → Apart seat.old.me.0.leases × IsAlike l seat.old.me.0 }
 {
+    let Place { words, sizes } = place;
     let word = owners_word(sizes, slot);
     let found = NO_OWNER + owners;
     words.compare_exchange::<OnClone>(seat, word, found, ONE_OWNER + owners) == found
@@ -257,12 +256,11 @@ pub(crate) fn keep_home<T, H: Holding<T>>(words: &Words<T, H>, seat: &mut Seat<T
 /// how many owners are left. The last release retires the item or puts it into a private bag, as `A` says, in the same
 /// step.
 pub(crate) fn release_owner<T, H: Holding<T>, A: Aim>(
-    words: &Words<T, H>,
+    place: Place<T, H>,
     seat: &mut Seat<T>,
-    sizes: &Sizes,
     slot: usize,
 ) -> u64
-    requires table { HasSlotWord words.now.table_id words.now.key.sizes seat.old.table_id sizes.now slot }
+    requires table { HasSlotWord place seat.old slot }
     requires ready { CanStep seat.old.me.0 }
     requires may { MayNote (A.to seat.old.me.0.known) seat.old.me.0.known }
     requires owner { IsFirstLeased slot seat.old.me.0 }
@@ -270,6 +268,7 @@ pub(crate) fn release_owner<T, H: Holding<T>, A: Aim>(
     ensures few { HasFew seat.old.me.0 }
     ensures released { ReleasesOne A.to seat.old.me (result + 3) seat.new.me }
 {
+    let Place { words, sizes } = place;
     words.fetch_sub::<OnRelease<A>>(seat, owners_word(sizes, slot), 1) - ONE_OWNER
 }
 
@@ -278,12 +277,11 @@ pub(crate) fn release_owner<T, H: Holding<T>, A: Aim>(
 /// put back in the same step. Answers how many owners are left. The last release
 /// retires the item or puts it into a private bag, as `A` says, in that step too.
 pub(crate) fn end_release<T, H: Holding<T>, A: Aim>(
-    words: &Words<T, H>,
+    place: Place<T, H>,
     seat: &mut Seat<T>,
-    sizes: &Sizes,
     slot: usize,
 ) -> u64
-    requires table { HasSlotWord words.now.table_id words.now.key.sizes seat.old.table_id sizes.now slot }
+    requires table { HasSlotWord place seat.old slot }
     requires ready { (seat.old.me.0.kind ≡ of_participant) × (is_ready seat.old.me.0.known ≡ true) }
     requires may { MayNote (A.to seat.old.me.0.known) seat.old.me.0.known }
     requires begun { CanEndAt (IsIn H.holds) slot seat.old.me }
@@ -291,6 +289,7 @@ pub(crate) fn end_release<T, H: Holding<T>, A: Aim>(
     ensures room { HasRoom seat.old.me.0 }
     ensures ended { EndsRelease (IsIn H.holds) A.to seat.old.me (result + 3) seat.new.me }
 {
+    let Place { words, sizes } = place;
     words.fetch_sub::<OnEndRelease<H, A>>(seat, owners_word(sizes, slot), 1) - ONE_OWNER
 }
 

@@ -19,12 +19,11 @@ ghost use Rattle.domain_table.specs.Views.{of_participant};
 ghost use Rattle.domain_table.specs.Readiness.{IsIdleAndBare};
 
 use crate::bags::{Bags, Ends};
-use crate::board::{Acting, Home, Seat, Words};
+use crate::board::{Acting, Home, Place, Seat, Words};
 use crate::holding::Holding;
 use crate::layout::{LEFT, STRIDE};
 use atomic_table::Play;
 use parted::GhostList;
-use sdd_plain::sizes::Sizes;
 
 /// A left word is the last slot, and one more than the first slot times this.
 const FIRST: u64 = 1 << 31;
@@ -74,70 +73,55 @@ fn bag_in(word: u64) -> Option<Ends>
 
 /// Takes over what participant `number` left, under the scan lock: it is put in front of what waits.
 fn take_left<T, H: Holding<T>>(
-    words: &Words<T, H>,
+    place: Place<T, H>,
     seat: &mut Seat<T>,
-    sizes: &Sizes,
     number: usize,
 ) -> Option<Ends>
-    requires table { FitsNumber words.now.table_id words.now.key.sizes seat.old.table_id seat.old.me.0.sizes sizes.now number }
+    requires table { FitsNumber place seat.old number }
     requires ready { (seat.old.me.0.kind ≡ of_participant) × (is_ready seat.old.me.0.known ≡ true) }
     requires locked { 0 < seat.old.me.0.scan }
     ensures seat { (seat.new.table_id ≡ seat.old.table_id) × (seat.new.id ≡ seat.old.id) }
-    ensures taken { TakesOver sizes.now.slots result seat.old.me.0.left seat.old.me seat.new.me }
+    ensures taken { TakesOver place.entry.sizes.now.slots result seat.old.me.0.left seat.old.me seat.new.me }
 {
+    let words = place.words;
     bag_in(words.swap::<OnTakeLeft>(seat, STRIDE * number + LEFT, 0))
 }
 
 /// Takes back what the seat's own participant left when it ended before, if nobody has taken it over.
-fn take_own<T, H: Holding<T>>(
-    words: &Words<T, H>,
-    seat: &mut Seat<T>,
-    sizes: &Sizes,
-    number: usize,
-) -> Option<Ends>
-    requires table { FitsNumber words.now.table_id words.now.key.sizes seat.old.table_id seat.old.me.0.sizes sizes.now number }
+fn take_own<T, H: Holding<T>>(place: Place<T, H>, seat: &mut Seat<T>, number: usize) -> Option<Ends>
+    requires table { FitsNumber place seat.old number }
     requires ready { (seat.old.me.0.kind ≡ of_participant) × (is_ready seat.old.me.0.known ≡ true) × (seat.old.me.0.number ≡ number) }
     ensures seat { (seat.new.table_id ≡ seat.old.table_id) × (seat.new.id ≡ seat.old.id) }
-    ensures taken { TakesOver sizes.now.slots result 1 seat.old.me seat.new.me }
+    ensures taken { TakesOver place.entry.sizes.now.slots result 1 seat.old.me seat.new.me }
 {
+    let words = place.words;
     bag_in(words.swap::<OnTakeOwn>(seat, STRIDE * number + LEFT, 0))
 }
 
 /// Says by the left word of participant `number` what it leaves: all that it retired, which is in this bag.
-fn tell<T, H: Holding<T>>(
-    words: &Words<T, H>,
-    seat: &mut Seat<T>,
-    sizes: &Sizes,
-    number: usize,
-    bag: Option<Ends>,
-)
-    requires table { FitsNumber words.now.table_id words.now.key.sizes seat.old.table_id seat.old.me.0.sizes sizes.now number }
+fn tell<T, H: Holding<T>>(place: Place<T, H>, seat: &mut Seat<T>, number: usize, bag: Option<Ends>)
+    requires table { FitsNumber place seat.old number }
     requires rests { IsIdleAndBare number seat.old.me.0 }
     requires known { seat.old.me.0.left ≡ 1 }
-    requires bag { IsBag seat.old.me.0.waits bag × AllBelow sizes.now.slots seat.old.me.0.waits }
+    requires bag { IsBag seat.old.me.0.waits bag × AllBelow place.sizes.now.slots seat.old.me.0.waits }
     ensures { (seat.new.table_id ≡ seat.old.table_id) × (seat.new.id ≡ seat.old.id) × (seat.new.me ≡ (leaving seat.old.me.0, seat.old.me.1)) }
 {
+    let words = place.words;
     words.store::<OnLeave>(seat, STRIDE * number + LEFT, word_of(bag));
 }
 
 /// Leaves what the participant retired and didn't reclaim, with what it left before.
-pub fn leave<T, H: Holding<T>>(
-    words: &Words<T, H>,
-    seat: &mut Seat<T>,
-    sizes: &Sizes,
-    number: usize,
-    bags: Bags,
-)
-    requires table { FitsNumber words.now.table_id words.now.key.sizes seat.old.table_id seat.old.me.0.sizes sizes.now number }
+pub fn leave<T, H: Holding<T>>(place: Place<T, H>, seat: &mut Seat<T>, number: usize, bags: Bags)
+    requires table { FitsNumber place seat.old number }
     requires rests { IsIdleAndBare number seat.old.me.0 }
-    requires waits { WaitsIn sizes.now.slots seat.old.me.0.waits bags × (bags.due ≡ None) }
+    requires waits { WaitsIn place.sizes.now.slots seat.old.me.0.waits bags × (bags.due ≡ None) }
     ensures { (seat.new.table_id ≡ seat.old.table_id) × (seat.new.id ≡ seat.old.id) × (seat.new.me ≡ (leaving seat.old.me.0, seat.old.me.1)) }
 {
     let mut bags = bags;
-    let before = take_own(words, seat, sizes, number);
-    bags.take_over(words, seat, sizes, before);
-    let bag = bags.joined(words, seat, sizes);
-    tell(words, seat, sizes, number, bag);
+    let before = take_own(place, seat, number);
+    bags.take_over(place, seat, before);
+    let bag = bags.joined(place, seat);
+    tell(place, seat, number, bag);
 }
 
 /// Whose left words were read, for contracts. Only `has_left` adds to it.
@@ -157,51 +141,49 @@ fn has_left<T, H: Holding<T>>(words: &Words<T, H>, number: usize, looks: &mut Lo
 
 /// Takes over what participant `number` left, if it left something, under the scan lock: it comes into the current bag.
 fn take_if_left<T, H: Holding<T>>(
-    words: &Words<T, H>,
+    place: Place<T, H>,
     seat: &mut Seat<T>,
-    sizes: &Sizes,
     bags: &mut Bags,
     number: usize,
     looks: &mut Looks,
 )
-    requires table { FitsNumber words.now.table_id words.now.key.sizes seat.old.table_id seat.old.me.0.sizes sizes.now number }
+    requires table { FitsNumber place seat.old number }
     requires ready { (seat.old.me.0.kind ≡ of_participant) × (is_ready seat.old.me.0.known ≡ true) }
     requires locked { 0 < seat.old.me.0.scan }
-    requires waits { WaitsIn sizes.now.slots seat.old.me.0.waits bags.old }
+    requires waits { WaitsIn place.sizes.now.slots seat.old.me.0.waits bags.old }
     ensures seat { (seat.new.table_id ≡ seat.old.table_id) × (seat.new.id ≡ seat.old.id) }
-    ensures taken { (ws : List Garbage) × WaitsIn sizes.now.slots ws bags.new × (seat.new.me ≡ with_waits ws seat.old.me) }
+    ensures taken { (ws : List Garbage) × WaitsIn place.entry.sizes.now.slots ws bags.new × (seat.new.me ≡ with_waits ws seat.old.me) }
     ensures due { bags.new.due ≡ bags.old.due }
     ensures looked { looks.new.numbers.items ≡ looks.old.numbers.items ++ number ∷ [] }
 {
-    if !has_left(words, number, looks) {
+    if !has_left(place.words, number, looks) {
         return;
     }
-    let chain = take_left(words, seat, sizes, number);
-    bags.take_over(words, seat, sizes, chain);
+    let chain = take_left(place, seat, number);
+    bags.take_over(place, seat, chain);
 }
 
 /// Takes over all that ended participants left, under the scan lock: it comes into the current bag. Each participant's left
 /// word is read.
 pub(crate) fn take_all_left<T, H: Holding<T>>(
-    words: &Words<T, H>,
+    place: Place<T, H>,
     seat: &mut Seat<T>,
-    sizes: &Sizes,
     bags: &mut Bags,
 ) -> Looks
-    requires table { FitsSizes words.now.table_id words.now.key.sizes seat.old.table_id seat.old.me.0.sizes sizes.now }
+    requires table { FitsSizes place seat.old }
     requires ready { (seat.old.me.0.kind ≡ of_participant) × (is_ready seat.old.me.0.known ≡ true) }
     requires locked { 0 < seat.old.me.0.scan }
-    requires waits { WaitsIn sizes.now.slots seat.old.me.0.waits bags.old }
+    requires waits { WaitsIn place.sizes.now.slots seat.old.me.0.waits bags.old }
     ensures seat { (seat.new.table_id ≡ seat.old.table_id) × (seat.new.id ≡ seat.old.id) }
-    ensures taken { (ws : List Garbage) × WaitsIn sizes.now.slots ws bags.new × (seat.new.me ≡ with_waits ws seat.old.me) }
+    ensures taken { (ws : List Garbage) × WaitsIn place.entry.sizes.now.slots ws bags.new × (seat.new.me ≡ with_waits ws seat.old.me) }
     ensures due { bags.new.due ≡ bags.old.due }
-    ensures looked { HasLookedAtAll sizes.now.participants result }
+    ensures looked { HasLookedAtAll place.entry.sizes.now.participants result }
 {
     let mut looks = Looks {
         numbers: GhostList::new(),
     };
-    for number in 0..sizes.participants {
-        take_if_left(words, seat, sizes, bags, number, &mut looks);
+    for number in 0..place.sizes.participants {
+        take_if_left(place, seat, bags, number, &mut looks);
     }
     looks
 }

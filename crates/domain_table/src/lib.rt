@@ -38,7 +38,8 @@
 //! A [`Board`](board::Board) has the words and slots. Each step of [`steps`], [`slots`] and [`cells`] is one operation on one
 //! word, proved to keep the rule, and says what the seat that took it knows then. Over them [`owners`], [`leases`],
 //! [`loading`], [`placing`] and [`scan`] move the parts of items between their homes, their owners and what a
-//! participant has leased. What items hold is a parameter, which their [`Holding`](holding::Holding) shows to the rule.
+//! participant has leased. They are handed the words and the sizes of the place as one [`Place`](board::Place). What items
+//! hold is a parameter, which their [`Holding`](holding::Holding) shows to the rule.
 #![tactic(auto)]
 
 pub mod aim;

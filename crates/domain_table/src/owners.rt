@@ -18,7 +18,7 @@ ghost use Rattle.domain_table.specs.declared.board.Home.{Home};
 ghost use Rattle.domain_table.specs.Readiness.{CanPutBack, CanRelease, CanStep};
 
 use crate::aim::Aim;
-use crate::board::{Acting, Home, Seat, Stored, Words};
+use crate::board::{Acting, Home, Place, Seat, Stored, Words};
 use crate::cells;
 use crate::holding::Holding;
 use crate::homes::{let_go, parts_of};
@@ -27,7 +27,6 @@ use crate::leases::row_of;
 use crate::row::Row;
 use atomic_table::{Join, Split};
 use parted::{Calm, One, Tally};
-use sdd_plain::sizes::Sizes;
 use std::collections::VecDeque;
 
 /// How often the count of an item's owners is read and tried to be raised: each time others may be faster.
@@ -75,55 +74,53 @@ pub fn take_in<T, H: Holding<T>>(words: &Words<T, H>, seat: &mut Seat<T>, owner:
 /// participant `number`. Answers how many owners are left. The last release retires the item or puts it into a private
 /// bag, as `A` says.
 pub fn release_home<T, H: Holding<T>, A: Aim>(
-    words: &Words<T, H>,
+    place: Place<T, H>,
     seat: &mut Seat<T>,
-    sizes: &Sizes,
     number: usize,
     slot: usize,
     owner: One<Stored<T>>,
 ) -> u64
-    requires table { FitsSizes words.now.table_id words.now.key.sizes seat.old.table_id seat.old.me.0.sizes sizes.now × (number < sizes.now.participants) }
+    requires table { FitsSizes place seat.old × (number < place.sizes.now.participants) }
     requires ready { CanRelease number seat.old.me.0 }
     requires may { MayNote (A.to seat.old.me.0.known) seat.old.me.0.known }
     requires owner { IsFirst seat.old.me.0 slot owner.part.life.id × IsSome owner.part.seen.value }
     requires free { ¬ Lends seat.old.me.0.leases slot }
     ensures seat { (seat.new.table_id ≡ seat.old.table_id) × (seat.new.id ≡ seat.old.id) }
-    ensures low { slot < sizes.now.slots }
-    ensures bag_room { length seat.old.me.0.collected < sizes.now.slots }
+    ensures low { slot < place.entry.sizes.now.slots }
+    ensures bag_room { length seat.old.me.0.collected < place.entry.sizes.now.slots }
     ensures released { HasReleased A.to slot result seat.old.me seat.old.me.0.leases seat.new.me }
 {
-    cells::begin_release(words, seat);
-    let home = home_of(number, sizes.slots, slot);
-    let (mut own, count) = parts_of::<T, H>(words.exchange(seat, home, Home::Blank));
+    cells::begin_release(place.words, seat);
+    let home = home_of(number, place.sizes.slots, slot);
+    let (mut own, count) = parts_of::<T, H>(place.words.exchange(seat, home, Home::Blank));
     own.join(owner.into_part());
-    let_go(words.exchange(seat, home, Home::Part(own, count + 1)));
-    cells::end_release::<T, H, A>(words, seat, sizes, slot)
+    let_go(place.words.exchange(seat, home, Home::Part(own, count + 1)));
+    cells::end_release::<T, H, A>(place, seat, slot)
 }
 
 /// The same where the item is leased: the owner's part is joined to those of its row, which is `at`.
 fn release_leased<T, H: Holding<T>, A: Aim>(
-    words: &Words<T, H>,
+    place: Place<T, H>,
     seat: &mut Seat<T>,
-    sizes: &Sizes,
     rows: &mut VecDeque<Row<T>>,
     at: usize,
     slot: usize,
     owner: One<Stored<T>>,
 ) -> u64
-    requires table { FitsSizes words.now.table_id words.now.key.sizes seat.old.table_id seat.old.me.0.sizes sizes.now }
+    requires table { FitsSizes place seat.old }
     requires ready { CanStep seat.old.me.0 }
     requires may { MayNote (A.to seat.old.me.0.known) seat.old.me.0.known }
     requires owner { IsFirst seat.old.me.0 slot owner.part.life.id × IsSome owner.part.seen.value }
-    requires rows { AreRowsOf sizes.now.slots seat.old.me.0.leases rows.old.items }
+    requires rows { AreRowsOf place.sizes.now.slots seat.old.me.0.leases rows.old.items }
     requires row { (at < deque_len rows.old) × ((d : Row T) → (slice_index_or rows.old.items at d).slot ≡ slot) }
     ensures seat { (seat.new.table_id ≡ seat.old.table_id) × (seat.new.id ≡ seat.old.id) }
-    ensures low { slot < sizes.now.slots }
-    ensures bag_room { length seat.old.me.0.collected < sizes.now.slots }
+    ensures low { slot < place.entry.sizes.now.slots }
+    ensures bag_room { length seat.old.me.0.collected < place.entry.sizes.now.slots }
     ensures released { HasReleasedOne A.to slot result seat.old.me seat.new.me }
     ensures rows { StayRowsOf seat.old.me.0.leases rows.old.items seat.new.me.0.leases rows.new.items }
     ensures same { (deque_capacity rows.new ≡ deque_capacity rows.old) × (row_slots rows.new.items ≡ row_slots rows.old.items) }
 {
-    let left = cells::release_owner::<T, H, A>(words, seat, sizes, slot);
+    let left = cells::release_owner::<T, H, A>(place, seat, slot);
     match rows.get_mut(at) {
         Some(row) => row.take_in(owner),
         None => unreachable!(),
@@ -134,29 +131,28 @@ fn release_leased<T, H: Holding<T>, A: Aim>(
 /// Releases the owner that is in hand, whose item is in `slot`: its part is joined to those of participant `number`.
 /// Answers how many owners are left. The last release retires the item or puts it into a private bag, as `A` says.
 pub fn release<T, H: Holding<T>, A: Aim>(
-    words: &Words<T, H>,
+    place: Place<T, H>,
     seat: &mut Seat<T>,
-    sizes: &Sizes,
     number: usize,
     rows: &mut VecDeque<Row<T>>,
     slot: usize,
     owner: One<Stored<T>>,
 ) -> u64
-    requires table { FitsSizes words.now.table_id words.now.key.sizes seat.old.table_id seat.old.me.0.sizes sizes.now × (number < sizes.now.participants) }
+    requires table { FitsSizes place seat.old × (number < place.sizes.now.participants) }
     requires ready { CanRelease number seat.old.me.0 }
     requires may { MayNote (A.to seat.old.me.0.known) seat.old.me.0.known }
     requires owner { IsFirst seat.old.me.0 slot owner.part.life.id × IsSome owner.part.seen.value }
-    requires rows { AreRowsOf sizes.now.slots seat.old.me.0.leases rows.old.items }
+    requires rows { AreRowsOf place.sizes.now.slots seat.old.me.0.leases rows.old.items }
     ensures seat { (seat.new.table_id ≡ seat.old.table_id) × (seat.new.id ≡ seat.old.id) }
-    ensures low { slot < sizes.now.slots }
-    ensures bag_room { length seat.old.me.0.collected < sizes.now.slots }
+    ensures low { slot < place.entry.sizes.now.slots }
+    ensures bag_room { length seat.old.me.0.collected < place.entry.sizes.now.slots }
     ensures released { HasReleasedOne A.to slot result seat.old.me seat.new.me }
     ensures rows { StayRowsOf seat.old.me.0.leases rows.old.items seat.new.me.0.leases rows.new.items }
     ensures same { (deque_capacity rows.new ≡ deque_capacity rows.old) × (row_slots rows.new.items ≡ row_slots rows.old.items) }
 {
     match row_of(rows, slot) {
-        Some(at) => release_leased::<T, H, A>(words, seat, sizes, rows, at, slot, owner),
-        None => release_home::<T, H, A>(words, seat, sizes, number, slot, owner),
+        Some(at) => release_leased::<T, H, A>(place, seat, rows, at, slot, owner),
+        None => release_home::<T, H, A>(place, seat, number, slot, owner),
     }
 }
 
@@ -164,13 +160,12 @@ pub fn release<T, H: Holding<T>, A: Aim>(
 /// then. Whether it did: not with the only part, and not where the item has `2^32 - 1` owners. It tries again where
 /// others were faster.
 fn raise_owners<T, H: Holding<T>>(
-    words: &Words<T, H>,
+    place: Place<T, H>,
     seat: &mut Seat<T>,
-    sizes: &Sizes,
     slot: usize,
     parts: u64,
 ) -> bool
-    requires table { FitsSizes words.now.table_id words.now.key.sizes seat.old.table_id seat.old.me.0.sizes sizes.now × (slot < sizes.now.slots) }
+    requires table { FitsSizes place seat.old × (slot < place.sizes.now.slots) }
     requires ready { (seat.old.me.0.kind ≡ of_participant) × (is_ready seat.old.me.0.known ≡ true) }
     requires leased { (l : Lease) × Has seat.old.me.0.leases l × (l.slot ≡ slot) × (l.count ≡ parts) }
     ensures seat { (seat.new.table_id ≡ seat.old.table_id) × (seat.new.id ≡ seat.old.id) }
@@ -183,11 +178,11 @@ fn raise_owners<T, H: Holding<T>>(
         return false;
     }
     for _ in 0..TRIES {
-        let word = words.peek(owners_word(sizes, slot));
+        let word = place.words.peek(owners_word(place.sizes, slot));
         if word <= NO_OWNER || word > MANY_OWNERS {
             return false;
         }
-        if cells::clone_owner(words, seat, sizes, slot, word - NO_OWNER) {
+        if cells::clone_owner(place, seat, slot, word - NO_OWNER) {
             return true;
         }
     }
@@ -209,13 +204,12 @@ fn put_back<T, H: Holding<T>>(words: &Words<T, H>, seat: &mut Seat<T>, home: usi
 /// Makes one more owner of the item of the first owner in hand, which is in `slot` and isn't leased, with one of the
 /// parts of participant `number`: that part is the answer, and both owners are in hand then.
 fn clone_home<T, H: Holding<T>>(
-    words: &Words<T, H>,
+    place: Place<T, H>,
     seat: &mut Seat<T>,
-    sizes: &Sizes,
     number: usize,
     slot: usize,
 ) -> Option<One<Stored<T>>>
-    requires table { FitsSizes words.now.table_id words.now.key.sizes seat.old.table_id seat.old.me.0.sizes sizes.now × (number < sizes.now.participants) }
+    requires table { FitsSizes place seat.old × (number < place.sizes.now.participants) }
     requires ready { CanRelease number seat.old.me.0 }
     requires owner { (o : Owner) × (os : List Owner) × (seat.old.me.0.hand ≡ o ∷ os) × (o.slot ≡ slot) }
     requires free { ¬ Lends seat.old.me.0.leases slot }
@@ -224,41 +218,40 @@ fn clone_home<T, H: Holding<T>>(
     ensures refused { IfNone result (seat.new.me ≡ seat.old.me) }
     ensures leases { seat.new.me.0.leases ≡ seat.old.me.0.leases }
 {
-    cells::begin_release(words, seat);
-    let home = home_of(number, sizes.slots, slot);
-    let (mut own, count) = parts_of::<T, H>(words.exchange(seat, home, Home::Blank));
-    if raise_owners(words, seat, sizes, slot, count) {
+    cells::begin_release(place.words, seat);
+    let home = home_of(number, place.sizes.slots, slot);
+    let (mut own, count) = parts_of::<T, H>(place.words.exchange(seat, home, Home::Blank));
+    if raise_owners(place, seat, slot, count) {
         let one = own.split_one();
-        put_back(words, seat, home, Home::Part(own, count - 1));
+        put_back(place.words, seat, home, Home::Part(own, count - 1));
         return Some(One::from_part(one));
     }
-    put_back(words, seat, home, Home::Part(own, count));
+    put_back(place.words, seat, home, Home::Part(own, count));
     None
 }
 
 /// Makes one more owner of the item that is leased in `slot`, with one of the parts of its row, which is `at`: that part is
 /// the answer, and the owner is first in hand then.
 fn own_at<T, H: Holding<T>>(
-    words: &Words<T, H>,
+    place: Place<T, H>,
     seat: &mut Seat<T>,
-    sizes: &Sizes,
     rows: &mut VecDeque<Row<T>>,
     at: usize,
     slot: usize,
 ) -> Option<One<Stored<T>>>
-    requires table { FitsSizes words.now.table_id words.now.key.sizes seat.old.table_id seat.old.me.0.sizes sizes.now }
+    requires table { FitsSizes place seat.old }
     requires ready { (seat.old.me.0.kind ≡ of_participant) × (is_ready seat.old.me.0.known ≡ true) }
-    requires rows { AreRowsOf sizes.now.slots seat.old.me.0.leases rows.old.items }
+    requires rows { AreRowsOf place.sizes.now.slots seat.old.me.0.leases rows.old.items }
     requires row { (at < deque_len rows.old) × ((d : Row T) → (slice_index_or rows.old.items at d).slot ≡ slot) }
     ensures seat { (seat.new.table_id ≡ seat.old.table_id) × (seat.new.id ≡ seat.old.id) }
     ensures owned { IfSome result (λ p. HasOwned slot p.part.life.id seat.old.me seat.new.me) }
-    ensures there { IfSome result (λ p. IsSome p.part.seen.value × (slot < sizes.now.slots)) }
+    ensures there { IfSome result (λ p. IsSome p.part.seen.value × (slot < place.entry.sizes.now.slots)) }
     ensures refused { IfNone result (seat.new.me ≡ seat.old.me) }
     ensures rows { StayRowsOf seat.old.me.0.leases rows.old.items seat.new.me.0.leases rows.new.items }
     ensures same { (deque_capacity rows.new ≡ deque_capacity rows.old) × (row_slots rows.new.items ≡ row_slots rows.old.items) }
 {
     let parts = rows[at].count;
-    if !raise_owners(words, seat, sizes, slot, parts) {
+    if !raise_owners(place, seat, slot, parts) {
         return None;
     }
     match rows.get_mut(at) {
@@ -269,39 +262,37 @@ fn own_at<T, H: Holding<T>>(
 
 /// The same of any slot: none, too, where no item is leased in it.
 pub fn own_leased<T, H: Holding<T>>(
-    words: &Words<T, H>,
+    place: Place<T, H>,
     seat: &mut Seat<T>,
-    sizes: &Sizes,
     rows: &mut VecDeque<Row<T>>,
     slot: usize,
 ) -> Option<One<Stored<T>>>
-    requires table { FitsSizes words.now.table_id words.now.key.sizes seat.old.table_id seat.old.me.0.sizes sizes.now }
+    requires table { FitsSizes place seat.old }
     requires ready { (seat.old.me.0.kind ≡ of_participant) × (is_ready seat.old.me.0.known ≡ true) }
-    requires rows { AreRowsOf sizes.now.slots seat.old.me.0.leases rows.old.items }
+    requires rows { AreRowsOf place.sizes.now.slots seat.old.me.0.leases rows.old.items }
     ensures seat { (seat.new.table_id ≡ seat.old.table_id) × (seat.new.id ≡ seat.old.id) }
     ensures owned { IfSome result (λ p. HasOwned slot p.part.life.id seat.old.me seat.new.me) }
-    ensures there { IfSome result (λ p. IsSome p.part.seen.value × (slot < sizes.now.slots)) }
+    ensures there { IfSome result (λ p. IsSome p.part.seen.value × (slot < place.entry.sizes.now.slots)) }
     ensures refused { IfNone result (seat.new.me ≡ seat.old.me) }
     ensures rows { StayRowsOf seat.old.me.0.leases rows.old.items seat.new.me.0.leases rows.new.items }
     ensures same { (deque_capacity rows.new ≡ deque_capacity rows.old) × (row_slots rows.new.items ≡ row_slots rows.old.items) }
 {
-    own_at(words, seat, sizes, rows, row_of(rows, slot)?, slot)
+    own_at(place, seat, rows, row_of(rows, slot)?, slot)
 }
 
 /// Makes one more owner of the item of the first owner in hand, which is in `slot`, with one of the parts of participant
 /// `number`: that part is the answer, and both owners are in hand then.
 fn clone_by_row<T, H: Holding<T>>(
-    words: &Words<T, H>,
+    place: Place<T, H>,
     seat: &mut Seat<T>,
-    sizes: &Sizes,
     number: usize,
     rows: &mut VecDeque<Row<T>>,
     slot: usize,
 ) -> Option<One<Stored<T>>>
-    requires table { FitsSizes words.now.table_id words.now.key.sizes seat.old.table_id seat.old.me.0.sizes sizes.now × (number < sizes.now.participants) }
+    requires table { FitsSizes place seat.old × (number < place.sizes.now.participants) }
     requires ready { CanRelease number seat.old.me.0 }
     requires owner { (o : Owner) × (os : List Owner) × (seat.old.me.0.hand ≡ o ∷ os) × (o.slot ≡ slot) }
-    requires rows { AreRowsOf sizes.now.slots seat.old.me.0.leases rows.old.items }
+    requires rows { AreRowsOf place.sizes.now.slots seat.old.me.0.leases rows.old.items }
     ensures seat { (seat.new.table_id ≡ seat.old.table_id) × (seat.new.id ≡ seat.old.id) }
     ensures cloned { IfSome result (λ p. HasClonedOne seat.old.me p.part.life.id seat.new.me) }
     ensures refused { IfNone result (seat.new.me ≡ seat.old.me) }
@@ -309,26 +300,25 @@ fn clone_by_row<T, H: Holding<T>>(
     ensures same { (deque_capacity rows.new ≡ deque_capacity rows.old) × (row_slots rows.new.items ≡ row_slots rows.old.items) }
 {
     match row_of(rows, slot) {
-        Some(at) => own_at(words, seat, sizes, rows, at, slot),
-        None => clone_home(words, seat, sizes, number, slot),
+        Some(at) => own_at(place, seat, rows, at, slot),
+        None => clone_home(place, seat, number, slot),
     }
 }
 
 /// Makes one more owner of the item of the first owner in hand, which is in `slot`, with one of the parts of participant
 /// `number`: that part is the answer, and both owners are in hand then. A refusal is a miss.
 pub fn clone<T, H: Holding<T>>(
-    words: &Words<T, H>,
+    place: Place<T, H>,
     seat: &mut Seat<T>,
-    sizes: &Sizes,
     number: usize,
     rows: &mut VecDeque<Row<T>>,
     slot: usize,
     misses: &mut Tally,
 ) -> Option<One<Stored<T>>>
-    requires table { FitsSizes words.now.table_id words.now.key.sizes seat.old.table_id seat.old.me.0.sizes sizes.now × (number < sizes.now.participants) }
+    requires table { FitsSizes place seat.old × (number < place.sizes.now.participants) }
     requires ready { CanRelease number seat.old.me.0 }
     requires owner { (o : Owner) × (os : List Owner) × (seat.old.me.0.hand ≡ o ∷ os) × (o.slot ≡ slot) }
-    requires rows { AreRowsOf sizes.now.slots seat.old.me.0.leases rows.old.items }
+    requires rows { AreRowsOf place.sizes.now.slots seat.old.me.0.leases rows.old.items }
     ensures seat { (seat.new.table_id ≡ seat.old.table_id) × (seat.new.id ≡ seat.old.id) }
     ensures cloned { IfSome result (λ p. HasClonedOne seat.old.me p.part.life.id seat.new.me) }
     ensures refused { IfNone result (seat.new.me ≡ seat.old.me) }
@@ -337,7 +327,7 @@ pub fn clone<T, H: Holding<T>>(
     ensures hit { IfSome result (λ p. misses.new.count ≡ misses.old.count) }
     ensures missed { IfNone result (misses.new.count ≡ misses.old.count + 1) }
 {
-    match clone_by_row(words, seat, sizes, number, rows, slot) {
+    match clone_by_row(place, seat, number, rows, slot) {
         Some(more) => Some(more),
         None => {
             misses.raise();

@@ -9,12 +9,11 @@ ghost use Rattle.domain_table.specs.Views.{of_participant};
 ghost use Rattle.domain_table.specs.Bags.{IsFollowed, IsJoined, LieInFront, LieTogether, LiesBehind, LosesOldest};
 
 use crate::bags::Ends;
-use crate::board::{Acting, Home, Seat, Words};
+use crate::board::{Acting, Home, Place, Seat};
 use crate::holding::Holding;
 use crate::layout::link_word;
 use crate::links::load_link;
 use atomic_table::Play;
-use sdd_plain::sizes::Sizes;
 
 struct OnFollowNoted;
 
@@ -23,33 +22,27 @@ impl<T> Play<Home<T>, Acting> for OnFollowNoted {
 }
 
 /// What came into the private bag last, in slot `next`, follows what came before it, in `slot`.
-fn follow_noted<T, H: Holding<T>>(
-    words: &Words<T, H>,
-    seat: &mut Seat<T>,
-    sizes: &Sizes,
-    slot: usize,
-    next: usize,
-)
-    requires table { FitsFree words.now.table_id words.now.key.sizes seat.old.table_id seat.old.me.0.sizes sizes.now slot }
+fn follow_noted<T, H: Holding<T>>(place: Place<T, H>, seat: &mut Seat<T>, slot: usize, next: usize)
+    requires table { FitsFree place seat.old slot }
     requires acts { (seat.old.me.0.kind ≡ of_participant) × (next < 2 ^ 30) }
     requires held { LieTogether seat.old.me.0.collected next slot }
     ensures seat { (seat.new.table_id ≡ seat.old.table_id) × (seat.new.id ≡ seat.old.id) }
     ensures followed { IsFollowed seat.old.me.0.collected next slot (λ ws. seat.new.me ≡ with_collected ws seat.old.me) }
 {
+    let Place { words, sizes } = place;
     words.store::<OnFollowNoted>(seat, link_word(sizes, slot), next as u64 + 1);
 }
 
 /// Joins two chains of the private bag that lie one behind the other: what is in `newer` comes behind all that is in
 /// `older`.
 pub fn join_noted<T, H: Holding<T>>(
-    words: &Words<T, H>,
+    place: Place<T, H>,
     seat: &mut Seat<T>,
-    sizes: &Sizes,
     newer: Option<Ends>,
     older: Option<Ends>,
 ) -> Option<Ends>
-    requires table { FitsSizes words.now.table_id words.now.key.sizes seat.old.table_id seat.old.me.0.sizes sizes.now }
-    requires acts { (seat.old.me.0.kind ≡ of_participant) × AllBelow sizes.now.slots seat.old.me.0.collected }
+    requires table { FitsSizes place seat.old }
+    requires acts { (seat.old.me.0.kind ≡ of_participant) × AllBelow place.sizes.now.slots seat.old.me.0.collected }
     requires bags { LieInFront seat.old.me.0.collected newer older }
     ensures seat { (seat.new.table_id ≡ seat.old.table_id) × (seat.new.id ≡ seat.old.id) }
     ensures joined { IsJoined seat.old.me.0.collected newer older result (λ ws. seat.new.me ≡ with_collected ws seat.old.me) }
@@ -60,7 +53,7 @@ pub fn join_noted<T, H: Holding<T>>(
     let Some(front) = older else {
         return newer;
     };
-    follow_noted(words, seat, sizes, front.last, behind.first);
+    follow_noted(place, seat, front.last, behind.first);
     Some(Ends {
         first: front.first,
         last: behind.last,
@@ -69,13 +62,12 @@ pub fn join_noted<T, H: Holding<T>>(
 
 /// Takes out of the chain what has been in the private bag the longest. The item stays noted.
 pub fn take_noted<T, H: Holding<T>>(
-    words: &Words<T, H>,
+    place: Place<T, H>,
     seat: &mut Seat<T>,
-    sizes: &Sizes,
     bag: Option<Ends>,
 ) -> (Option<usize>, Option<Ends>)
-    requires table { FitsSizes words.now.table_id words.now.key.sizes seat.old.table_id seat.old.me.0.sizes sizes.now }
-    requires acts { (seat.old.me.0.kind ≡ of_participant) × AllBelow sizes.now.slots seat.old.me.0.collected }
+    requires table { FitsSizes place seat.old }
+    requires acts { (seat.old.me.0.kind ≡ of_participant) × AllBelow place.sizes.now.slots seat.old.me.0.collected }
     requires bag { LiesBehind seat.old.me.0.collected bag }
     ensures seat { (seat.new.table_id ≡ seat.old.table_id) × (seat.new.id ≡ seat.old.id) × (seat.new.me ≡ seat.old.me) }
     ensures none { IfNone result.0 ((bag ≡ None) × (result.1 ≡ None)) }
@@ -84,7 +76,7 @@ pub fn take_noted<T, H: Holding<T>>(
     let Some(ends) = bag else {
         return (None, None);
     };
-    let found = load_link(words, seat, sizes, ends.first);
+    let found = load_link(place, seat, ends.first);
     if ends.first == ends.last {
         return (Some(ends.first), None);
     }

@@ -9,12 +9,11 @@ ghost use Rattle.domain_table.specs.Plays.{Steady, SteadyButWaits, Scans};
 ghost use Rattle.domain_table.specs.Scanning.{ScansOn, ScansOnButWaits, ScansUnderLock};
 
 use crate::bags::Bags;
-use crate::board::{Seat, Words};
+use crate::board::{Place, Seat, Words};
 use crate::holding::Holding;
 use crate::left::take_all_left;
 use crate::steps::{Tried, give_lock, is_present, look, raise, take_lock};
 use sdd_plain::local_state::LocalState;
-use sdd_plain::sizes::Sizes;
 
 /// Whether each other participant is closed or has published the count `epoch`. It stops at the first that isn't.
 fn all_agree<T, H: Holding<T>>(
@@ -66,27 +65,26 @@ fn raise_if_all_agree<T, H: Holding<T>>(
 /// It raises the count by one only where that is the present one, and each other participant is closed or has published it.
 #[inline(never)]
 fn scan<T, H: Holding<T>>(
-    words: &Words<T, H>,
+    place: Place<T, H>,
     seat: &mut Seat<T>,
-    sizes: &Sizes,
     number: usize,
     bags: &mut Bags,
     epoch: u64,
 ) -> Tried
-    requires table { FitsSizes words.now.table_id words.now.key.sizes seat.old.table_id seat.old.me.0.sizes sizes.now }
+    requires table { FitsSizes place seat.old }
     requires open { Scans seat.old number epoch 0 }
-    requires waits { WaitsIn sizes.now.slots seat.old.me.0.waits bags.old }
+    requires waits { WaitsIn place.sizes.now.slots seat.old.me.0.waits bags.old }
     ensures seat { ScansOnButWaits seat.old seat.new number epoch 0 }
-    ensures waits { WaitsIn sizes.now.slots seat.new.me.0.waits bags.new }
+    ensures waits { WaitsIn place.entry.sizes.now.slots seat.new.me.0.waits bags.new }
     ensures due { bags.new.due ≡ bags.old.due }
 {
-    let tried = take_lock(words, seat, number, epoch);
+    let tried = take_lock(place.words, seat, number, epoch);
     if !tried.got() {
         return tried;
     }
-    let looks = take_all_left(words, seat, sizes, bags);
-    raise_if_all_agree(words, seat, number, sizes.participants, epoch);
-    give_lock(words, seat, number, epoch, looks);
+    let looks = take_all_left(place, seat, bags);
+    raise_if_all_agree(place.words, seat, number, place.sizes.participants, epoch);
+    give_lock(place.words, seat, number, epoch, looks);
     tried
 }
 
@@ -100,21 +98,20 @@ fn scans(own: &LocalState, closings: u8) -> bool
 /// Counts an outermost closing, and scans if one is due: that it then tried for the scan lock.
 #[inline(always)]
 pub fn scan_due<T, H: Holding<T>>(
-    words: &Words<T, H>,
+    place: Place<T, H>,
     seat: &mut Seat<T>,
-    sizes: &Sizes,
     number: usize,
     bags: &mut Bags,
     own: &mut LocalState,
 ) -> Option<Tried>
-    requires table { FitsSizes words.now.table_id words.now.key.sizes seat.old.table_id seat.old.me.0.sizes sizes.now }
+    requires table { FitsSizes place seat.old }
     requires open { Scans seat.old number own.old.previous 0 }
-    requires waits { WaitsIn sizes.now.slots seat.old.me.0.waits bags.old }
+    requires waits { WaitsIn place.sizes.now.slots seat.old.me.0.waits bags.old }
     ensures seat { (seat.new.table_id ≡ seat.old.table_id) × (seat.new.id ≡ seat.old.id) × SteadyButWaits seat.old.me seat.new.me }
     ensures open { Scans seat.new number own.old.previous 0 }
     ensures tried { is_some result ≡ scans own.old }
     ensures counted { own.new ≡ record own.old { closings = cond (scans own.old) 0 (closings_after own.old) } }
-    ensures waits { WaitsIn sizes.now.slots seat.new.me.0.waits bags.new }
+    ensures waits { WaitsIn place.entry.sizes.now.slots seat.new.me.0.waits bags.new }
     ensures due { bags.new.due ≡ bags.old.due }
 {
     let closings = if own.closings < 64 {
@@ -124,7 +121,7 @@ pub fn scan_due<T, H: Holding<T>>(
     };
     if scans(own, closings) {
         let epoch = own.previous;
-        let tried = scan(words, seat, sizes, number, bags, epoch);
+        let tried = scan(place, seat, number, bags, epoch);
         own.closings = 0;
         Some(tried)
     } else {

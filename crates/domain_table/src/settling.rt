@@ -14,11 +14,10 @@ ghost use Rattle.domain_table.specs.Views.{of_participant, looking, settling};
 ghost use Rattle.domain_table.specs.Scanning.{LooksAt, LooksAtAll, Settles};
 
 use crate::bags::Bags;
-use crate::board::{Acting, Home, Seat, Words};
+use crate::board::{Acting, Home, Place, Seat, Words};
 use crate::holding::Holding;
 use crate::layout::{COUNT, STATE, STRIDE};
 use atomic_table::Play;
-use sdd_plain::sizes::Sizes;
 
 struct OnShut;
 
@@ -100,28 +99,27 @@ fn settle_all<T, H: Holding<T>>(words: &Words<T, H>, seat: &mut Seat<T>, epoch: 
 /// Makes all due that participant `number` retired, where no other one has a guard open: whether it could. It has read the
 /// count `epoch`, and publishes it next. A count below 3 is too low for that, and then nothing is looked at.
 pub fn settle<T, H: Holding<T>>(
-    words: &Words<T, H>,
+    place: Place<T, H>,
     seat: &mut Seat<T>,
-    sizes: &Sizes,
     number: usize,
     bags: &mut Bags,
     epoch: u64,
 ) -> bool
-    requires table { FitsNumber words.now.table_id words.now.key.sizes seat.old.table_id seat.old.me.0.sizes sizes.now number }
+    requires table { FitsNumber place seat.old number }
     requires read { (seat.old.me.0.kind ≡ of_participant) × (seat.old.me.0.number ≡ number) × (seat.old.me.0.known.phase ≡ HasRead epoch) }
-    requires waits { WaitsIn sizes.now.slots seat.old.me.0.waits bags.old × (bags.old.due ≡ None) }
+    requires waits { WaitsIn place.sizes.now.slots seat.old.me.0.waits bags.old × (bags.old.due ≡ None) }
     ensures seat { (seat.new.table_id ≡ seat.old.table_id) × (seat.new.id ≡ seat.old.id) }
-    ensures settled { IsTrue result → Settles sizes.now.slots epoch bags.new seat.old.me seat.new.me }
+    ensures settled { IsTrue result → Settles place.entry.sizes.now.slots epoch bags.new seat.old.me seat.new.me }
     ensures kept { IsFalse result → (ls : List ℕ) × (bags.new ≡ bags.old) × (seat.new.me ≡ with_looks ls seat.old.me) }
 {
     if epoch < 3 {
         return false;
     }
-    if !all_shut(words, seat, number, sizes.participants) {
+    if !all_shut(place.words, seat, number, place.sizes.participants) {
         return false;
     }
-    let due = bags.joined(words, seat, sizes);
-    settle_all(words, seat, epoch);
+    let due = bags.joined(place, seat);
+    settle_all(place.words, seat, epoch);
     *bags = Bags {
         current: None,
         previous: None,

@@ -4,17 +4,17 @@ ghost use Rattle.std.specs.Prelude.{◌≡◌, ◌≢◌, ℕ, ◌+◌, ◌-◌,
 ghost use Rattle.atomic_table.specs.Table.{rest};
 ghost use Rattle.sdd_steps.specs.State.{Has};
 ghost use Rattle.sdd_steps.specs.declared.participant.Phase.TheVariants.{Idle, Opened};
-ghost use Rattle.domain_table.specs.Fitting.{HasEpochOf, HasClaimOf, HasWordsOf};
+ghost use Rattle.domain_table.specs.Fitting.{HasEpochOf, HasClaimOf, HasWords, HasWordsOf};
 ghost use Rattle.domain_table.specs.Contents.{IsIn, Announces};
 ghost use Rattle.domain_table.specs.Outcomes.{HasPublished, HasLookedAtAll};
 ghost use Rattle.domain_table.specs.Views.{of_nobody, of_participant, IsBare, spent, reading, looking};
-ghost use Rattle.domain_table.specs.Layout.{lock_word, claim_word, all_words, IsSized, shown};
+ghost use Rattle.domain_table.specs.Layout.{lock_word, claim_word, shown};
 ghost use Rattle.domain_table.specs.Plays.{read_then, publish_then, count_then, look_then, agree_then, raise_then, lock_then, unlock_then, sit_then, HasRegistered, HasSpare, claim_then, learn_then, end_then, Steady, Scans, with_known};
 ghost use Rattle.domain_table.specs.declared.board.Home.{Home};
 ghost use Rattle.domain_table.specs.Readiness.{CanLookAt, CanPublish, HasLeft};
 ghost use Rattle.domain_table.specs.Scanning.{ScansOn, ScansUnderLock};
 
-use crate::board::{Acting, Home, Seat, Words};
+use crate::board::{Acting, Home, Place, Seat, Words};
 use crate::holding::Holding;
 use crate::homes::let_go;
 use crate::layout::{CLAIM, COUNT, LOCK, STATE, STILL, STRIDE};
@@ -148,11 +148,11 @@ fn is_claimed<T, H: Holding<T>>(words: &Words<T, H>, number: usize) -> bool
 }
 
 /// Whether somebody acts for any participant.
-pub fn any_claimed<T, H: Holding<T>>(words: &Words<T, H>, sizes: &Sizes) -> bool
-    requires { (words.now.key.sizes ≡ sizes.now) × IsSized sizes.now × (all_words sizes.now ≤ words.now.table_id.words) }
+pub fn any_claimed<T, H: Holding<T>>(place: Place<T, H>) -> bool
+    requires { HasWords place }
 {
-    for number in 0..sizes.participants {
-        if is_claimed(words, number) {
+    for number in 0..place.sizes.participants {
+        if is_claimed(place.words, number) {
             return true;
         }
     }

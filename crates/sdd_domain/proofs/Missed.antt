@@ -1,9 +1,9 @@
 -- a cell that had another word than the one given: what was brought to it comes back
-use Rattle.std.proofs.Common.{◌≡◌, ◌<◌, ℕ, List, [], ◌∷◌, ◌++◌, Option, None, Some, IfSome, append-nil, sym, ap, ◌∙◌, subst, arith}
+use Rattle.std.proofs.Common.{◌≡◌, ◌<◌, ℕ, List, ◌∷◌, ◌++◌, Option, None, Some, IfSome, sym, ap, ◌∙◌, subst, arith}
 use Rattle.atomic_table.specs.Seated.{TableId}
 use Rattle.atomic_table.specs.Table.{Me}
 use Rattle.sdd_homes.specs.declared.Owner.{Owner}
-use Rattle.sdd_domain.specs.Comparing.{owner_code, IsBack, HasTried, IsInFront}
+use Rattle.sdd_domain.specs.Comparing.{owner_code, IsBack, IsInFront}
 use Rattle.domain_table.specs.Contents.{IsIn, blanks}
 use Rattle.domain_table.specs.Layout.{packed}
 use Rattle.domain_table.specs.Leases.{leased_homes, HasNoted}
@@ -12,12 +12,7 @@ use Rattle.domain_table.specs.Plays.{own_spare, Brings, GetsBack}
 use Rattle.sdd_domain.specs.Sharing.{kept_in}
 use Rattle.domain_table.specs.declared.board.Acting.{Acting}
 use Rattle.domain_table.specs.declared.board.Home.{Home}
-use Rattle.domain_table.specs.declared.board.Home.TheVariants.{Blank}
 use Rattle.sdd_domain.specs.declared.shared.Shared.{Shared}
-
--- a swap, which leases nothing
-pub swapped : {T : Type 0} (m m' : Me (Home T) Acting) (y : ℕ) (tail : List (ℕ × Home T)) → m' ≡ (record m.0 { spare = y }, (own_spare m.0 y, Blank) ∷ tail) → HasTried m y tail m'
-swapped m m' y tail e = (m.0.known.loaded, [], e ∙ λ j. (record m.0 { leases = sym (append-nil m.0.leases) j; spare = y }, (own_spare m.0 y, Blank) ∷ sym (append-nil tail) j))
 
 -- an owner was brought, and then a load was noted
 module _ {T : Type 0} (holds : T → List (ℕ × ℕ)) (m m2 m4 : Me (Home T) Acting) (spare w : ℕ) (tail : List (ℕ × Home T)) (owner : Option Owner) (low : spare < 2147483648) (at : m.0.spare ≡ spare)

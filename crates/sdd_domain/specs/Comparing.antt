@@ -1,23 +1,19 @@
 -- which item an owner is of, by its slot
-use Rattle.std.specs.Prelude.{◌≡◌, ℕ, ◌+◌, ◌^◌, ◌<◌, true, List, ◌∷◌, ◌++◌, Option, None, Some, IfSome}
+use Rattle.std.specs.Prelude.{◌≡◌, ◌⊎◌, ℕ, ◌+◌, ◌^◌, ◌<◌, Bool, true, IsTrue, List, ◌∷◌, Option, None, Some, IfSome}
 use Rattle.atomic_table.specs.Table.{Me}
-use Rattle.sdd_steps.specs.declared.participant.Loaded.{Loaded}
-use Rattle.sdd_homes.specs.declared.Lease.{Lease}
-use Rattle.domain_table.specs.Contents.{blanks}
-use Rattle.domain_table.specs.Leases.{leased_homes}
 use Rattle.domain_table.specs.Layout.{packed}
 use Rattle.domain_table.specs.Outcomes.{HasSwapped}
-use Rattle.domain_table.specs.Plays.{own_spare, with_step}
+use Rattle.domain_table.specs.Plays.{with_step}
 use Rattle.domain_table.specs.Views.{of_participant}
 use Rattle.sdd_steps.specs.Steps.{is_ready}
 use Rattle.sdd_plain.specs.Epochs.{tag_number}
 use Rattle.sdd_plain.specs.declared.tag.Tag.{Tag}
-use Rattle.sdd_domain.specs.CellSteps.{HasExchanged, HasReadCell, HasFoundLast, HasRetagged}
+use Rattle.sdd_domain.specs.CellSteps.{HasExchanged, HasReadCell, HasReadOften, HasFoundLast, HasRetagged}
 use Rattle.sdd_domain.specs.Pointers.{ptr_slot, ptr_tag}
 use Rattle.sdd_domain.specs.Sharing.{kept_in, IsOwnerOf}
 use Rattle.domain_table.specs.declared.board.Acting.{Acting}
 use Rattle.domain_table.specs.declared.board.Home.{Home}
-use Rattle.domain_table.specs.declared.board.Home.TheVariants.{Blank, Part}
+use Rattle.domain_table.specs.declared.board.Home.TheVariants.{Part}
 use Rattle.sdd_domain.specs.declared.local.Local.{Local}
 use Rattle.sdd_domain.specs.declared.pointer.Ptr.{Ptr}
 use Rattle.sdd_domain.specs.declared.shared.Shared.{Shared}
@@ -31,6 +27,10 @@ owner_code (Some s) = s.slot + 1
 abbrev pub code_of : Option ℕ → ℕ
 code_of None = 0
 code_of (Some k) = k + 1
+
+-- of a word that names the item of this pointer, or nothing where that is to nothing, and has its tag, the answer is true
+abbrev pub IsTrueOfPtr : {T : Type 0} → ℕ → Ptr T → Bool → Type 0
+IsTrueOfPtr word r answer = (y t c : ℕ) → y < 2 ^ 31 → t < 4 → word ≡ packed y t c → c ≡ code_of (ptr_slot r) → t ≡ tag_number (ptr_tag r) → IsTrue answer
 
 -- the slot of its item, or none for none
 abbrev pub owner_slot : {T : Type 0} → Option (Shared T) → Option ℕ
@@ -48,10 +48,6 @@ IsBack {T} (Some new) (Some back) = (kept_in back ≡ kept_in new) × (back.slot
 abbrev pub IsInFront : {T : Type 0} → Shared T → List (ℕ × Home T) → Type 0
 IsInFront {T} s xs = (k : ℕ) × (tail : List (ℕ × Home T)) × (xs ≡ (k, Part s.part.part 1) ∷ tail)
 
--- the spare slot is this one now, empty; something may have been loaded, and these are leased besides
-abbrev pub HasTried : {T : Type 0} → Me (Home T) Acting → ℕ → List (ℕ × Home T) → Me (Home T) Acting → Type 0
-HasTried m y tail m' = (hs : List Loaded) × (ls : List Lease) × (m' ≡ (record m.0 { known = record m.0.known { loaded = hs }; leases = m.0.leases ++ ls; spare = y }, (own_spare m.0 y, Blank) ∷ (tail ++ blanks (leased_homes m.0 ls))))
-
 -- its one step, on this cell, found this owner and this tag, and left those
 abbrev pub HasSwappedCell : {T : Type 0} → Local T → ℕ → Option (Shared T) × Tag → Option (Shared T) × Tag → Local T → Type 0
 HasSwappedCell old cell found left new = HasExchanged old cell (tag_number found.1) (owner_code found.0) (tag_number left.1) (owner_code left.0) new
@@ -68,13 +64,13 @@ HasFoundPtr old cell r new = HasReadCell old cell (tag_number (ptr_tag r)) (code
 abbrev pub HasFoundPtrLast : {T : Type 0} → Local T → ℕ → Ptr T → Local T → Type 0
 HasFoundPtrLast old cell r new = HasFoundLast old cell (tag_number (ptr_tag r)) (code_of (ptr_slot r)) new
 
+-- the last time it was as a pointer of which this held; or it read this cell 2^64 times
+abbrev pub HasKeptTag : {T : Type 0} → Local T → ℕ → (Ptr T → Type 0) → Local T → Type 0
+HasKeptTag {T} old cell refused new = ((r : Ptr T) × refused r × HasFoundPtrLast old cell r new) ⊎ HasReadOften old cell (2 ^ 64) new
+
 -- it read this cell some times, and then set this tag where it was as this pointer
 abbrev pub HasTagged : {T : Type 0} → Local T → ℕ → Ptr T → Tag → Local T → Type 0
 HasTagged old cell r tag new = HasRetagged old cell (tag_number (ptr_tag r)) (code_of (ptr_slot r)) (tag_number tag) new
-
--- the cell with this word was tried once: the words found and left, and the spare slot, which is y now
-abbrev pub HasTriedOnce : {T : Type 0} → ℕ → Me (Home T) Acting → ℕ → ℕ → ℕ → ℕ → Me (Home T) Acting → Type 0
-HasTriedOnce i m spare w v y m' = (tail : List (ℕ × Home _)) → m.1 ≡ (own_spare m.0 spare, Blank) ∷ tail → HasTried (with_step i w v m) y tail m'
 
 -- a cell's word that has this owner and this tag, with this spare slot
 abbrev pub word_for : {T : Type 0} → ℕ → Option (Shared T) × Tag → ℕ

@@ -1,5 +1,5 @@
 -- what openings and reclaims ask of the seat of a participant, and what they leave with it
-use Rattle.std.specs.Prelude.{◌≡◌, ◌==◌, Bool, true, cond, ℕ, List, [], ◌∷◌, Option, None, Some}
+use Rattle.std.specs.Prelude.{◌≡◌, ◌==◌, Bool, true, cond, ℕ, List, [], ◌∷◌, Option, None}
 use Rattle.core.specs.declared.mem.manually_drop.ManuallyDrop.{ManuallyDrop}
 use Rattle.atomic_table.specs.Table.{Me}
 use Rattle.parted.specs.declared.raw.Seen.{Seen}
@@ -12,7 +12,7 @@ use Rattle.sdd_homes.specs.declared.Lease.{Lease}
 use Rattle.sdd_homes.specs.declared.Owner.{Owner}
 use Rattle.domain_table.specs.Leases.{AreAt}
 use Rattle.domain_table.specs.Readiness.{CanRelease}
-use Rattle.domain_table.specs.Views.{of_participant, publishing}
+use Rattle.domain_table.specs.Views.{of_participant, publishing, rereading}
 use Rattle.domain_table.specs.declared.board.Acting.{Acting}
 use Rattle.domain_table.specs.declared.row.Row.{Row}
 
@@ -24,13 +24,13 @@ turned count waits m = record m { garbage = cond (m.previous == count) m.garbage
 abbrev pub IsSeenIn : {T : Type 0} → List (Row T) → ℕ → Seen (Option (ManuallyDrop T)) → Type 0
 IsSeenIn {T} rows k s = (r : Row T) × Has rows r × (r.slot ≡ k) × (s.value ≡ r.lent.seen.value) × (s.life ≡ r.lent.pledge.until)
 
--- the seat acts for p under an open guard: it fills no slot and releases nothing, and has read this count again
-abbrev pub CanSweep : ℕ → ℕ → Acting → Type 0
-CanSweep p count d = CanRelease p d × (d.filling ≡ None) × (is_inside d.known ≡ true) × (d.known.reread ≡ Some count)
+-- the seat acts for p under an open guard: it fills no slot and releases nothing
+abbrev pub CanSweep : ℕ → Acting → Type 0
+CanSweep p d = CanRelease p d × (d.filling ≡ None) × (is_inside d.known ≡ true)
 
--- items of the private bag were reclaimed, and what they held was released under open guards
-abbrev pub HasSwept : {S : Type 0} → Me S Acting → Me S Acting → Type 0
-HasSwept m m' = (k : ℕ) × (ws : List Garbage) × (ls : List Lease) × (cs : List Garbage) × AreAt m.0.leases ls × (m' ≡ (record m.0 { slot = k; leases = ls; waits = ws; collected = cs }, m.1))
+-- this count was read again, items of the private bag were reclaimed, and what they held was released under open guards
+abbrev pub HasSwept : {S : Type 0} → ℕ → Me S Acting → Me S Acting → Type 0
+HasSwept count m m' = (k : ℕ) × (ws : List Garbage) × (ls : List Lease) × (cs : List Garbage) × AreAt m.0.leases ls × (m' ≡ (record m.0 { known = rereading count m.0.known; slot = k; leases = ls; waits = ws; collected = cs }, m.1))
 
 -- the first owner in hand is released
 abbrev pub HasGivenUpOne : {S : Type 0} → Me S Acting → Me S Acting → Type 0

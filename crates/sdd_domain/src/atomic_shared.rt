@@ -1,6 +1,6 @@
 //! Cells that own an item, or nothing, and have a tag.
 
-ghost use Rattle.std.specs.Prelude.{◌≡◌, ◌<◌, ◌+◌, ◌⊎◌, ◌↔◌, ◌^◌, ℕ, Bool, true, false, [], Some, IsTrue, IsFalse, IfSome, IfNone, IfOk, IfErr, OnOk, OnErr};
+ghost use Rattle.std.specs.Prelude.{◌≡◌, ◌<◌, ◌+◌, ◌↔◌, ℕ, Bool, true, false, [], Some, IsTrue, IsFalse, IfSome, IfNone, IfOk, IfErr, OnOk, OnErr};
 ghost use Rattle.sdd_domain.specs.Tokens.{cell_count};
 
 use crate::comparing::{named_by, names, try_exchange, try_tag};
@@ -46,7 +46,7 @@ pub struct AtomicShared<T> {
 
 impl<T: Holds> AtomicShared<T> {
     ghost use Rattle.sdd_domain.specs.Cells.{cell_number};
-    ghost use Rattle.sdd_domain.specs.Comparing.{code_of, owner_code, owner_slot, IsBack, HasFoundPtr, HasFoundPtrLast, HasReadOwner, HasSwappedCell, HasTagged};
+    ghost use Rattle.sdd_domain.specs.Comparing.{code_of, owner_code, owner_slot, IsBack, HasFoundPtr, HasKeptTag, HasReadOwner, HasSwappedCell, HasTagged};
     ghost use Rattle.sdd_domain.specs.declared.pointer.Ptr.{Ptr};
     ghost use Rattle.sdd_domain.specs.Pointers.{IsUnder, ptr_slot, ptr_tag, loaded_slot, named_slot, named_tag};
     ghost use Rattle.sdd_domain.specs.Sharing.{kept_in};
@@ -280,7 +280,7 @@ impl<T: Holds> AtomicShared<T> {
         ensures same { IsUnchanged local.old local.new }
     {
         let Local { seat, spare, .. } = local;
-        let (free, old) = swap_owner(domain.words(), seat, &domain.sizes, *spare, self.cell, new);
+        let (free, old) = swap_owner(domain.place(), seat, *spare, self.cell, new);
         *spare = free;
         old
     }
@@ -312,7 +312,7 @@ impl<T: Holds> AtomicShared<T> {
         ensures same { IsUnchanged local.old local.new }
         ensures looked { IfErr result (λ r. HasFoundPtr local.old (cell_number self.now) r.1 local.new) }
     {
-        let word = word_of(domain.words(), &domain.sizes, self.cell);
+        let word = word_of(domain.place(), self.cell);
         if !names(word, current) {
             let found = self.load(domain, guard, local);
             return Err((new.0, found));
@@ -370,7 +370,7 @@ impl<T: Holds> AtomicShared<T> {
         ensures asked { (r : Ptr T) × (b : Bool) × F.post f r b × (IsTrue result → IsTrue b) }
         ensures same { IsUnchanged local.old local.new }
         ensures set { IsTrue result → (r : Ptr T) × F.post f r true × HasTagged local.old (cell_number self.now) r tag local.new }
-        ensures kept { IsFalse result → ((r : Ptr T) × F.post f r false × HasFoundPtrLast local.old (cell_number self.now) r local.new) ⊎ HasReadOften local.old (cell_number self.now) (2 ^ 64) local.new }
+        ensures kept { IsFalse result → HasKeptTag local.old (cell_number self.now) (λ r. F.post f r false) local.new }
     {
         for _i in 0..TRIES {
             if let Some(answer) = self.try_update(domain, tag, &f, guard, local) {
@@ -410,7 +410,7 @@ impl<T: Holds> AtomicShared<T> {
         if !f(found) {
             return Some(false);
         }
-        let word = word_of(domain.words(), &domain.sizes, self.cell);
+        let word = word_of(domain.place(), self.cell);
         if !names(word, found) {
             return None;
         }

@@ -16,3 +16,6 @@ pub(crate) type Board<T> = board::Board<T, Told>;
 
 /// The table as threads see it.
 pub(crate) type Words<T> = board::Words<T, Told>;
+
+/// The words of a place, with its sizes.
+pub(crate) type Place<'a, T> = board::Place<'a, T, Told>;

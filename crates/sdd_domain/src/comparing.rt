@@ -1,36 +1,28 @@
 //! One try to exchange what a cell owns, where it names what was loaded from it.
 
-ghost use Rattle.std.specs.Prelude.{◌≡◌, ℕ, ◌*◌, ◌^◌, ◌<◌, ◌∷◌, [], ◌↔◌, List, IsTrue, IsFalse, IfSome, IfOk, IfErr};
+ghost use Rattle.std.specs.Prelude.{◌≡◌, ℕ, ◌*◌, ◌^◌, ◌<◌, ◌∷◌, [], ◌↔◌, IsTrue, IsFalse, IfSome, IfOk, IfErr};
 ghost use Rattle.std.specs.Option.{ForSome};
-ghost use Rattle.std.specs.VecDeque.{deque_capacity, deque_len};
-ghost use Rattle.sdd_domain.specs.Comparing.{owner_code, owner_slot, code_of, IsBack, HasTriedOnce, word_for};
-ghost use Rattle.domain_table.specs.Layout.{cell_word, packed, NamesWith};
-ghost use Rattle.domain_table.specs.Leases.{HasCode, IsFoundAs, HasRows, KeepsRows, CanExchange, IsLifeOf};
+ghost use Rattle.std.specs.VecDeque.{deque_len};
+ghost use Rattle.sdd_domain.specs.Comparing.{owner_code, owner_slot, code_of, IsBack, IsTrueOfPtr};
+ghost use Rattle.domain_table.specs.Layout.{packed, NamesWith};
+ghost use Rattle.domain_table.specs.Leases.{HasCode, IsLifeOf};
 ghost use Rattle.sdd_plain.specs.Epochs.{tag_number};
 ghost use Rattle.sdd_domain.specs.Pointers.{ptr_slot, ptr_tag, loaded_slot, named_slot, named_tag};
-ghost use Rattle.domain_table.specs.Plays.{own_spare};
 ghost use Rattle.sdd_domain.specs.Sharing.{kept_in};
 ghost use Rattle.sdd_domain.specs.CellSteps.{HasMade, HasReadCell, HasStored, HasExchanged, step_on};
 ghost use Rattle.sdd_domain.specs.Tokens.{place_of, home_of, number_of, own_of, cell_count, nest_in, IsUnchanged};
-ghost use Rattle.domain_table.specs.declared.board.Home.{Home};
-ghost use Rattle.domain_table.specs.declared.board.Home.TheVariants.{Blank};
-ghost use Rattle.domain_table.specs.Fitting.{FitsBoth};
 
-use crate::board::Words;
 use crate::domain::Domain;
 use crate::holds::Holds;
 use crate::local::Local;
 use crate::pointer::{Loaded, Named, Ptr};
 use crate::shared::Shared;
 use crate::swapping::{bring, take_back};
-use domain_table::board::{Home, Seat};
 use domain_table::cells;
 use domain_table::leases::seen_at;
 use domain_table::loading::{note_found, slot_named};
 use domain_table::row::Row;
 use domain_table::tags::{has_tag, tag_in, with_tag};
-use parted::Life;
-use sdd_plain::sizes::Sizes;
 use sdd_plain::tag::Tag;
 use std::collections::VecDeque;
 
@@ -45,7 +37,7 @@ fn names_slot(word: u64, slot: Option<usize>) -> bool
 pub(crate) fn names<T>(word: u64, current: Ptr<T>) -> bool
     ensures item { (y t c : ℕ) → y < 2 ^ 31 → t < 4 → word ≡ packed y t c → IsTrue result → c ≡ code_of (ptr_slot current.entry) }
     ensures tag { (y t c : ℕ) → y < 2 ^ 31 → t < 4 → word ≡ packed y t c → IsTrue result → t ≡ tag_number (ptr_tag current.entry) }
-    ensures both { (y t c : ℕ) → y < 2 ^ 31 → t < 4 → word ≡ packed y t c → c ≡ code_of (ptr_slot current.entry) → t ≡ tag_number (ptr_tag current.entry) → IsTrue result }
+    ensures both { IsTrueOfPtr word current.entry result }
     ensures word { IsTrue result → NamesWith word (tag_number (ptr_tag current.entry)) (code_of (ptr_slot current.entry)) }
 {
     names_slot(word, current.slot) && has_tag(word, current.tag)
@@ -87,51 +79,6 @@ pub(crate) fn try_tag<T: Holds>(
     )
 }
 
-/// Swaps what a cell owns and its tag, in one step, where its word is `expected`, and gives the owner that it had. Else
-/// that step loaded the cell, and the call returns the owner that was passed in, with the row of the item that was
-/// found, if one was, and the tag that was. First comes the number of the spare slot that is the participant's now.
-pub(crate) fn exchange_owner<T: Holds>(
-    words: &Words<T>,
-    seat: &mut Seat<T>,
-    sizes: &Sizes,
-    number: usize,
-    spare: u64,
-    rows: &mut VecDeque<Row<T>>,
-    life: &Life,
-    cell: usize,
-    expected: u64,
-    new: (Option<Shared<T>>, Tag),
-) -> (
-    u64,
-    Result<Option<Shared<T>>, (Option<Shared<T>>, Option<usize>, Tag)>,
-)
-    requires table { FitsBoth words.now.table_id words.now.key.sizes seat.old.table_id seat.old.me.0.sizes sizes.now number cell }
-    requires ready { CanExchange number spare seat.old.me.0 }
-    requires rows { HasRows life.now.id sizes.now.slots seat.old.me.0.leases rows.old.items (deque_capacity rows.old) }
-    requires out { (tail : List (ℕ × Home T)) × (seat.old.me.1 ≡ (own_spare seat.old.me.0 spare, Blank) ∷ tail) }
-    requires mine { IfSome new.0 (λ s. kept_in s ≡ words.now.table_id) }
-    ensures seat { (seat.new.table_id ≡ seat.old.table_id) × (seat.new.id ≡ seat.old.id) }
-    ensures spare { result.0 < 2 ^ 31 }
-    ensures tried { (w : ℕ) × (v : ℕ) × HasTriedOnce (cell_word words.now.key.sizes cell) seat.old.me spare w v result.0 seat.new.me
-        × IfOk result.1 (λ _. (w ≡ expected) × (v ≡ word_for spare new) × (tag_number new.1 < 4))
-        × IfErr result.1 (λ t. (v ≡ w) × IsFoundAs w (tag_number t.2) rows.new.items t.1) }
-    ensures rows { KeepsRows life.now.id sizes.now.slots seat.new.me.0.leases rows.new.items (deque_capacity rows.old) (deque_capacity rows.new) }
-    ensures mine { IfOk result.1 (λ old. IfSome old (λ s. kept_in s ≡ words.now.table_id)) }
-    ensures hit { IfOk result.1 (λ old. (y t c : ℕ) → y < 2 ^ 31 → t < 4 → expected ≡ packed y t c → owner_code old ≡ c) }
-    ensures back { IfErr result.1 (λ t. IsBack new.0 t.0) }
-    ensures row { IfErr result.1 (λ t. IfSome t.1 (λ at. at < deque_len rows.new)) }
-{
-    let word = bring(words, seat, sizes, spare, new);
-    let found = cells::compare_exchange(words, seat, sizes.participants, cell, expected, word);
-    if found == expected {
-        let (free, (old, _)) = take_back(words, seat, sizes, found);
-        return (free, Ok(old));
-    }
-    let at = note_found(words, seat, sizes, number, rows, life, found);
-    let (free, (back, _)) = take_back(words, seat, sizes, word);
-    (free, Err((back, at, tag_in(found))))
-}
-
 /// What the item of a row is read by, or nothing.
 fn loaded_at<T: Holds>(rows: &VecDeque<Row<T>>, at: Option<usize>) -> Loaded<T>
     requires { IfSome at (λ i. i < deque_len rows.now) }
@@ -150,7 +97,9 @@ fn loaded_at<T: Holds>(rows: &VecDeque<Row<T>>, at: Option<usize>) -> Loaded<T>
     }
 }
 
-/// The same for a participant with an open guard: what was found is seen under its nest of guards.
+/// Swaps what a cell owns and its tag, in one step, where its word is `expected`, and gives the owner that it had. Else
+/// that step loaded the cell under the participant's nest of guards, and the call returns the owner that was passed in, with
+/// what was found and its tag.
 pub(crate) fn try_exchange<T: Holds>(
     domain: &Domain<T>,
     cell: usize,
@@ -179,21 +128,23 @@ pub(crate) fn try_exchange<T: Holds>(
         ..
     } = local;
     let Some(life) = life else { unreachable!() };
-    let (free, tried) = exchange_owner(
-        domain.words(),
+    let place = domain.place();
+    let word = bring(place, seat, *spare, new);
+    let found = cells::compare_exchange(
+        place.words,
         seat,
-        &domain.sizes,
-        *number,
-        *spare,
-        rows,
-        life,
+        place.sizes.participants,
         cell,
         expected,
-        new,
+        word,
     );
-    *spare = free;
-    match tried {
-        Ok(old) => Ok(old),
-        Err((back, at, tag)) => Err((back, loaded_at(&local.rows, at), tag)),
+    if found == expected {
+        let (free, (old, _)) = take_back(place, seat, found);
+        *spare = free;
+        return Ok(old);
     }
+    let at = note_found(place, seat, *number, rows, life, found);
+    let (free, (back, _)) = take_back(place, seat, word);
+    *spare = free;
+    Err((back, loaded_at(rows, at), tag_in(found)))
 }

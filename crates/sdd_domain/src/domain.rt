@@ -2,11 +2,12 @@
 
 ghost use Rattle.std.specs.Prelude.{◌≡◌, ◌*◌, ◌<◌, ◌≤◌, [], vec_len, IfOk, IfErr};
 ghost use Rattle.sdd_plain.specs.Locals.{no_local};
+ghost use Rattle.domain_table.specs.Fitting.{HasWords};
 ghost use Rattle.domain_table.specs.Layout.{all_words, IsSized};
 ghost use Rattle.domain_table.specs.Ledgers.{IsEmpty};
 ghost use Rattle.std.specs.Option.{ForSome};
 
-use crate::board::{Board, Told, Words};
+use crate::board::{Board, Place, Told, Words};
 use crate::guard::Guard;
 use crate::holds::Holds;
 use crate::local::Local;
@@ -87,6 +88,18 @@ impl<T: Holds> Domain<T> {
         ensures { (result.now.table_id ≡ self.now.table.shared.table_id) × (result.now.key ≡ self.now.table.shared.key) }
     {
         &self.table.shared
+    }
+
+    /// Its words, with its sizes.
+    pub(crate) fn place(&self) -> Place<'_, T>
+        ensures table { result.words.now.table_id ≡ (place_of self.now).0 }
+        ensures sizes { result.sizes.now ≡ self.now.sizes }
+        ensures sized { HasWords result }
+    {
+        Place {
+            words: self.words(),
+            sizes: &self.sizes,
+        }
     }
 
     /// Registers a participant that nobody acts for: each is tried once, from 0 on. Full where each was taken when it
@@ -177,7 +190,7 @@ impl<T: Holds> Domain<T> {
     pub fn slots_in_use(&self) -> usize
         ensures { result ≤ slot_count self.now }
     {
-        count_used(self.words(), &self.sizes)
+        count_used(self.place())
     }
 
     /// Ends the place, and drops what still waits, with what that holds, at the last count too. It is handed back while a
@@ -186,7 +199,7 @@ impl<T: Holds> Domain<T> {
         ensures back { IfErr result (λ d. (place_of d ≡ place_of self) × (participants_of d ≡ participants_of self) × (first_of d ≡ first_of self)) }
     {
         let mut domain = self;
-        if any_claimed(domain.words(), &domain.sizes) {
+        if any_claimed(domain.place()) {
             return Err(domain);
         }
         if let Some(ledger) = domain.closing.take() {

@@ -16,7 +16,7 @@ ghost use Rattle.domain_table.specs.Plays.{own_spare, HasRegistered};
 ghost use Rattle.domain_table.specs.Layout.{claim_word};
 ghost use Rattle.sdd_domain.specs.Openings.{HasNothingOut, IsSeenIn, turned};
 
-use crate::board::Words;
+use crate::board::Place;
 use crate::domain::Domain;
 use crate::holds::Holds;
 use crate::lives::{first_token, last_token, no_token};
@@ -32,7 +32,6 @@ use domain_table::scan::scan_due;
 use domain_table::{cells, steps};
 use parted::{Life, Seen, Tally};
 use sdd_plain::local_state::LocalState;
-use sdd_plain::sizes::Sizes;
 use sdd_plain::tag::Tag;
 use std::collections::VecDeque;
 
@@ -68,72 +67,64 @@ pub struct Local<T> {
 /// openings find that something waits.
 #[inline(never)]
 fn rotate_and_reclaim<T: Holds>(
-    words: &Words<T>,
+    place: Place<T>,
     seat: &mut Seat<T>,
-    sizes: &Sizes,
     number: usize,
     bags: &mut Bags,
 ) -> bool
-    requires table { FitsSizes words.now.table_id words.now.key.sizes seat.old.table_id seat.old.me.0.sizes sizes.now × (number < sizes.now.participants) }
+    requires table { FitsSizes place seat.old × (number < place.sizes.now.participants) }
     requires ready { IsAtRest number seat.old.me.0 × (seat.old.me.0.filling ≡ None) }
-    requires waits { (ws : List Garbage) × (seat.old.me.0.waits ≡ older_waits ws) × WaitsIn sizes.now.slots ws bags.old }
+    requires waits { (ws : List Garbage) × (seat.old.me.0.waits ≡ older_waits ws) × WaitsIn place.sizes.now.slots ws bags.old }
     requires done { bags.old.due ≡ None }
     ensures seat { (seat.new.table_id ≡ seat.old.table_id) × (seat.new.id ≡ seat.old.id) }
     ensures reclaimed { (k : ℕ) × (ws : List Garbage) × (seat.new.me ≡ (record seat.old.me.0 { slot = k; waits = ws }, seat.old.me.1)) }
-    ensures waits { WaitsIn sizes.now.slots seat.new.me.0.waits bags.new }
+    ensures waits { WaitsIn place.entry.sizes.now.slots seat.new.me.0.waits bags.new }
     ensures bags { bags.new.due ≡ None }
     ensures some { result ≡ nat_lt 0 (length seat.new.me.0.waits) }
 {
     bags.rotate();
-    reclaim_due(words, seat, sizes, number, bags);
+    reclaim_due(place, seat, number, bags);
     bags.has_some()
 }
 
 /// The same where nothing may wait: then there is nothing to turn.
 #[inline(always)]
-fn turn_bags<T: Holds>(
-    words: &Words<T>,
-    seat: &mut Seat<T>,
-    sizes: &Sizes,
-    number: usize,
-    bags: &mut Bags,
-) -> bool
-    requires table { FitsSizes words.now.table_id words.now.key.sizes seat.old.table_id seat.old.me.0.sizes sizes.now × (number < sizes.now.participants) }
+fn turn_bags<T: Holds>(place: Place<T>, seat: &mut Seat<T>, number: usize, bags: &mut Bags) -> bool
+    requires table { FitsSizes place seat.old × (number < place.sizes.now.participants) }
     requires ready { IsAtRest number seat.old.me.0 × (seat.old.me.0.filling ≡ None) }
-    requires waits { (ws : List Garbage) × (seat.old.me.0.waits ≡ older_waits ws) × WaitsIn sizes.now.slots ws bags.old }
+    requires waits { (ws : List Garbage) × (seat.old.me.0.waits ≡ older_waits ws) × WaitsIn place.sizes.now.slots ws bags.old }
     requires done { bags.old.due ≡ None }
     ensures seat { (seat.new.table_id ≡ seat.old.table_id) × (seat.new.id ≡ seat.old.id) }
     ensures reclaimed { (k : ℕ) × (ws : List Garbage) × (seat.new.me ≡ (record seat.old.me.0 { slot = k; waits = ws }, seat.old.me.1)) }
-    ensures waits { WaitsIn sizes.now.slots seat.new.me.0.waits bags.new }
+    ensures waits { WaitsIn place.entry.sizes.now.slots seat.new.me.0.waits bags.new }
     ensures bags { bags.new.due ≡ None }
     ensures some { result ≡ nat_lt 0 (length seat.new.me.0.waits) }
 {
     if !bags.has_some() {
         return false;
     }
-    rotate_and_reclaim(words, seat, sizes, number, bags)
+    rotate_and_reclaim(place, seat, number, bags)
 }
 
 /// Behind a publication: turns the bags if the count isn't the one that was found before, and reclaims what is due then.
 #[inline(always)]
 pub(crate) fn turn<T: Holds>(
-    words: &Words<T>,
+    place: Place<T>,
     seat: &mut Seat<T>,
-    sizes: &Sizes,
     number: usize,
     own: &mut LocalState,
     bags: &mut Bags,
     epoch: u64,
 )
-    requires table { FitsSizes words.now.table_id words.now.key.sizes seat.old.table_id seat.old.me.0.sizes sizes.now × (number < sizes.now.participants) }
+    requires table { FitsSizes place seat.old × (number < place.sizes.now.participants) }
     requires open { (seat.old.me.0.known.phase ≡ Opened epoch) × (seat.old.me.0.known.found ≡ epoch) }
     requires rest { HasNothingOut number seat.old.me.0 }
     requires noted { own.old.published ≡ own.old.previous }
-    requires waits { (ws : List Garbage) × (seat.old.me.0.waits ≡ rotated epoch own.old.previous ws) × WaitsIn sizes.now.slots ws bags.old }
+    requires waits { (ws : List Garbage) × (seat.old.me.0.waits ≡ rotated epoch own.old.previous ws) × WaitsIn place.sizes.now.slots ws bags.old }
     requires done { bags.old.due ≡ None }
     ensures seat { (seat.new.table_id ≡ seat.old.table_id) × (seat.new.id ≡ seat.old.id) }
     ensures reclaimed { (k : ℕ) × (ws : List Garbage) × (seat.new.me ≡ (record seat.old.me.0 { slot = k; waits = ws }, seat.old.me.1)) }
-    ensures waits { WaitsIn sizes.now.slots seat.new.me.0.waits bags.new }
+    ensures waits { WaitsIn place.entry.sizes.now.slots seat.new.me.0.waits bags.new }
     ensures bags { bags.new.due ≡ None }
     ensures own { own.new ≡ turned epoch (nat_lt 0 (length seat.new.me.0.waits)) own.old }
 {
@@ -141,7 +132,7 @@ pub(crate) fn turn<T: Holds>(
     if own.previous == epoch {
         return;
     }
-    own.garbage = turn_bags(words, seat, sizes, number, bags);
+    own.garbage = turn_bags(place, seat, number, bags);
     own.published = epoch;
     own.previous = epoch;
 }
@@ -232,17 +223,10 @@ impl<T: Holds> Local<T> {
             life,
             ..
         } = self;
-        let epoch = steps::read_count(domain.words(), seat);
-        steps::publish(domain.words(), seat, *number, epoch);
-        turn(
-            domain.words(),
-            seat,
-            &domain.sizes,
-            *number,
-            own,
-            bags,
-            epoch,
-        );
+        let place = domain.place();
+        let epoch = steps::read_count(place.words, seat);
+        steps::publish(place.words, seat, *number, epoch);
+        turn(place, seat, *number, own, bags, epoch);
         own.nesting = 1;
         own.accelerated = false;
         first_token(life)
@@ -317,15 +301,7 @@ impl<T: Holds> Local<T> {
             ..
         } = self;
         let Some(life) = life else { unreachable!() };
-        let (at, tag) = lease(
-            domain.words(),
-            seat,
-            &domain.sizes,
-            *number,
-            rows,
-            life,
-            cell,
-        );
+        let (at, tag) = lease(domain.place(), seat, *number, rows, life, cell);
         (seen_at(rows, at), tag)
     }
 
@@ -357,18 +333,12 @@ impl<T: Holds> Local<T> {
             rows,
             ..
         } = self;
+        let place = domain.place();
         let epoch = own.previous;
-        let _ = scan_due(domain.words(), seat, &domain.sizes, *number, bags, own);
+        let _ = scan_due(place, seat, *number, bags, own);
         let ended = last_token(life, token);
-        give_home(
-            domain.words(),
-            seat,
-            domain.sizes.slots,
-            *number,
-            rows,
-            &ended,
-        );
-        cells::close(domain.words(), seat, *number, epoch);
+        give_home(place.words, seat, place.sizes.slots, *number, rows, &ended);
+        cells::close(place.words, seat, *number, epoch);
         own.nesting = 0;
     }
 
@@ -402,8 +372,9 @@ impl<T: Holds> Local<T> {
             misses: _,
         } = self;
         no_token(life);
-        leave(domain.words(), &mut seat, &domain.sizes, number, bags);
-        steps::end(domain.words(), &mut seat, number, spare);
+        let place = domain.place();
+        leave(place, &mut seat, number, bags);
+        steps::end(place.words, &mut seat, number, spare);
         Ledger { rows }
     }
 }

@@ -11,7 +11,7 @@ use crate::local::Local;
 use crate::reclaiming::sweep;
 use crate::shared::Shared;
 use domain_garbage::private::{
-    Noted, NotedChain, flag_waiting, hand_all, new_bag, part_bag, put_in, reread, take_bag,
+    Noted, NotedChain, flag_waiting, hand_all, new_bag, part_bag, put_in, take_bag,
 };
 use domain_table::board::Acting;
 use domain_table::owners::take_in;
@@ -84,32 +84,14 @@ impl PrivateCollector {
             rows,
             ..
         } = local;
-        let words = domain.words();
-        take_bag(words, seat, calm);
-        let note = reread(words, seat);
-        sweep(
-            words,
-            seat,
-            &domain.sizes,
-            *number,
-            rows,
-            bags,
-            &mut kept,
-            note,
-        );
+        let place = domain.place();
+        take_bag(place.words, seat, calm);
+        let note = sweep(place, seat, *number, rows, bags, &mut kept);
         let Shared { slot, part, calm } = shared;
-        take_in(words, seat, calm);
-        let last = put_in(
-            words,
-            seat,
-            &domain.sizes,
-            *number,
-            rows,
-            &mut kept,
-            Noted { slot, note },
-            part,
-        );
-        let calm = part_bag(words, seat);
+        take_in(place.words, seat, calm);
+        let owner = (Noted { slot, note }, part);
+        let last = put_in(place, seat, *number, rows, &mut kept, owner);
+        let calm = part_bag(place.words, seat);
         flag_waiting(own, bags);
         (PrivateCollector { sizes, kept, calm }, last)
     }
@@ -134,8 +116,9 @@ impl PrivateCollector {
             bags,
             ..
         } = local;
-        take_bag(domain.words(), seat, calm);
-        hand_all(domain.words(), seat, &domain.sizes, kept, bags);
+        let place = domain.place();
+        take_bag(place.words, seat, calm);
+        hand_all(place, seat, kept, bags);
         flag_waiting(own, bags);
     }
 }

@@ -61,9 +61,10 @@ impl<T: Holds> Shared<T> {
             misses,
             ..
         } = local;
-        let (slot, part) = place_item(domain.words(), seat, &domain.sizes, *next, item, misses)?;
+        let place = domain.place();
+        let (slot, part) = place_item(place, seat, *next, item, misses)?;
         *next = slot + 1;
-        let calm = part_with(domain.words(), seat);
+        let calm = part_with(place.words, seat);
         Ok(Shared { slot, part, calm })
     }
 
@@ -87,9 +88,10 @@ impl<T: Holds> Shared<T> {
         ensures cells { StepsOnNoCell local.old local.new }
     {
         let (seat, from, misses) = (&mut local.seat, local.next, &mut local.misses);
-        let (slot, part) = place_made(domain.words(), seat, &domain.sizes, from, f, misses)?;
+        let place = domain.place();
+        let (slot, part) = place_made(place, seat, from, f, misses)?;
         local.next = slot + 1;
-        let calm = part_with(domain.words(), seat);
+        let calm = part_with(place.words, seat);
         Ok(Shared { slot, part, calm })
     }
 
@@ -136,19 +138,12 @@ impl<T: Holds> Shared<T> {
             misses,
             ..
         } = local;
-        take_in(domain.words(), seat, calm);
-        match clone(
-            domain.words(),
-            seat,
-            &domain.sizes,
-            *number,
-            rows,
-            slot,
-            misses,
-        ) {
+        let place = domain.place();
+        take_in(place.words, seat, calm);
+        match clone(place, seat, *number, rows, slot, misses) {
             Some(more) => {
-                let calm = part_with(domain.words(), seat);
-                let other = part_with(domain.words(), seat);
+                let calm = part_with(place.words, seat);
+                let other = part_with(place.words, seat);
                 let like = One::from_part(part.part.like(more.into_part()));
                 let both = Shared { slot, part, calm };
                 Ok((
@@ -161,7 +156,7 @@ impl<T: Holds> Shared<T> {
                 ))
             }
             None => {
-                let calm = part_with(domain.words(), seat);
+                let calm = part_with(place.words, seat);
                 Err(Shared { slot, part, calm })
             }
         }
@@ -181,8 +176,9 @@ impl<T: Holds> Shared<T> {
         ensures cells { StepsOnNoCell local.old local.new }
     {
         let Local { seat, rows, .. } = local;
-        let part = own_leased(domain.words(), seat, &domain.sizes, rows, slot)?;
-        let calm = part_with(domain.words(), seat);
+        let place = domain.place();
+        let part = own_leased(place, seat, rows, slot)?;
+        let calm = part_with(place.words, seat);
         Some(Shared { slot, part, calm })
     }
 
@@ -274,17 +270,10 @@ impl<T: Holds> Shared<T> {
             ..
         } = local;
         let Some(life) = life else { unreachable!() };
-        take_in(domain.words(), seat, calm);
-        let at = lease_own(
-            domain.words(),
-            seat,
-            &domain.sizes,
-            *number,
-            rows,
-            life,
-            slot,
-        );
-        let calm = part_with(domain.words(), seat);
+        let place = domain.place();
+        take_in(place.words, seat, calm);
+        let at = lease_own(place, seat, *number, rows, life, slot);
+        let calm = part_with(place.words, seat);
         let seen = seen_like(rows, at, &part);
         let loaded = Loaded {
             slot,
@@ -328,20 +317,13 @@ impl<T: Holds> Shared<T> {
             rows,
             ..
         } = local;
-        take_in(domain.words(), seat, calm);
-        let left = release::<T, Told, Retire>(
-            domain.words(),
-            seat,
-            &domain.sizes,
-            *number,
-            rows,
-            slot,
-            part,
-        );
+        let place = domain.place();
+        take_in(place.words, seat, calm);
+        let left = release::<T, Told, Retire>(place, seat, *number, rows, slot, part);
         if left > 0 {
             return false;
         }
-        bags.retire(domain.words(), seat, &domain.sizes, slot);
+        bags.retire(place, seat, slot);
         own.garbage = true;
         true
     }

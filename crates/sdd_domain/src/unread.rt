@@ -6,7 +6,7 @@ ghost use Rattle.domain_table.specs.Ledgers.{WaitsIn};
 ghost use Rattle.domain_table.specs.Readiness.{IsIdle};
 ghost use Rattle.sdd_domain.specs.Openings.{CanPublishFound, HasOpened};
 
-use crate::board::Words;
+use crate::board::Place;
 use crate::domain::Domain;
 use crate::holds::Holds;
 use crate::local::{Local, turn};
@@ -16,59 +16,56 @@ use domain_table::board::Seat;
 use domain_table::settling::settle;
 use domain_table::{cells, steps};
 use sdd_plain::local_state::LocalState;
-use sdd_plain::sizes::Sizes;
 
 /// Publishes the count that was read, where all that waits is due, and reclaims it.
 fn reclaim_settled<T: Holds>(
-    words: &Words<T>,
+    place: Place<T>,
     seat: &mut Seat<T>,
-    sizes: &Sizes,
     number: usize,
     bags: &mut Bags,
     epoch: u64,
 )
-    requires table { FitsNumber words.now.table_id words.now.key.sizes seat.old.table_id seat.old.me.0.sizes sizes.now number }
+    requires table { FitsNumber place seat.old number }
     requires read { CanPublishFound number epoch seat.old.me.0 }
     requires rest { (seat.old.me.0.releasing ≡ 0) × (seat.old.me.0.leases ≡ []) × (seat.old.me.0.filling ≡ None) }
-    requires waits { WaitsIn sizes.now.slots seat.old.me.0.waits bags.old }
+    requires waits { WaitsIn place.sizes.now.slots seat.old.me.0.waits bags.old }
     ensures seat { (seat.new.table_id ≡ seat.old.table_id) × (seat.new.id ≡ seat.old.id) }
     ensures reclaimed { HasOpened epoch seat.old.me seat.new.me }
-    ensures waits { WaitsIn sizes.now.slots seat.new.me.0.waits bags.new × (bags.new.due ≡ None) }
+    ensures waits { WaitsIn place.entry.sizes.now.slots seat.new.me.0.waits bags.new × (bags.new.due ≡ None) }
 {
-    steps::publish(words, seat, number, epoch);
-    reclaim_due(words, seat, sizes, number, bags);
+    steps::publish(place.words, seat, number, epoch);
+    reclaim_due(place, seat, number, bags);
 }
 
 /// Opens a guard, and reclaims all that waits, where no other participant has one open; else what is due: the count that
 /// it published.
 fn open_and_reclaim<T: Holds>(
-    words: &Words<T>,
+    place: Place<T>,
     seat: &mut Seat<T>,
-    sizes: &Sizes,
     number: usize,
     own: &mut LocalState,
     bags: &mut Bags,
 ) -> u64
-    requires table { FitsNumber words.now.table_id words.now.key.sizes seat.old.table_id seat.old.me.0.sizes sizes.now number }
+    requires table { FitsNumber place seat.old number }
     requires shut { IsIdle number seat.old.me.0 }
     requires rest { (seat.old.me.0.releasing ≡ 0) × (seat.old.me.0.leases ≡ []) × (seat.old.me.0.filling ≡ None) }
     requires found { (seat.old.me.0.known.found ≡ own.old.previous) × (own.old.published ≡ own.old.previous) }
-    requires waits { WaitsIn sizes.now.slots seat.old.me.0.waits bags.old × (bags.old.due ≡ None) }
+    requires waits { WaitsIn place.sizes.now.slots seat.old.me.0.waits bags.old × (bags.old.due ≡ None) }
     ensures seat { (seat.new.table_id ≡ seat.old.table_id) × (seat.new.id ≡ seat.old.id) }
     ensures reclaimed { HasOpened result seat.old.me seat.new.me }
-    ensures waits { WaitsIn sizes.now.slots seat.new.me.0.waits bags.new × (bags.new.due ≡ None) }
+    ensures waits { WaitsIn place.entry.sizes.now.slots seat.new.me.0.waits bags.new × (bags.new.due ≡ None) }
     ensures own { (own.new.published ≡ result) × (own.new.previous ≡ result) × (own.new.nesting ≡ own.old.nesting) }
 {
-    let epoch = steps::read_count(words, seat);
-    if settle(words, seat, sizes, number, bags, epoch) {
-        reclaim_settled(words, seat, sizes, number, bags, epoch);
+    let epoch = steps::read_count(place.words, seat);
+    if settle(place, seat, number, bags, epoch) {
+        reclaim_settled(place, seat, number, bags, epoch);
         own.garbage = bags.has_some();
         own.published = epoch;
         own.previous = epoch;
         return epoch;
     }
-    steps::publish(words, seat, number, epoch);
-    turn(words, seat, sizes, number, own, bags, epoch);
+    steps::publish(place.words, seat, number, epoch);
+    turn(place, seat, number, own, bags, epoch);
     epoch
 }
 
@@ -90,7 +87,8 @@ impl<T: Holds> Local<T> {
             bags,
             ..
         } = self;
-        let epoch = open_and_reclaim(domain.words(), seat, &domain.sizes, *number, own, bags);
-        cells::close(domain.words(), seat, *number, epoch);
+        let place = domain.place();
+        let epoch = open_and_reclaim(place, seat, *number, own, bags);
+        cells::close(place.words, seat, *number, epoch);
     }
 }

@@ -13,4 +13,4 @@ pub returns-then-release-eq0-clause-given : goal.returns-then-release-eq0-clause
 returns-then-release-eq0-clause-given g c = λ o os first. let l = c.release.ensures.released in let r = (l.2 o os first).1 c.if-release-eq0.true in let w = c.retire.ensures.waits in (w.0, l.0, l.1, w.3 ∙ λ j. (record (r.3 j).0 { waits = w.0 }, (r.3 j).1))
 
 pub returns-then-release-eq0-clause-waits : goal.returns-then-release-eq0-clause-waits
-returns-then-release-eq0-clause-waits g c = let w = c.retire.ensures.waits in subst (λ (ws : List Garbage). WaitsIn c.args.sizes.now.slots ws c.retire.new.self) (sym (ap (λ (z : Me _ Acting). z.0.waits) w.3)) w.2
+returns-then-release-eq0-clause-waits g c = let w = c.retire.ensures.waits in subst (λ (ws : List Garbage). WaitsIn c.args.place.sizes.now.slots ws c.retire.new.self) (sym (ap (λ (z : Me _ Acting). z.0.waits) w.3)) w.2

@@ -6,7 +6,7 @@ use Rattle.domain_garbage.proofs.Keeping.{long_taken}
 use Rattle.domain_garbage.proofs.private.hand_all.Goals as goal
 
 pub load-requires : goal.load-requires
-load-requires g c = let t = c.requires.table in let room = t.4 in let seat = c.args.seat.now in (t.0, omega arith, hands_all _ _ c.args.words.now.key c.args.words.now.table_id.slots seat.id 1 seat.me c.requires.ready.0 c.requires.ready.1)
+load-requires g c = let t = c.requires.table in let room = t.4 in let seat = c.args.seat.now in (t.0, omega arith, hands_all _ _ c.args.place.words.now.key c.args.place.words.now.table_id.slots seat.id 1 seat.me c.requires.ready.0 c.requires.ready.1)
 
 pub take_over-requires-clause-taken : goal.take_over-requires-clause-taken
 take_over-requires-clause-taken g c = let m = c.args.seat.now.me in (m.0.collected, m.0.waits, ap (λ (z : Me _ Acting). z.0.waits) c.load.ensures.2, c.requires.kept.chain, c.requires.kept.below, c.requires.waits)

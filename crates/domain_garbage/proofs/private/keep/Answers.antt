@@ -18,7 +18,7 @@ pub put-requires-clause-young : goal.put-requires-clause-young
 put-requires-clause-young g c = λ ns n e. let q = c.requires.came in let p = last_of (λ (w : Garbage). w.age) q.1 ns n (sym q.5.notes ∙ e) in subst (λ (k : ℕ). c.args.noted.note < k + 3) p.3 (q.8 p.0 p.1 p.2)
 
 pub returns-clause-kept : goal.returns-clause-kept
-returns-clause-kept g c = let q = c.requires.came in let w = q.0 in let ws = q.1 in let n = c.args.sizes.now.slots in let m = c.args.seat.now.me in
+returns-clause-kept g c = let q = c.requires.came in let w = q.0 in let ws = q.1 in let n = c.args.place.sizes.now.slots in let m = c.args.seat.now.me in
     let r = c.join_noted-kept.ensures.joined (w ∷ []) ws [] (q.2 ∙ ap (λ (zs : List Garbage). w ∷ zs) (sym (append-nil ws))) (alone w c.args.noted.slot q.3) q.5.chain in (
       w ∷ r.0,
       record {

@@ -32,15 +32,15 @@ module _ {T : Type 0} (holds : T → List (ℕ × ℕ)) (d : Acting) (xs : List 
 
 pub parts_of-part-requires : goal.parts_of-part-requires
 parts_of-part-requires g c = let m = c.args.seat.now.me in let q = c.requires.filled in let f = q.0 in let t = c.gather.ensures.taken f q.1 in let e = c.exchange.ensures in
-    (f.round, t.0, had g.H.Holding.holds m.0 m.1 c.gather.new.seat.me c.exchange.new.seat.me f t.0 t.1 c.exchange.result c.home_of.result t.5 e.2 e.3 f.round t.2)
+    (f.round, t.0, had g.H.Holding.holds m.0 m.1 c.gather.new.seat.me c.exchange.new.seat.me f t.0 t.1 c.exchange.result c.home_of-home.result t.5 e.2 e.3 f.round t.2)
 
 pub empty-requires-clause-emptied : goal.empty-requires-clause-emptied
-empty-requires-clause-emptied g c = let m = c.args.seat.now.me in let q = c.requires.filled in let f = q.0 in let t = c.gather.ensures.taken f q.1 in let e = c.exchange.ensures in let r = c.exchange.result in let i : ℕ = c.home_of.result in let m1 = c.gather.new.seat.me in let m2 = c.exchange.new.seat.me in
+empty-requires-clause-emptied g c = let m = c.args.seat.now.me in let q = c.requires.filled in let f = q.0 in let t = c.gather.ensures.taken f q.1 in let e = c.exchange.ensures in let r = c.exchange.result in let i : ℕ = c.home_of-home.result in let m1 = c.gather.new.seat.me in let m2 = c.exchange.new.seat.me in
     let wide = ap (λ (z : Sizes). z.participants) c.requires.table.3 in let last = q.2 in let less = q.3 in
     (ap (λ (z : Me _ Acting). z.0.kind) (emptied g.H.Holding.holds m.0 m.1 m1 m2 f t.0 t.1 r i t.5 e.2 e.3) ∙ c.requires.table.2, (gathered t.0 f, m.1, can g.H.Holding.holds m.0 m.1 m1 m2 f t.0 t.1 r i t.5 e.2 e.3 (omega arith)))
 
 pub returns-clause-gathered : goal.returns-clause-gathered
-returns-clause-gathered g c = λ f' is'. let m = c.args.seat.now.me in let q = c.requires.filled in let f = q.0 in let t = c.gather.ensures.taken f q.1 in let e = c.exchange.ensures in let r = c.exchange.result in let i : ℕ = c.home_of.result in let m1 = c.gather.new.seat.me in let m2 = c.exchange.new.seat.me in
+returns-clause-gathered g c = λ f' is'. let m = c.args.seat.now.me in let q = c.requires.filled in let f = q.0 in let t = c.gather.ensures.taken f q.1 in let e = c.exchange.ensures in let r = c.exchange.result in let i : ℕ = c.home_of-home.result in let m1 = c.gather.new.seat.me in let m2 = c.exchange.new.seat.me in
     let wide = ap (λ (z : Sizes). z.participants) c.requires.table.3 in let last = q.2 in let less = q.3 in let heads : Some f ≡ Some f' = sym q.1 ∙ is' in let same : f ≡ f' = cc in
     let p = c.parts_of-part.ensures f.round t.0 (had g.H.Holding.holds m.0 m.1 m1 m2 f t.0 t.1 r i t.5 e.2 e.3 f.round t.2) in let many = p.1 in let most = t.3 in let whole = t.4 in
     let n : ℕ = c.parts_of-part.result.0.life.count in subst (λ (z : Filling). (c.parts_of-part.result.0.life.id ≡ z.round) × (z.left + n ≤ 2 ^ 63) × (c.args.at ≡ 0 → z.left + n ≡ 2 ^ 63) × (c.empty.new.seat.me ≡ (filling_at c.args.slot (emptying c.args.at n z) m.0, m.1))) same (
@@ -53,4 +53,4 @@ returns-clause-gathered g c = λ f' is'. let m = c.args.seat.now.me in let q = c
 
 pub returns-clause-some : goal.returns-clause-some
 returns-clause-some g c = let m = c.args.seat.now.me in let q = c.requires.filled in let f = q.0 in let t = c.gather.ensures.taken f q.1 in let e = c.exchange.ensures in
-    let p = c.parts_of-part.ensures f.round t.0 (had g.H.Holding.holds m.0 m.1 c.gather.new.seat.me c.exchange.new.seat.me f t.0 t.1 c.exchange.result c.home_of.result t.5 e.2 e.3 f.round t.2) in let many = p.1 in let some = p.3 in (omega arith, p.4)
+    let p = c.parts_of-part.ensures f.round t.0 (had g.H.Holding.holds m.0 m.1 c.gather.new.seat.me c.exchange.new.seat.me f t.0 t.1 c.exchange.result c.home_of-home.result t.5 e.2 e.3 f.round t.2) in let many = p.1 in let some = p.3 in (omega arith, p.4)

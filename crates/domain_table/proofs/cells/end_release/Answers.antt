@@ -10,7 +10,7 @@ use Rattle.domain_table.proofs.EndedReleases.{ends_one}
 use Rattle.domain_table.proofs.cells.end_release.Goals as goal
 
 pub fetch_sub-requires : goal.fetch_sub-requires
-fetch_sub-requires g c = let t = c.requires.table in let plan = c.args.words.now.key in let seat = c.args.seat.now in let slots = c.args.words.now.table_id.slots in let index = c.owners_word.ensures in let sized = t.2 in let inside = t.3 in let room = t.4 in let l = c.requires.begun in
+fetch_sub-requires g c = let t = c.requires.table in let plan = c.args.place.words.now.key in let seat = c.args.seat.now in let slots = c.args.place.words.now.table_id.slots in let index = c.owners_word.ensures in let sized = t.2 in let inside = t.3 in let room = t.4 in let l = c.requires.begun in
     let is = l.5 in let word : slot_word plan.sizes l.0.slot ≡ c.owners_word.result = ap (λ k. slot_word plan.sizes k) is ∙ (ap (λ (q : Sizes). slot_word q c.args.slot) t.1 ∙ sym index) in (
       t.0,
       omega arith,

@@ -43,7 +43,7 @@ pub joined-bag-requires-clause-acts : goal.joined-bag-requires-clause-acts
 joined-bag-requires-clause-acts g c = let o = c.take_own-before.ensures in let w = c.take_over.ensures in ap (λ (m : Me _ Acting). m.0.kind) (second c.args.seat.now.me c.take_own-before.new.seat.me c.take_over.new.seat.me _ w.waits.0 o.taken.3 w.waits.3) ∙ c.requires.rests.0
 
 pub joined-bag-requires-clause-waits : goal.joined-bag-requires-clause-waits
-joined-bag-requires-clause-waits g c = let w = c.take_over.ensures in (subst (λ (ws : List Garbage). WaitsIn c.args.sizes.now.slots ws c.take_over.new.self) (sym (ap (λ (m : Me _ Acting). m.0.waits) w.waits.3)) w.waits.2, w.due ∙ c.requires.waits.1)
+joined-bag-requires-clause-waits g c = let w = c.take_over.ensures in (subst (λ (ws : List Garbage). WaitsIn c.args.place.sizes.now.slots ws c.take_over.new.self) (sym (ap (λ (m : Me _ Acting). m.0.waits) w.waits.3)) w.waits.2, w.due ∙ c.requires.waits.1)
 
 pub tell-requires-clause-table : goal.tell-requires-clause-table
 tell-requires-clause-table g c = let t = c.requires.table in let o = c.take_own-before.ensures in let w = c.take_over.ensures in let j = c.joined-bag.ensures in
@@ -59,7 +59,7 @@ tell-requires-clause-known g c = let o = c.take_own-before.ensures in let w = c.
     ap (λ (m : Me _ Acting). m.0.left) (third c.args.seat.now.me c.take_own-before.new.seat.me c.take_over.new.seat.me _ w.waits.0 o.taken.3 w.waits.3 c.joined-bag.new.seat.me j.joined.0 j.joined.3)
 
 pub tell-requires-clause-bag : goal.tell-requires-clause-bag
-tell-requires-clause-bag g c = let j = c.joined-bag.ensures.joined in subst (λ (ws : List Garbage). IsBag ws c.joined-bag.result × AllBelow c.args.sizes.now.slots ws) (sym (ap (λ (m : Me _ Acting). m.0.waits) j.3)) (j.1, j.2)
+tell-requires-clause-bag g c = let j = c.joined-bag.ensures.joined in subst (λ (ws : List Garbage). IsBag ws c.joined-bag.result × AllBelow c.args.place.sizes.now.slots ws) (sym (ap (λ (m : Me _ Acting). m.0.waits) j.3)) (j.1, j.2)
 
 pub returns : goal.returns
 returns g c = let o = c.take_own-before.ensures in let w = c.take_over.ensures in let j = c.joined-bag.ensures in let e = c.tell.ensures in

@@ -10,7 +10,7 @@ use Rattle.domain_table.proofs.Linking.{loads_link}
 use Rattle.domain_table.proofs.links.load_link.Goals as goal
 
 pub load-requires : goal.load-requires
-load-requires g c = let t = c.requires.table in let plan = c.args.words.now.key in let seat = c.args.seat.now in let slots = c.args.words.now.table_id.slots in let low = t.4 in let room = t.5 in let index = c.link_word.ensures in
+load-requires g c = let t = c.requires.table in let plan = c.args.place.words.now.key in let seat = c.args.seat.now in let slots = c.args.place.words.now.table_id.slots in let low = t.4 in let room = t.5 in let index = c.link_word.ensures in
     let word : link_word plan.sizes c.args.slot ≡ c.link_word.result = ap (λ (z : Sizes). link_word z c.args.slot) t.1 ∙ sym c.link_word.ensures in (
       t.0,
       omega arith,

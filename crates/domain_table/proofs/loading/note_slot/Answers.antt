@@ -63,6 +63,6 @@ returns-clause-rows g c = let q = c.requires.found in let m = q.0 in let m1 = c.
     let all = behind g.H.Holding.holds m m1 slot f.0 takes c.home_of-home.result c.exchange.result c.exchange.new.seat.me c.turn.new.self.me e.2 e.3 c.turn.ensures.2 in let pushed = c.push_back_reserved.ensures.items in
     let one : row_told c.new.result ≡ lease_told life (new g.H.Holding.holds m m1 slot f.0 takes) = c.new.ensures ∙ λ j. (slot, p.0 j, p.2 j, life) in (
       ap (map row_told) pushed ∙ (more_told life rows m.0.leases c.new.result (new g.H.Holding.holds m m1 slot f.0 takes) q.4 one ∙ sym (ap (λ (z : Me _ Acting). map (lease_told life) z.0.leases) all)),
-      ap (λ rs. all_below c.args.sizes.now.slots (row_slots rs)) pushed ∙ more_below c.args.sizes.now.slots rows c.new.result c.requires.rows.0 (subst (λ k. k < c.args.sizes.now.slots) (sym (ap (λ (t : ℕ × ℕ × ℕ × ℕ). t.0) one)) (subst (λ (z : Sizes). slot < z.slots) q.3 takes.1)),
+      ap (λ rs. all_below c.args.place.sizes.now.slots (row_slots rs)) pushed ∙ more_below c.args.place.sizes.now.slots rows c.new.result c.requires.rows.0 (subst (λ k. k < c.args.place.sizes.now.slots) (sym (ap (λ (t : ℕ × ℕ × ℕ × ℕ). t.0) one)) (subst (λ (z : Sizes). slot < z.slots) q.3 takes.1)),
       c.push_back_reserved.ensures.capacity,
     )

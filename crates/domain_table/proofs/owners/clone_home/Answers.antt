@@ -16,7 +16,7 @@ parts_of-own-requires g c = let q = c.requires.owner in let b = c.begin_release.
 pub raise_owners-requires-clause-table : goal.raise_owners-requires-clause-table
 raise_owners-requires-clause-table g c = let m = c.args.seat.now.me in let m1 = c.begin_release.new.seat.me in let r = c.exchange.result in let q = c.requires.owner in let o = q.0 in let b = c.begin_release.ensures.begun o q.1 q.2 in let e = c.exchange.ensures in let i : ℕ = c.home_of-home.result in
     let t = c.requires.table.0 in let is = begun.emptied g.H.Holding.holds m m1 o b i r e.2 c.exchange.new.seat.me _ e.3 in
-    ((e.0 ∙ (c.begin_release.ensures.seat.0 ∙ t.0), t.1, ap (λ (z : Me _ Acting). z.0.sizes) is ∙ t.2, t.3, t.4), subst (λ k. k < c.args.sizes.now.slots) q.3 (subst (λ (z : Sizes). o.slot < z.slots) t.2 b.4))
+    ((e.0 ∙ (c.begin_release.ensures.seat.0 ∙ t.0), t.1, ap (λ (z : Me _ Acting). z.0.sizes) is ∙ t.2, t.3, t.4), subst (λ k. k < c.args.place.sizes.now.slots) q.3 (subst (λ (z : Sizes). o.slot < z.slots) t.2 b.4))
 
 pub raise_owners-requires-clause-leased : goal.raise_owners-requires-clause-leased
 raise_owners-requires-clause-leased g c = let m = c.args.seat.now.me in let m1 = c.begin_release.new.seat.me in let r = c.exchange.result in let q = c.requires.owner in let o = q.0 in let b = c.begin_release.ensures.begun o q.1 q.2 in let e = c.exchange.ensures in let i : ℕ = c.home_of-home.result in

@@ -9,7 +9,7 @@ use Rattle.domain_table.proofs.owners.own_at.Goals as goal
 
 pub raise_owners-requires-clause-table : goal.raise_owners-requires-clause-table
 raise_owners-requires-clause-table g c = let r = c.requires.rows in let rows = c.args.rows.now.items in let ls = c.args.seat.now.me.0.leases in let low = c.requires.row.0 in let long = c.args.rows.now.ok.0 in let f = row_at r.0.0 rows ls c.args.at r.0.1 (omega arith) in
-    (c.requires.table, inside r.0.0 rows ls c.args.at c.args.slot f c.requires.row.1 r.0.1 c.args.sizes.now.slots r.1)
+    (c.requires.table, inside r.0.0 rows ls c.args.at c.args.slot f c.requires.row.1 r.0.1 c.args.place.sizes.now.slots r.1)
 
 pub raise_owners-requires-clause-leased : goal.raise_owners-requires-clause-leased
 raise_owners-requires-clause-leased g c = let r = c.requires.rows in let rows = c.args.rows.now.items in let ls = c.args.seat.now.me.0.leases in let low = c.requires.row.0 in let long = c.args.rows.now.ok.0 in let f = row_at r.0.0 rows ls c.args.at r.0.1 (omega arith) in
@@ -46,4 +46,4 @@ returns-clause-same g c = let r = c.requires.rows in let m = c.args.seat.now.me 
 
 pub returns-clause-there : goal.returns-clause-there
 returns-clause-there g c = let r = c.requires.rows in let rows = c.args.rows.now.items in let ls = c.args.seat.now.me.0.leases in let low = c.requires.row.0 in let long = c.args.rows.now.ok.0 in let f = row_at r.0.0 rows ls c.args.at r.0.1 (omega arith) in
-    (c.give_one.ensures.there, inside r.0.0 rows ls c.args.at c.args.slot f c.requires.row.1 r.0.1 c.args.sizes.now.slots r.1)
+    (c.give_one.ensures.there, inside r.0.0 rows ls c.args.at c.args.slot f c.requires.row.1 r.0.1 c.args.place.sizes.now.slots r.1)

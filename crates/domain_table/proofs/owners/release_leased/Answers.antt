@@ -10,7 +10,7 @@ use Rattle.domain_table.proofs.owners.release_leased.Goals as goal
 
 pub release_owner-left-requires-clause-table : goal.release_owner-left-requires-clause-table
 release_owner-left-requires-clause-table g c = let t = c.requires.table in let r = c.requires.rows in let rows = c.args.rows.now.items in let ls = c.args.seat.now.me.0.leases in let low = c.requires.row.0 in let long = c.args.rows.now.ok.0 in let f = row_at r.0.0 rows ls c.args.at r.0.1 (omega arith) in
-    let below = inside r.0.0 rows ls c.args.at c.args.slot f c.requires.row.1 r.0.1 c.args.sizes.now.slots r.1 in (t.0, t.1, t.3, below, t.4)
+    let below = inside r.0.0 rows ls c.args.at c.args.slot f c.requires.row.1 r.0.1 c.args.place.sizes.now.slots r.1 in (t.0, t.1, t.3, below, t.4)
 
 pub release_owner-left-requires-clause-owner : goal.release_owner-left-requires-clause-owner
 release_owner-left-requires-clause-owner g c = let r = c.requires.rows in let rows = c.args.rows.now.items in let ls = c.args.seat.now.me.0.leases in let low = c.requires.row.0 in let long = c.args.rows.now.ok.0 in let f = row_at r.0.0 rows ls c.args.at r.0.1 (omega arith) in
@@ -24,7 +24,7 @@ take_in-requires g c = let r = c.requires.rows in let rows = c.args.rows.now.ite
 
 pub returns-clause-low : goal.returns-clause-low
 returns-clause-low g c = let r = c.requires.rows in let rows = c.args.rows.now.items in let ls = c.args.seat.now.me.0.leases in let low = c.requires.row.0 in let long = c.args.rows.now.ok.0 in let f = row_at r.0.0 rows ls c.args.at r.0.1 (omega arith) in
-    let below = inside r.0.0 rows ls c.args.at c.args.slot f c.requires.row.1 r.0.1 c.args.sizes.now.slots r.1 in omega arith
+    let below = inside r.0.0 rows ls c.args.at c.args.slot f c.requires.row.1 r.0.1 c.args.place.sizes.now.slots r.1 in omega arith
 
 pub returns-clause-bag_room : goal.returns-clause-bag_room
 returns-clause-bag_room g c = let r = c.requires.rows in let rows = c.args.rows.now.items in let ls = c.args.seat.now.me.0.leases in let low = c.requires.row.0 in let long = c.args.rows.now.ok.0 in let f = row_at r.0.0 rows ls c.args.at r.0.1 (omega arith) in

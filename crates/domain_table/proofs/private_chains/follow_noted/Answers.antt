@@ -10,7 +10,7 @@ use Rattle.domain_table.proofs.Linking.{follows_noted}
 use Rattle.domain_table.proofs.private_chains.follow_noted.Goals as goal
 
 pub store-requires : goal.store-requires
-store-requires g c = let t = c.requires.table in let plan = c.args.words.now.key in let seat = c.args.seat.now in let slots = c.args.words.now.table_id.slots in let h = c.requires.held in let low = t.4 in let room = t.5 in let index = c.link_word.ensures in
+store-requires g c = let t = c.requires.table in let plan = c.args.place.words.now.key in let seat = c.args.seat.now in let slots = c.args.place.words.now.table_id.slots in let h = c.requires.held in let low = t.4 in let room = t.5 in let index = c.link_word.ensures in
     let word : link_word plan.sizes h.2.slot ≡ c.link_word.result = ap (λ k. link_word plan.sizes k) h.6 ∙ ap (λ (z : Sizes). link_word z c.args.slot) t.1 ∙ sym c.link_word.ensures in
     let value : suc h.1.slot ≡ c.args.next + 1 = omega (arith, h.5) in (
       t.0,

@@ -8,7 +8,7 @@ use Rattle.domain_table.proofs.private_chains.join_noted.Goals as goal
 pub follow_noted-requires-clause-table : goal.follow_noted-requires-clause-table
 follow_noted-requires-clause-table g c = let t = c.requires.table in let b = c.requires.bags in let n = newest b.1 c.args.older c.in-Some-older.front c.in-Some-older.is b.5 in
     let there = has_right b.0 (b.1 ++ b.2) n.0 (has_left b.1 b.2 n.0 (subst (λ (ws : List Garbage). Has ws n.0) (sym n.2) (inl refl))) in
-    (t.0, t.1, t.2, t.3, subst (λ k. k < c.args.sizes.now.slots) (sym n.3) (c.requires.acts.1 n.0 (subst (λ (ws : List Garbage). Has ws n.0) (sym b.3) there)), t.4)
+    (t.0, t.1, t.2, t.3, subst (λ k. k < c.args.place.sizes.now.slots) (sym n.3) (c.requires.acts.1 n.0 (subst (λ (ws : List Garbage). Has ws n.0) (sym b.3) there)), t.4)
 
 pub follow_noted-requires-clause-acts : goal.follow_noted-requires-clause-acts
 follow_noted-requires-clause-acts g c = let t = c.requires.table in let b = c.requires.bags in let m = newest b.0 c.args.newer c.in-Some.behind c.in-Some.is b.4 in let o = has_oldest m.0 m.1 in

@@ -8,7 +8,7 @@ use Rattle.domain_table.proofs.private_chains.take_noted.Goals as goal
 pub load_link-found-requires-clause-table : goal.load_link-found-requires-clause-table
 load_link-found-requires-clause-table g c = let t = c.requires.table in let b = c.requires.bag in let n = newest b.1 c.args.bag c.in-Some.ends c.in-Some.is b.3 in let o = has_oldest n.0 n.1 in
     let there : Has c.args.seat.now.me.0.collected o.0 = subst (λ (ws : List Garbage). Has ws o.0) (sym (b.2 ∙ ap (λ (cs : List Garbage). b.0 ++ cs) n.2)) (has_right b.0 (n.0 ∷ n.1) o.0 o.1) in
-    (t.0, t.1, t.2, t.3, subst (λ k. k < c.args.sizes.now.slots) (o.2 ∙ sym n.4) (c.requires.acts.1 o.0 there), t.4)
+    (t.0, t.1, t.2, t.3, subst (λ k. k < c.args.place.sizes.now.slots) (o.2 ∙ sym n.4) (c.requires.acts.1 o.0 there), t.4)
 
 pub returns-then-ends-clause-taken : goal.returns-then-ends-clause-taken
 returns-then-ends-clause-taken g c = λ ps cs is b. let l = c.load_link-found.ensures in let apart = apart_right ps cs (subst SlotsApart is l.apart.1) in

@@ -13,7 +13,7 @@ use Rattle.domain_table.proofs.Claims.{claims_slot}
 use Rattle.domain_table.proofs.slots.claim.Goals as goal
 
 pub compare_exchange-requires : goal.compare_exchange-requires
-compare_exchange-requires g c = let t = c.requires.table in let plan = c.args.words.now.key in let seat = c.args.seat.now in let slots = c.args.words.now.table_id.slots in let index = c.owners_word-word.ensures in let sized = t.3 in let inside = t.4 in let room = t.5 in
+compare_exchange-requires g c = let t = c.requires.table in let plan = c.args.place.words.now.key in let seat = c.args.seat.now in let slots = c.args.place.words.now.table_id.slots in let index = c.owners_word-word.ensures in let sized = t.3 in let inside = t.4 in let room = t.5 in
     let word : slot_word plan.sizes c.args.slot ≡ c.owners_word-word.result = ap (λ (q : Sizes). slot_word q c.args.slot) t.1 ∙ sym index in (
       t.0,
       omega arith,

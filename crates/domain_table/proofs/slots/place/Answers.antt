@@ -10,7 +10,7 @@ use Rattle.domain_table.proofs.Placings.{places_item}
 use Rattle.domain_table.proofs.slots.place.Goals as goal
 
 pub store-requires : goal.store-requires
-store-requires g c = let t = c.requires.table in let plan = c.args.words.now.key in let seat = c.args.seat.now in let slots = c.args.words.now.table_id.slots in let index = c.owners_word.ensures in let sized = t.3 in let inside = t.4 in let room = t.5 in let r = c.requires.ready in let at = r.3 in let f = c.requires.filled in
+store-requires g c = let t = c.requires.table in let plan = c.args.place.words.now.key in let seat = c.args.seat.now in let slots = c.args.place.words.now.table_id.slots in let index = c.owners_word.ensures in let sized = t.3 in let inside = t.4 in let room = t.5 in let r = c.requires.ready in let at = r.3 in let f = c.requires.filled in
     let word : slot_word plan.sizes seat.me.0.slot ≡ c.owners_word.result = ap (λ k. slot_word plan.sizes k) at ∙ (ap (λ (q : Sizes). slot_word q c.args.slot) t.1 ∙ sym index) in (
       t.0,
       omega arith,

@@ -31,7 +31,7 @@ give_back-requires-clause-owner g c = let q = c.requires.owners in let f = first
     ((f.0, f.1 ++ q.1, f.2, ap (λ (t : ℕ × ℕ). t.0) f.3, ap (λ (t : ℕ × ℕ). t.1) f.3), c.in-Some.held.there)
 
 pub give_back-requires-clause-rows : goal.give_back-requires-clause-rows
-give_back-requires-clause-rows g c = let r = c.requires.rows in let inv = c.loop-held.invariant in ((r.0.0, inv.rows r.0.0 r.0.1), ap (all_below c.args.sizes.now.slots) inv.same.1 ∙ r.1)
+give_back-requires-clause-rows g c = let r = c.requires.rows in let inv = c.loop-held.invariant in ((r.0.0, inv.rows r.0.0 r.0.1), ap (all_below c.args.place.sizes.now.slots) inv.same.1 ∙ r.1)
 
 pub loop-held-preserved : goal.loop-held-preserved
 loop-held-preserved g c = let m = c.args.seat.now.me in let m1 = c.loop-held.seat.me in let inv = c.loop-held.invariant in let r = c.give_back.ensures in record {

@@ -15,7 +15,7 @@ invariant-loop-held g l = record {
   owners : (hs os : List Owner) → g.T.Holds.holds l.fn.item ≡ map told hs → l.fn.seat.me.0.hand ≡ hs ++ os → (ks : List Owner) × (ws : List Garbage) × (ls : List Lease) × (g.T.Holds.holds l.item ≡ map told ks) × AreAt l.fn.seat.me.0.leases ls × (l.seat.me ≡ (record l.fn.seat.me.0 { hand = ks ++ os; leases = ls; waits = ws }, l.fn.seat.me.1));
   rows : (life : ℕ) → map row_told l.fn.rows.items ≡ map (lease_told life) l.fn.seat.me.0.leases → map row_told l.rows.items ≡ map (lease_told life) l.seat.me.0.leases;
   same : (deque_capacity l.rows ≡ deque_capacity l.fn.rows) × (row_slots l.rows.items ≡ row_slots l.fn.rows.items);
-  waits : WaitsIn l.sizes.slots l.seat.me.0.waits l.bags;
+  waits : WaitsIn l.place.sizes.now.slots l.seat.me.0.waits l.bags;
   due : l.bags.due ≡ l.fn.bags.due;
 }
 

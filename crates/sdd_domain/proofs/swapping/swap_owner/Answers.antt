@@ -22,10 +22,10 @@ take_back-requires-clause-ready g c = let b = c.bring-word.ensures.brings c.requ
     (ap (λ (z : Me _ Acting). z.0.kind) back.2.2.2 ∙ (ap (λ (z : Acting). z.kind) b.2 ∙ r.0), ap (λ (z : Me _ Acting). z.0.releasing) back.2.2.2 ∙ (ap (λ (z : Acting). z.releasing) b.2 ∙ r.2))
 
 pub take_back-requires-clause-back : goal.take_back-requires-clause-back
-take_back-requires-clause-back g c = let b = c.bring-word.ensures.brings c.requires.out.0 c.requires.out.1 in let back = c.swap-found.ensures.swapped b.0 c.args.seat.now.me.0.hand c.requires.out.0 b.1 in (with_step (cell_word c.args.words.now.key.sizes c.args.cell) c.swap-found.result c.bring-word.result c.bring-word.new.seat.me, c.args.seat.now.me.0.hand, c.requires.out.0, back)
+take_back-requires-clause-back g c = let b = c.bring-word.ensures.brings c.requires.out.0 c.requires.out.1 in let back = c.swap-found.ensures.swapped b.0 c.args.seat.now.me.0.hand c.requires.out.0 b.1 in (with_step (cell_word c.args.place.words.now.key.sizes c.args.cell) c.swap-found.result c.bring-word.result c.bring-word.new.seat.me, c.args.seat.now.me.0.hand, c.requires.out.0, back)
 
 pub returns-clause-swapped : goal.returns-clause-swapped
-returns-clause-swapped g c = let w : ℕ = c.swap-found.result in let v : ℕ = c.bring-word.result in let seat = c.args.seat.now.me in let i : ℕ = cell_word c.args.words.now.key.sizes c.args.cell in (
+returns-clause-swapped g c = let w : ℕ = c.swap-found.result in let v : ℕ = c.bring-word.result in let seat = c.args.seat.now.me in let i : ℕ = cell_word c.args.place.words.now.key.sizes c.args.cell in (
   w,
   v,
   (λ tail is. let b = c.bring-word.ensures.brings tail is in let back = c.swap-found.ensures.swapped b.0 seat.0.hand tail b.1 in let y : ℕ = c.take_back.result.0 in

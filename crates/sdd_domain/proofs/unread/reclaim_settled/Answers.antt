@@ -23,7 +23,7 @@ pub reclaim_due-requires-clause-ready : goal.reclaim_due-requires-clause-ready
 reclaim_due-requires-clause-ready g c = let r = c.requires.read in let q = c.requires.rest in rests c.args.seat.now.me c.publish.new.seat.me c.args.epoch r.3 c.publish.ensures.published c.args.number r.0 r.1 q.0 q.1 q.2
 
 pub reclaim_due-requires-clause-waits : goal.reclaim_due-requires-clause-waits
-reclaim_due-requires-clause-waits g c = subst (λ (z : Me _ Acting). WaitsIn c.args.sizes.now.slots z.0.waits c.args.bags.now) (sym (is c.args.seat.now.me c.publish.new.seat.me c.args.epoch c.requires.read.3 c.publish.ensures.published)) c.requires.waits
+reclaim_due-requires-clause-waits g c = subst (λ (z : Me _ Acting). WaitsIn c.args.place.sizes.now.slots z.0.waits c.args.bags.now) (sym (is c.args.seat.now.me c.publish.new.seat.me c.args.epoch c.requires.read.3 c.publish.ensures.published)) c.requires.waits
 
 pub returns-clause-reclaimed : goal.returns-clause-reclaimed
 returns-clause-reclaimed g c = let p = c.publish.ensures.published in let d = c.reclaim_due.ensures.reclaimed in (p.0, d.0, d.1, d.2 ∙ λ j. (record (p.2 j).0 { slot = d.0; waits = d.1 }, (p.2 j).1))

@@ -37,25 +37,25 @@ module _ (n : ℕ) (ws : List Garbage) (b : Bags) (l : Lists n ws b) (ps' : List
     all_below = let f = subst (AllBelow n) first_is first_below in below_parts n (l.cs ++ ps') ns' (λ w h. f w (has_left (l.cs ++ ps') rest w h)) (below_alike n l.ns ns' alike' (λ w h. f w (has_right (l.cs ++ ps') rest w (has_left l.ns l.ds w h))))
 
 pub join-newer-requires-clause-acts : goal.join-newer-requires-clause-acts
-join-newer-requires-clause-acts g c = (c.requires.acts, (lists_of c.args.sizes.now.slots c.args.seat.now.me.0.waits c.args.self c.requires.waits.0).below)
+join-newer-requires-clause-acts g c = (c.requires.acts, (lists_of c.args.place.sizes.now.slots c.args.seat.now.me.0.waits c.args.self c.requires.waits.0).below)
 
 pub join-newer-requires-clause-bags : goal.join-newer-requires-clause-bags
-join-newer-requires-clause-bags g c = let l = lists_of c.args.sizes.now.slots c.args.seat.now.me.0.waits c.args.self c.requires.waits.0 in (l.cs, l.ps, l.ns ++ l.ds, l.are, l.current, l.previous)
+join-newer-requires-clause-bags g c = let l = lists_of c.args.place.sizes.now.slots c.args.seat.now.me.0.waits c.args.self c.requires.waits.0 in (l.cs, l.ps, l.ns ++ l.ds, l.are, l.current, l.previous)
 
 pub join-requires-clause-table : goal.join-requires-clause-table
-join-requires-clause-table g c = let t = c.requires.table in let m = c.args.seat.now.me in let l = lists_of c.args.sizes.now.slots m.0.waits c.args.self c.requires.waits.0 in let r = c.join-newer.ensures.joined l.cs l.ps (l.ns ++ l.ds) l.are l.current l.previous in
+join-requires-clause-table g c = let t = c.requires.table in let m = c.args.seat.now.me in let l = lists_of c.args.place.sizes.now.slots m.0.waits c.args.self c.requires.waits.0 in let r = c.join-newer.ensures.joined l.cs l.ps (l.ns ++ l.ds) l.are l.current l.previous in
     (c.join-newer.ensures.seat.0 ∙ t.0, t.1, ap (λ z. z.0.sizes) r.3 ∙ t.2, t.3, t.4)
 
 pub join-requires-clause-acts : goal.join-requires-clause-acts
-join-requires-clause-acts g c = let n = c.args.sizes.now.slots in let m = c.args.seat.now.me in let l = lists_of n m.0.waits c.args.self c.requires.waits.0 in let r = c.join-newer.ensures.joined l.cs l.ps (l.ns ++ l.ds) l.are l.current l.previous in
+join-requires-clause-acts g c = let n = c.args.place.sizes.now.slots in let m = c.args.seat.now.me in let l = lists_of n m.0.waits c.args.self c.requires.waits.0 in let r = c.join-newer.ensures.joined l.cs l.ps (l.ns ++ l.ds) l.are l.current l.previous in
     (ap (λ z. z.0.kind) r.3 ∙ c.requires.acts, subst (AllBelow n) (sym (ap (λ z. z.0.waits) r.3)) (first_below n m.0.waits c.args.self l r.0 r.1))
 
 pub join-requires-clause-bags : goal.join-requires-clause-bags
-join-requires-clause-bags g c = let n = c.args.sizes.now.slots in let m = c.args.seat.now.me in let l = lists_of n m.0.waits c.args.self c.requires.waits.0 in let r = c.join-newer.ensures.joined l.cs l.ps (l.ns ++ l.ds) l.are l.current l.previous in
+join-requires-clause-bags g c = let n = c.args.place.sizes.now.slots in let m = c.args.seat.now.me in let l = lists_of n m.0.waits c.args.self c.requires.waits.0 in let r = c.join-newer.ensures.joined l.cs l.ps (l.ns ++ l.ds) l.are l.current l.previous in
     (l.cs ++ r.0, l.ns, l.ds, ap (λ z. z.0.waits) r.3 ∙ first_is n m.0.waits c.args.self l r.0 r.1, r.2, l.next)
 
 pub returns-clause-joined : goal.returns-clause-joined
-returns-clause-joined g c = let n = c.args.sizes.now.slots in let m = c.args.seat.now.me in let b = c.args.self in let l = lists_of n m.0.waits b c.requires.waits.0 in let none = c.requires.waits.1 in let r = c.join-newer.ensures.joined l.cs l.ps (l.ns ++ l.ds) l.are l.current l.previous in
+returns-clause-joined g c = let n = c.args.place.sizes.now.slots in let m = c.args.seat.now.me in let b = c.args.self in let l = lists_of n m.0.waits b c.requires.waits.0 in let none = c.requires.waits.1 in let r = c.join-newer.ensures.joined l.cs l.ps (l.ns ++ l.ds) l.are l.current l.previous in
     let s = c.join.ensures.joined (l.cs ++ r.0) l.ns l.ds (ap (λ z. z.0.waits) r.3 ∙ first_is n m.0.waits b l r.0 r.1) r.2 l.next in (
       (l.cs ++ r.0) ++ s.0,
       s.2,

@@ -65,6 +65,6 @@ returns-clause-same g c = let l = c.args.local.now in let all = c.swap_owner-fre
     (((λ j. (table j, ap (λ (z : Me _ Acting). z.0.sizes) all j), refl, ap (λ (z : Me _ Acting). map told z.0.hand) all, refl), refl), refl, ap (λ (z : Me _ Acting). z.0.born) all, ap (λ (z : Me _ Acting). length z.0.waits) all)
 
 pub returns-clause-exchanged : goal.returns-clause-exchanged
-returns-clause-exchanged g c = let l = c.args.local.now in let e = c.swap_owner-free.ensures in let all = e.swapped.2 (behind l) (out l) in let home : c.args.domain.now.sizes ≡ l.seat.me.0.sizes = c.args.domain.now.sized.0 ∙ sym (ap (λ (t : TableId × Sizes). t.1) c.requires.home) in
+returns-clause-exchanged g c = let l = c.args.local.now in let e = c.swap_owner-free.ensures in let all = e.swapped.2 (behind l) (out l) in let home : c.place.result.sizes.now ≡ l.seat.me.0.sizes = c.place.ensures.sizes ∙ (c.args.domain.now.sized.0 ∙ sym (ap (λ (t : TableId × Sizes). t.1) c.requires.home)) in
     let made = ap (λ (z : Me _ Acting). z.0.cell_steps) all ∙ (λ j. l.seat.me.0.cell_steps ++ record { word = cell_word (home j) c.args.self.now.cell; found = e.swapped.0; left = e.swapped.1 } ∷ []) in
     (e.swapped.0, (c.swap_owner-free.result.0, e.spare, e.few.0, e.swapped.3), (e.swapped.1, (l.spare, l.has_spare.1, e.few.1, e.swapped.4), made))

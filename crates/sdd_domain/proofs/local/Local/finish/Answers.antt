@@ -71,7 +71,7 @@ invariant_of-self g c = let l = c.args.self.now in let d = l.seat.me.0 in let m1
       found = ap (λ (d : Acting). d.known.found) is ∙ (o.3 ∙ sym (ap (λ (n : LocalState). n.previous) own));
       noted = ap (λ (n : LocalState). n.published) own ∙ (l.noted ∙ sym (ap (λ (n : LocalState). n.previous) own));
       fills = (ap (λ (d : Acting). d.filling) is ∙ (s.9 ∙ l.fills.0), l.fills.1, subst (λ (z : Sizes). l.number < z.participants) (sym sizes) l.fills.2);
-      waits = (subst (λ (z : Acting). WaitsIn z.sizes.slots z.waits c.scan_due.new.bags) (sym is) (subst (λ (z : Sizes). WaitsIn z.slots m1.0.waits c.scan_due.new.bags) (sym (s.3 ∙ (ap (λ (t : TableId × Sizes). t.1) c.requires.home ∙ sym c.args.domain.now.sized.0))) c.scan_due.ensures.waits), c.scan_due.ensures.due ∙ l.waits.1);
+      waits = (subst (λ (z : Acting). WaitsIn z.sizes.slots z.waits c.scan_due.new.bags) (sym is) (subst (λ (z : Sizes). WaitsIn z.slots m1.0.waits c.scan_due.new.bags) (sym (s.3 ∙ (ap (λ (t : TableId × Sizes). t.1) c.requires.home ∙ (sym c.args.domain.now.sized.0 ∙ sym c.place-place.ensures.sizes)))) c.scan_due.ensures.waits), c.scan_due.ensures.due ∙ l.waits.1);
     }
 
 pub returns-clause-same : goal.returns-clause-same

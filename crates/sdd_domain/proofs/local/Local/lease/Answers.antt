@@ -15,7 +15,7 @@ use Rattle.sdd_domain.proofs.local.Local.lease.Goals as goal
 
 pub invariant_of-self : goal.invariant_of-self
 invariant_of-self g c = let l = c.args.self.now in let d = l.seat.me.0 in let m = c.lease-at.new.seat.me in let e = c.lease-at.ensures.loaded.1.2 in let table = c.lease-at.ensures.seat.0 in let told = c.lease-at.ensures.rows in let rows = c.lease-at.new.rows in let sizes : m.0.sizes ≡ d.sizes = ap (λ (z : Acting). z.sizes) e in
-    let home : d.sizes ≡ c.args.domain.now.sizes = ap (λ (t : TableId × Sizes). t.1) c.requires.home ∙ sym c.args.domain.now.sized.0 in record {
+    let home : d.sizes ≡ c.place.result.sizes.now = ap (λ (t : TableId × Sizes). t.1) c.requires.home ∙ (sym c.args.domain.now.sized.0 ∙ sym c.place.ensures.sizes) in record {
       acts = (
         ap (λ (z : Acting). z.kind) e ∙ l.acts.0,
         ap (λ (z : Acting). z.number) e ∙ l.acts.1,
@@ -49,5 +49,5 @@ returns-clause-seen g c = let l = c.args.self.now in (elim c.seen_at.result as (
 -- one step was made, on the cell
 pub returns-clause-looked : goal.returns-clause-looked
 returns-clause-looked g c = let l = c.args.self.now in let e = c.lease-at.ensures.loaded in let f = e.2 in let y : ℕ = f.0 in let k : ℕ = f.1 in let low = f.2 in let few = f.3 in let is = f.4 in let code = c.seen_at.ensures.code k f.5 in
-    let home : c.args.domain.now.sizes ≡ l.seat.me.0.sizes = c.args.domain.now.sized.0 ∙ sym (ap (λ (t : TableId × Sizes). t.1) c.requires.home) in let word : e.0 ≡ packed y (tag_number c.lease-at.result.1) (code_told c.seen_at.result) = is ∙ ap (packed y (tag_number c.lease-at.result.1)) (sym code) in
+    let home : c.place.result.sizes.now ≡ l.seat.me.0.sizes = c.place.ensures.sizes ∙ (c.args.domain.now.sized.0 ∙ sym (ap (λ (t : TableId × Sizes). t.1) c.requires.home)) in let word : e.0 ≡ packed y (tag_number c.lease-at.result.1) (code_told c.seen_at.result) = is ∙ ap (packed y (tag_number c.lease-at.result.1)) (sym code) in
     (e.0, (y, low, few, word), ap (λ (z : Acting). z.cell_steps) e.1.2 ∙ (λ j. l.seat.me.0.cell_steps ++ record { word = cell_word (home j) c.args.cell; found = e.0; left = e.0 } ∷ []))

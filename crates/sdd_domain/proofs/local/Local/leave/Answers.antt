@@ -4,11 +4,9 @@ use Rattle.atomic_table.specs.Seated.{TableId}
 use Rattle.sdd_plain.specs.declared.sizes.Sizes.{Sizes}
 use Rattle.std.specs.VecDeque.{deque_capacity}
 use Rattle.sdd_steps.specs.declared.participant.Phase.TheVariants.{Idle, Opened}
-use Rattle.domain_table.specs.Layout.{all_words}
 use Rattle.domain_table.specs.Ledgers.{WaitsIn}
 use Rattle.domain_table.specs.Plays.{own_spare, leaving}
 use Rattle.domain_table.specs.declared.board.Acting.{Acting}
-use Rattle.domain_table.specs.declared.board.Plan.{Plan}
 use Rattle.domain_table.specs.declared.board.Home.TheVariants.{Blank}
 use Rattle.domain_table.specs.Leases.{life_number}
 use Rattle.sdd_domain.specs.declared.local.Local.{Local}
@@ -21,8 +19,8 @@ out : {T : Type 0} (l : Local T) → l.own.nesting ≡ 0 → l.seat.me.1 ≡ (ow
 out l nothing = spare_out l.seat.me (own_spare l.seat.me.0 l.spare) (none_leased l nothing) l.has_spare.2
 
 pub leave-requires-clause-table : goal.leave-requires-clause-table
-leave-requires-clause-table g c = let l = c.args.self in let d = c.args.domain.now in let same : l.seat.me.0.sizes ≡ d.sizes = ap (λ (t : TableId × Sizes). t.1) c.requires.home ∙ sym d.sized.0 in
-    (ap (λ (t : TableId × Sizes). t.0) c.requires.home ∙ sym c.words.ensures.0, ap (λ (k : Plan). k.sizes) c.words.ensures.1 ∙ sym d.sized.0, same, d.sized.1, subst (λ (t : TableId). all_words d.sizes ≤ t.words) (sym c.words.ensures.0) d.sized.2, subst (λ (z : Sizes). l.number < z.participants) same l.fills.2)
+leave-requires-clause-table g c = let l = c.args.self in let w = c.place-place.ensures.sized in let same : l.seat.me.0.sizes ≡ c.place-place.result.sizes.now = ap (λ (t : TableId × Sizes). t.1) c.requires.home ∙ (sym c.args.domain.now.sized.0 ∙ sym c.place-place.ensures.sizes) in
+    (ap (λ (t : TableId × Sizes). t.0) c.requires.home ∙ sym c.place-place.ensures.table, w.0, same, w.1, w.2, subst (λ (z : Sizes). l.number < z.participants) same l.fills.2)
 
 pub leave-requires-clause-rests : goal.leave-requires-clause-rests
 leave-requires-clause-rests g c = let l = c.args.self in let none = c.requires.closed in (
@@ -34,7 +32,7 @@ leave-requires-clause-rests g c = let l = c.args.self in let none = c.requires.c
 )
 
 pub leave-requires-clause-waits : goal.leave-requires-clause-waits
-leave-requires-clause-waits g c = let l = c.args.self in let same = ap (λ (t : TableId × Sizes). t.1) c.requires.home ∙ sym c.args.domain.now.sized.0 in (subst (λ (z : Sizes). WaitsIn z.slots l.seat.me.0.waits l.bags) same l.waits.0, l.waits.1)
+leave-requires-clause-waits g c = let l = c.args.self in let same = ap (λ (t : TableId × Sizes). t.1) c.requires.home ∙ (sym c.args.domain.now.sized.0 ∙ sym c.place-place.ensures.sizes) in (subst (λ (z : Sizes). WaitsIn z.slots l.seat.me.0.waits l.bags) same l.waits.0, l.waits.1)
 
 pub end-requires-clause-rests : goal.end-requires-clause-rests
 end-requires-clause-rests g c = let l = c.args.self in let e = c.leave.ensures.2 in let none = c.requires.closed in (

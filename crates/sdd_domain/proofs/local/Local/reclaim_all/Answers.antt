@@ -7,7 +7,7 @@ use Rattle.sdd_homes.specs.declared.Garbage.{Garbage}
 use Rattle.sdd_homes.specs.declared.Lease.{Lease}
 use Rattle.sdd_steps.specs.declared.participant.Phase.TheVariants.{Idle, Opened}
 use Rattle.domain_table.specs.Contents.{IsIn, blanks}
-use Rattle.domain_table.specs.Layout.{claim_word, all_words}
+use Rattle.domain_table.specs.Layout.{claim_word}
 use Rattle.domain_table.specs.Leases.{life_number, row_told, lease_told, leased_homes, row_slots, all_below}
 use Rattle.domain_table.specs.Ledgers.{WaitsIn}
 use Rattle.domain_table.specs.Owners.{told}
@@ -15,7 +15,6 @@ use Rattle.domain_table.specs.Plays.{own_spare, ending, Refilled}
 use Rattle.domain_table.specs.Views.{publishing, closing}
 use Rattle.domain_table.specs.declared.board.Acting.{Acting}
 use Rattle.domain_table.specs.declared.board.Home.{Home}
-use Rattle.domain_table.specs.declared.board.Plan.{Plan}
 use Rattle.sdd_domain.specs.declared.local.Local.{Local}
 use Rattle.sdd_domain.proofs.Bagged.{are_out, spare_out}
 use Rattle.sdd_domain.proofs.Nested.{none_leased}
@@ -36,8 +35,8 @@ module _ {T : Type 0} (l : Local T) (shut : l.own.nesting ≡ 0) (m1 : Me (Home 
   out = spare_out l.seat.me (own_spare d l.spare) (none_leased l shut) l.has_spare.2
 
 pub open_and_reclaim-epoch-requires-clause-table : goal.open_and_reclaim-epoch-requires-clause-table
-open_and_reclaim-epoch-requires-clause-table g c = let l = c.args.self.now in let d = c.args.domain.now in let same : l.seat.me.0.sizes ≡ d.sizes = ap (λ (t : TableId × Sizes). t.1) c.requires.home ∙ sym d.sized.0 in
-    (ap (λ (t : TableId × Sizes). t.0) c.requires.home ∙ sym c.words.ensures.0, ap (λ (k : Plan). k.sizes) c.words.ensures.1 ∙ sym d.sized.0, same, d.sized.1, subst (λ (t : TableId). all_words d.sizes ≤ t.words) (sym c.words.ensures.0) d.sized.2, subst (λ (z : Sizes). l.number < z.participants) same l.fills.2)
+open_and_reclaim-epoch-requires-clause-table g c = let l = c.args.self.now in let w = c.place-place.ensures.sized in let same : l.seat.me.0.sizes ≡ c.place-place.result.sizes.now = ap (λ (t : TableId × Sizes). t.1) c.requires.home ∙ (sym c.args.domain.now.sized.0 ∙ sym c.place-place.ensures.sizes) in
+    (ap (λ (t : TableId × Sizes). t.0) c.requires.home ∙ sym c.place-place.ensures.table, w.0, same, w.1, w.2, subst (λ (z : Sizes). l.number < z.participants) same l.fills.2)
 
 pub open_and_reclaim-epoch-requires-clause-shut : goal.open_and_reclaim-epoch-requires-clause-shut
 open_and_reclaim-epoch-requires-clause-shut g c = let l = c.args.self.now in (l.acts.0, l.acts.1, l.phase ∙ ap (λ n. cond (n == 0) Idle (Opened l.own.previous)) c.requires.closed, l.acts.2)
@@ -46,7 +45,7 @@ pub open_and_reclaim-epoch-requires-clause-rest : goal.open_and_reclaim-epoch-re
 open_and_reclaim-epoch-requires-clause-rest g c = let l = c.args.self.now in (l.acts.5, none_leased l c.requires.closed, l.fills.0)
 
 pub open_and_reclaim-epoch-requires-clause-waits : goal.open_and_reclaim-epoch-requires-clause-waits
-open_and_reclaim-epoch-requires-clause-waits g c = let l = c.args.self.now in let same = ap (λ (t : TableId × Sizes). t.1) c.requires.home ∙ sym c.args.domain.now.sized.0 in (subst (λ (z : Sizes). WaitsIn z.slots l.seat.me.0.waits l.bags) same l.waits.0, l.waits.1)
+open_and_reclaim-epoch-requires-clause-waits g c = let l = c.args.self.now in let same = ap (λ (t : TableId × Sizes). t.1) c.requires.home ∙ (sym c.args.domain.now.sized.0 ∙ sym c.place-place.ensures.sizes) in (subst (λ (z : Sizes). WaitsIn z.slots l.seat.me.0.waits l.bags) same l.waits.0, l.waits.1)
 
 pub close-requires-clause-open : goal.close-requires-clause-open
 close-requires-clause-open g c = let l = c.args.self.now in let is = c.open_and_reclaim-epoch.ensures.reclaimed.3 in
@@ -59,7 +58,7 @@ close-requires-clause-filled g c = let l = c.args.self.now in let o = c.open_and
 pub invariant_of-self : goal.invariant_of-self
 invariant_of-self g c = let l = c.args.self.now in let d = l.seat.me.0 in let shut = c.requires.closed in let o = c.open_and_reclaim-epoch.ensures in let r = o.reclaimed in let m1 = c.open_and_reclaim-epoch.new.seat.me in let m3 = c.close.new.seat.me in
     let whole = all l shut m1 c.open_and_reclaim-epoch.result r.0 r.1 r.2 r.3 m3 c.close.ensures.closed in let is = ap (λ (z : Me _ Acting). z.0) whole in let none3 : m3.0.leases ≡ [] = ap (λ (z : Acting). z.leases) is in let before = none_leased l shut in
-    let table = c.close.ensures.seat.0 ∙ o.seat.0 in let sizes : m3.0.sizes ≡ d.sizes = ap (λ (z : Acting). z.sizes) is in let home : d.sizes ≡ c.args.domain.now.sizes = ap (λ (t : TableId × Sizes). t.1) c.requires.home ∙ sym c.args.domain.now.sized.0 in
+    let table = c.close.ensures.seat.0 ∙ o.seat.0 in let sizes : m3.0.sizes ≡ d.sizes = ap (λ (z : Acting). z.sizes) is in let home : d.sizes ≡ c.place-place.result.sizes.now = ap (λ (t : TableId × Sizes). t.1) c.requires.home ∙ (sym c.args.domain.now.sized.0 ∙ sym c.place-place.ensures.sizes) in
     let waits : m3.0.waits ≡ m1.0.waits = ap (λ (z : Acting). z.waits) is ∙ sym (ap (λ (z : Me _ Acting). z.0.waits) r.3) in let bags = c.open_and_reclaim-epoch.new.bags in record {
       acts = (
         ap (λ (z : Acting). z.kind) is ∙ l.acts.0,
@@ -85,7 +84,7 @@ invariant_of-self g c = let l = c.args.self.now in let d = l.seat.me.0 in let sh
       found = ap (λ (z : Acting). z.known.found) is ∙ sym o.own.1;
       noted = o.own.0 ∙ sym o.own.1;
       fills = (ap (λ (z : Acting). z.filling) is ∙ l.fills.0, l.fills.1, subst (λ (z : Sizes). l.number < z.participants) (sym sizes) l.fills.2);
-      waits = (subst (λ (z : Sizes). WaitsIn z.slots m3.0.waits bags) (sym (sizes ∙ home)) (subst (λ (us : List Garbage). WaitsIn c.args.domain.now.sizes.slots us bags) (sym waits) o.waits.0), o.waits.1);
+      waits = (subst (λ (z : Sizes). WaitsIn z.slots m3.0.waits bags) (sym (sizes ∙ home)) (subst (λ (us : List Garbage). WaitsIn c.place-place.result.sizes.now.slots us bags) (sym waits) o.waits.0), o.waits.1);
     }
 
 pub returns-clause-same : goal.returns-clause-same

@@ -17,8 +17,8 @@ use Rattle.sdd_domain.proofs.private_collector.PrivateCollector.hand_over.Goals 
 pub invariant_of-local : goal.invariant_of-local
 invariant_of-local g c = let l = c.args.local.now in let d = l.seat.me.0 in let ws0 = bag_in c.args.self.calm.badge.views in let m2 = c.hand_all.new.seat.me in let h = c.hand_all.ensures.handed in let bags = c.hand_all.new.bags in
     let is : m2 ≡ (record d { collected = []; waits = h.0 }, l.seat.me.1) = h.2 ∙ ap (λ (z : Me _ Acting). (record z.0 { collected = []; waits = h.0 }, z.1)) (c.take_bag.ensures.taken ws0 c.args.self.at) in
-    let sizes : m2.0.sizes ≡ c.args.domain.now.sizes = ap (λ (z : Me _ Acting). z.0.sizes) is ∙ (ap (λ (t : TableId × Sizes). t.1) c.requires.home ∙ sym c.args.domain.now.sized.0) in
-    let own = c.flag_waiting.ensures c.args.domain.now.sizes.slots m2.0.waits c.hand_all.ensures.waits in let table = c.hand_all.ensures.seat.0 ∙ c.take_bag.ensures.seat.0 in record {
+    let sizes : m2.0.sizes ≡ c.place-place.result.sizes.now = ap (λ (z : Me _ Acting). z.0.sizes) is ∙ (ap (λ (t : TableId × Sizes). t.1) c.requires.home ∙ (sym c.args.domain.now.sized.0 ∙ sym c.place-place.ensures.sizes)) in
+    let own = c.flag_waiting.ensures c.place-place.result.sizes.now.slots m2.0.waits c.hand_all.ensures.waits in let table = c.hand_all.ensures.seat.0 ∙ c.take_bag.ensures.seat.0 in record {
       acts = (
         ap (λ (z : Me _ Acting). z.0.kind) is ∙ l.acts.0,
         ap (λ (z : Me _ Acting). z.0.number) is ∙ l.acts.1,

@@ -23,7 +23,7 @@ invariant_of-local g c = let l = c.args.local.now in let d = l.seat.me.0 in let 
     let e : m2.0 ≡ record d { known = record d.known { loaded = made.0 }; leases = made.1 } = ap (λ (z : Me _ Acting). z.0) back
     ∙ (ap others_in made.2 ∙ ap (λ (z : Me _ Acting). others_in (record z.0 { known = record z.0.known { loaded = made.0 }; leases = made.1 })) in_hand) in
     let table = c.part_with-calm.ensures.seat.0 ∙ (c.lease_own-at.ensures.seat.0 ∙ c.take_in.ensures.seat.0) in let sizes : m2.0.sizes ≡ d.sizes = ap (λ (z : Acting). z.sizes) e in
-    let home : d.sizes ≡ c.args.domain.now.sizes = ap (λ (t : TableId × Sizes). t.1) c.requires.home ∙ sym c.args.domain.now.sized.0 in
+    let home : d.sizes ≡ c.place-place.result.sizes.now = ap (λ (t : TableId × Sizes). t.1) c.requires.home ∙ (sym c.args.domain.now.sized.0 ∙ sym c.place-place.ensures.sizes) in
     let out = c.lease_own-at.ensures.out (own_spare d l.spare) (subst (λ (z : Me _ Acting). has_all is_blank (own_spare d l.spare ∷ leased_homes z.0 z.0.leases) z.1 ≡ true) (sym in_hand) l.has_spare.2) in record {
       acts = (
         ap (λ (z : Acting). z.kind) e ∙ l.acts.0,

@@ -8,13 +8,12 @@ use Rattle.sdd_homes.specs.declared.Lease.{Lease}
 use Rattle.sdd_homes.specs.declared.Owner.{Owner}
 use Rattle.domain_table.specs.Ledgers.{WaitsIn}
 use Rattle.domain_table.specs.Contents.{is_blank}
-use Rattle.domain_table.specs.Layout.{claim_word, all_words}
+use Rattle.domain_table.specs.Layout.{claim_word}
 use Rattle.domain_table.specs.Leases.{life_number, lease_told, leased_homes, has_all, row_slots, all_below, HasReleased}
 use Rattle.domain_table.specs.Plays.{own_spare}
 use Rattle.domain_table.specs.Views.{holding}
 use Rattle.domain_table.specs.declared.board.Acting.{Acting}
 use Rattle.domain_table.specs.declared.board.Home.{Home}
-use Rattle.domain_table.specs.declared.board.Plan.{Plan}
 use Rattle.sdd_domain.specs.declared.local.Local.{Local}
 use Rattle.sdd_domain.specs.declared.shared.Shared.{Shared}
 use Rattle.sdd_domain.proofs.Handed.{owner, mine, first, told, same_slots}
@@ -46,8 +45,8 @@ module _ {T : Type 0} (l : Local T) (s : Shared T) (m1 : Me (Home T) Acting) (ta
 
 pub retire-requires-clause-table : goal.retire-requires-clause-table
 retire-requires-clause-table g c = let l = c.args.local.now in let s = c.args.self in let m1 = c.take_in.new.seat.me in let m2 = c.release-left.new.seat.me in let r = c.release-left.ensures.released in let none : c.release-left.result ≡ 0 = (let more = c.if-left-gt0.false in omega arith) in
-    let w = retired l s m1 c.take_in.ensures.taken c.release-left.result m2 r.0 r.1 r.2 none in let t = c.args.domain.now.sized in let known : l.seat.me.0.sizes ≡ c.args.domain.now.sizes = ap (λ (t : TableId × Sizes). t.1) c.requires.home ∙ sym t.0 in
-    ((c.release-left.ensures.seat.0 ∙ (c.take_in.ensures.seat.0 ∙ (ap (λ (t : TableId × Sizes). t.0) c.requires.home ∙ sym c.words-3.ensures.0)), ap (λ (k : Plan). k.sizes) c.words-3.ensures.1 ∙ sym t.0, ap (λ (z : Me _ Acting). z.0.sizes) w.3 ∙ known, t.1, subst (λ (t : TableId). all_words c.args.domain.now.sizes ≤ t.words) (sym c.words-3.ensures.0) t.2), c.release-left.ensures.low)
+    let w = retired l s m1 c.take_in.ensures.taken c.release-left.result m2 r.0 r.1 r.2 none in let t = c.place-place.ensures.sized in let known : l.seat.me.0.sizes ≡ c.place-place.result.sizes.now = ap (λ (t : TableId × Sizes). t.1) c.requires.home ∙ (sym c.args.domain.now.sized.0 ∙ sym c.place-place.ensures.sizes) in
+    ((c.release-left.ensures.seat.0 ∙ (c.take_in.ensures.seat.0 ∙ (ap (λ (t : TableId × Sizes). t.0) c.requires.home ∙ sym c.place-place.ensures.table)), t.0, ap (λ (z : Me _ Acting). z.0.sizes) w.3 ∙ known, t.1, t.2), c.release-left.ensures.low)
 
 pub retire-requires-clause-acts : goal.retire-requires-clause-acts
 retire-requires-clause-acts g c = let l = c.args.local.now in let s = c.args.self in let r = c.release-left.ensures.released in let none : c.release-left.result ≡ 0 = (let more = c.if-left-gt0.false in omega arith) in
@@ -55,7 +54,7 @@ retire-requires-clause-acts g c = let l = c.args.local.now in let s = c.args.sel
 
 pub retire-requires-clause-retired : goal.retire-requires-clause-retired
 retire-requires-clause-retired g c = let l = c.args.local.now in let s = c.args.self in let r = c.release-left.ensures.released in let none : c.release-left.result ≡ 0 = (let more = c.if-left-gt0.false in omega arith) in
-    let w = retired l s c.take_in.new.seat.me c.take_in.ensures.taken c.release-left.result c.release-left.new.seat.me r.0 r.1 r.2 none in let known : l.seat.me.0.sizes ≡ c.args.domain.now.sizes = ap (λ (t : TableId × Sizes). t.1) c.requires.home ∙ sym c.args.domain.now.sized.0 in
+    let w = retired l s c.take_in.new.seat.me c.take_in.ensures.taken c.release-left.result c.release-left.new.seat.me r.0 r.1 r.2 none in let known : l.seat.me.0.sizes ≡ c.place-place.result.sizes.now = ap (λ (t : TableId × Sizes). t.1) c.requires.home ∙ (sym c.args.domain.now.sized.0 ∙ sym c.place-place.ensures.sizes) in
     (w.0, l.seat.me.0.waits, ap (λ (z : Me _ Acting). z.0.waits) w.3, w.1, w.2, subst (λ (z : Sizes). WaitsIn z.slots l.seat.me.0.waits l.bags) known l.waits.0)
 
 pub invariant_of-local : goal.invariant_of-local
@@ -108,5 +107,5 @@ invariant_of-local-2 g c = let l = c.args.local.now in let d = l.seat.me.0 in le
       found = ap (λ (z : Me _ Acting). z.0.known.found) all ∙ l.found;
       noted = l.noted;
       fills = (ap (λ (z : Me _ Acting). z.0.filling) all ∙ l.fills.0, l.fills.1, subst (λ (z : Me _ Acting). l.number < z.0.sizes.participants) (sym all) l.fills.2);
-      waits = (subst (λ (z : Me _ Acting). WaitsIn z.0.sizes.slots z.0.waits bags) (sym all) (subst (λ (z : Sizes). WaitsIn z.slots put.0 bags) (sym (ap (λ (t : TableId × Sizes). t.1) c.requires.home ∙ sym c.args.domain.now.sized.0)) put.2), c.retire.ensures.due.0 ∙ l.waits.1);
+      waits = (subst (λ (z : Me _ Acting). WaitsIn z.0.sizes.slots z.0.waits bags) (sym all) (subst (λ (z : Sizes). WaitsIn z.slots put.0 bags) (sym (ap (λ (t : TableId × Sizes). t.1) c.requires.home ∙ (sym c.args.domain.now.sized.0 ∙ sym c.place-place.ensures.sizes))) put.2), c.retire.ensures.due.0 ∙ l.waits.1);
     }
