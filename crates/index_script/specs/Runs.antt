@@ -1,5 +1,5 @@
 -- What a run reads and writes.
-use Rattle.std.specs.Prelude.{◌≡◌, ℕ, ◌⊎◌, Option, List, [], ◌∷◌, ◌++◌, take, Result, Ok, Err, codes}
+use Rattle.std.specs.Prelude.{◌≡◌, ℕ, ◌⊎◌, Option, List, [], ◌∷◌, ◌++◌, take, IsErrOf, OnOk, Result, Ok, Err, codes}
 use Rattle.std.specs.Io.KnownBytes.{Consumes, Appends, IsAtEnd}
 use Rattle.index_script.specs.declared.run.RunError.{RunError}
 use Rattle.index_script.specs.declared.run.RunError.TheVariants as errors
@@ -69,6 +69,13 @@ module _ (width : ℕ) where
     pub read : Consumes reader reader' input
     pub begins : Begins input lines rest
     pub answered : Answered old lines writer writer' new
+
+  -- how a run ends, by its answer
+  pub record Ends (old : Script) (result : Result (Unit {0}) RunError) (reader reader' writer writer' : Option (List ℕ)) : Type 0 where
+    pub done : OnOk result (RunsToEnd old reader reader' writer writer')
+    pub read : IsErrOf result errors.Read → StopsReading old reader reader' writer writer'
+    pub write : IsErrOf result errors.Write → StopsWriting old reader reader' writer writer'
+    pub memory : IsErrOf result errors.Memory → StopsForMemory old reader reader' writer writer'
 
 -- the status of the program
 abbrev pub status_of : Result (Unit {0}) RunError → ℕ

@@ -5,7 +5,7 @@ ghost use Rattle.std.specs.Io.KnownBytes.{Appends};
 ghost use Rattle.version_views.specs.Sizes.{IsStoreSized};
 ghost use Rattle.index_script.specs.Lines.{kept};
 ghost use Rattle.index_script.specs.Script.{fresh_script};
-ghost use Rattle.index_script.specs.Runs.{RunsToEnd, StopsReading, StopsWriting, StopsForMemory, status_of, complaint_of};
+ghost use Rattle.index_script.specs.Runs.{Ends, status_of, complaint_of};
 ghost use Rattle.index_script.specs.Inside.{Answers, AnswersBegun, FaltersBegun, FaltersKept, Finishes, Feeds, FeedBreaks, FeedStops};
 
 use crate::line::{Begun, split_line};
@@ -53,10 +53,7 @@ pub fn run<const S: usize, R: Read, W: Write>(
     slots: usize,
 ) -> Result<(), RunError>
     requires { IsStoreSized places slots S }
-    ensures done { OnOk result (RunsToEnd S (fresh_script places slots) (R.remaining reader.old) (R.remaining reader.new) (W.contents writer.old) (W.contents writer.new)) }
-    ensures read { IsErrOf result RunError.Read → StopsReading S (fresh_script places slots) (R.remaining reader.old) (R.remaining reader.new) (W.contents writer.old) (W.contents writer.new) }
-    ensures write { IsErrOf result RunError.Write → StopsWriting S (fresh_script places slots) (R.remaining reader.old) (R.remaining reader.new) (W.contents writer.old) (W.contents writer.new) }
-    ensures memory { IsErrOf result RunError.Memory → StopsForMemory S (fresh_script places slots) (R.remaining reader.old) (R.remaining reader.new) (W.contents writer.old) (W.contents writer.new) }
+    ensures { Ends S (fresh_script places slots) result (R.remaining reader.old) (R.remaining reader.new) (W.contents writer.old) (W.contents writer.new) }
 {
     let Ok(mut script) = Script::<S>::new(alloc, places, slots) else {
         return Err(RunError::Memory);
@@ -74,10 +71,7 @@ fn serve<const S: usize, R: Read, W: Write>(
     writer: &mut W,
 ) -> Result<(), RunError>
     requires { script.old.line ≡ 0 }
-    ensures done { OnOk result (RunsToEnd S script.old (R.remaining reader.old) (R.remaining reader.new) (W.contents writer.old) (W.contents writer.new)) }
-    ensures read { IsErrOf result RunError.Read → StopsReading S script.old (R.remaining reader.old) (R.remaining reader.new) (W.contents writer.old) (W.contents writer.new) }
-    ensures write { IsErrOf result RunError.Write → StopsWriting S script.old (R.remaining reader.old) (R.remaining reader.new) (W.contents writer.old) (W.contents writer.new) }
-    ensures memory { IsErrOf result RunError.Memory → StopsForMemory S script.old (R.remaining reader.old) (R.remaining reader.new) (W.contents writer.old) (W.contents writer.new) }
+    ensures { Ends S script.old result (R.remaining reader.old) (R.remaining reader.new) (W.contents writer.old) (W.contents writer.new) }
 {
     let mut begun = Begun::new(alloc);
     let Ok(mut reply) = String::with_capacity(alloc, LONGEST_FAULT) else {

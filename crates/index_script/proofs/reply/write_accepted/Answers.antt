@@ -1,4 +1,4 @@
-use Rattle.std.proofs.Common.{◌++◌, ap, ◌∙◌, decimal, lit<, arith}
+use Rattle.std.proofs.Common.{◌++◌, append_assoc, ap, ◌∙◌, decimal, lit<, arith}
 use Rattle.std.proofs.lemmas.List.{take_all}
 use Rattle.std.specs.Prelude.{codes}
 use Rattle.std.specs.String.{string_bytes}
@@ -15,4 +15,9 @@ pub returns : goal.returns
 returns c =
     let all = take_all c.loop-reply.reply-index c.deref-reply-items.result.now (omega (arith, c.loop-reply-test.false)) ∙ c.deref-reply-items.ensures.value in
     let told = c.loop-reply.invariant ∙ ap (λ rs. (string_bytes c.args.text.now ++ codes "ok " ++ decimal c.args.accepted.now.number) ++ told_texts rs) all in
-    c.in_ok-push.ensures.bytes ∙ ap (λ e. string_bytes c.loop-reply.text ++ e) (c.in_ok-push.ensures.ascii (lit< tt)) ∙ ap (λ t. t ++ codes "\n") told
+    let before = string_bytes c.args.text.now in
+    let number = decimal c.args.accepted.now.number in
+    let replies = told_texts c.args.accepted.now.replies.items in
+    let ok = codes "ok " in
+    let flat = ap (λ e. e ++ replies ++ codes "\n") (append_assoc before ok number) ∙ ap (λ e. e ++ codes "\n") (append_assoc before (ok ++ number) replies) ∙ append_assoc before (ok ++ number ++ replies) (codes "\n") in
+    c.in_ok-push.ensures.bytes ∙ ap (λ e. string_bytes c.loop-reply.text ++ e) (c.in_ok-push.ensures.ascii (lit< tt)) ∙ ap (λ t. t ++ codes "\n") told ∙ flat
