@@ -1,269 +1,210 @@
-//! Steps of cells that keep an owner.
+//! Steps by which there is a cell, and those of cells that keep an owner.
 
-ghost use Rattle.sdd_table.specs.Place.{IsSharedCell};
-ghost use Rattle.sdd_world.specs.Tokens.{shared_cell};
+ghost use Rattle.sdd_table.specs.Place.{IsOwnedCell, IsSharedCell};
+ghost use Rattle.sdd_world.specs.Tokens.{owned_cell, shared_cell};
 
-use crate::stage::{Stage, Thing, told, value};
+use crate::owners::made;
+use crate::raw::pointer;
+use crate::stage::{Stage, Thing, maybe, told, value};
 use crate::steps::{Found, G, Step};
-use sdd_world::{AtomicShared, Deferred, Link, Owned, Ptr, Shared, Tag, world};
+use sdd_world::{AtomicOwned, AtomicShared, Deferred, Link, NoSlot, Ptr, RawPtr, Tag, world};
 use std::process::Abort;
 
-/// A thing that may be there.
-fn owned_thing(owner: Option<Owned<u64>>) -> Thing {
-    match owner {
-        Some(owner) => Thing::Owned(owner),
-        None => Thing::Nothing,
-    }
-}
-
-fn shared_thing(owner: Option<Shared<u64>>) -> Thing {
-    match owner {
-        Some(owner) => Thing::Shared(owner),
-        None => Thing::Nothing,
+/// A thing, or that no slot or cell is free for it.
+fn free(made: Result<Thing, NoSlot>) -> (Thing, Found) {
+    match made {
+        Ok(thing) => (thing, Found::Done),
+        Err(NoSlot) => (Thing::Nothing, Found::NoSlot),
     }
 }
 
 impl<'r, R: Abort, J: Deferred> Stage<'r, R, J> {
     /// A step by which there is a new cell, or none.
-    pub(crate) fn of_new_cells(&mut self, step: Step) -> Found {
-        let (at, (thing, found)) = match step {
-            Step::OwnedCell(at, value) => match world::atomic_owned::new(&mut self.w, value) {
-                Ok(cell) => (at, (Thing::OwnedCell(cell), Found::Done)),
-                Err(value) => (at, (Thing::Nothing, Found::Back(value))),
-            },
-            Step::NullOwnedCell(at) => match world::atomic_owned::null(&mut self.w) {
-                Ok(cell) => (at, (Thing::OwnedCell(cell), Found::Done)),
-                Err(_) => (at, (Thing::Nothing, Found::NoSlot)),
-            },
-            Step::SharedCell(at, value) => match world::atomic_shared::new(&mut self.w, value) {
-                Ok(cell) => (at, (Thing::SharedCell(cell), Found::Done)),
-                Err(value) => (at, (Thing::Nothing, Found::Back(value))),
-            },
-            Step::NullSharedCell(at) => match world::atomic_shared::null(&mut self.w) {
-                Ok(cell) => (at, (Thing::SharedCell(cell), Found::Done)),
-                Err(_) => (at, (Thing::Nothing, Found::NoSlot)),
-            },
-            Step::Link(at, value) => (at, self.link(value)),
-            Step::LinkNull(at) => (at, self.link_null()),
-            _ => return self.of_owned_cells(step),
-        };
-        self.put(at, thing);
-        found
-    }
-
-    fn link(&mut self, new: u64) -> (Thing, Found) {
-        match world::atomic_shared::new(&mut self.w, new) {
-            Ok(cell) => {
-                let link = Link::of(&cell);
-                let named = world::atomic_shared::as_ref(&self.w, link.cell()).copied();
-                (Thing::SharedCell(cell), value(named))
+    pub(crate) fn make_cells(&mut self, step: Step) -> (Thing, Found) {
+        let w = &mut self.w;
+        match step {
+            Step::OwnedCell(value) => made(world::atomic_owned::new(w, value).map(
+                Thing::OwnedCell,
+            )),
+            Step::NullOwnedCell => free(world::atomic_owned::null(w).map(Thing::OwnedCell)),
+            Step::SharedCell(value) => {
+                made(world::atomic_shared::new(w, value).map(Thing::SharedCell))
             }
-            Err(new) => (Thing::Nothing, Found::Back(new)),
+            Step::NullSharedCell => free(world::atomic_shared::null(w).map(Thing::SharedCell)),
+            Step::NullRawCell => free(world::atomic_raw::null(w).map(Thing::RawCell)),
+            Step::RawCell => free(world::atomic_raw::new(w, RawPtr::null()).map(Thing::RawCell)),
+            Step::IsOut(point) => {
+                let guard = self.guard(G);
+                let raw = pointer(self.raw, point);
+                let seen = world::raw_ptr::into_ptr(&self.w, raw, &guard).is_some();
+                self.put(G, Thing::Guard(guard));
+                (Thing::Nothing, told(seen))
+            }
+            Step::Link(_) | Step::LinkNull => self.link(step),
+            _ => self.step_of_all(step),
         }
     }
 
-    fn link_null(&mut self) -> (Thing, Found) {
-        match world::atomic_shared::null(&mut self.w) {
-            Ok(cell) => {
-                let link = Link::of(&cell);
-                let named = world::atomic_shared::as_ref(&self.w, link.cell()).copied();
-                (Thing::SharedCell(cell), value(named))
-            }
-            Err(_) => (Thing::Nothing, Found::NoSlot),
+    /// A new cell, and what a link to it names.
+    fn link(&mut self, step: Step) -> (Thing, Found) {
+        let w = &mut self.w;
+        match step {
+            Step::Link(new) => match world::atomic_shared::new(w, new) {
+                Ok(cell) => {
+                    let named = world::atomic_shared::as_ref(w, Link::of(&cell).cell()).copied();
+                    (Thing::SharedCell(cell), value(named))
+                }
+                Err(new) => (Thing::Nothing, Found::Back(new)),
+            },
+            _ => match world::atomic_shared::null(w) {
+                Ok(cell) => {
+                    let named = world::atomic_shared::as_ref(w, Link::of(&cell).cell()).copied();
+                    (Thing::SharedCell(cell), value(named))
+                }
+                Err(_) => (Thing::Nothing, Found::NoSlot),
+            },
         }
     }
 
     /// A step with a cell that keeps the one owner of an item.
-    fn of_owned_cells(&mut self, step: Step) -> Found {
-        let at = match step {
-            Step::IsNullOwned(at)
-            | Step::TagOfOwned(at)
-            | Step::TagIfMarked(at, _)
-            | Step::TagIfFull(at, _) => at,
-            Step::SwapOwned(at, owner, tag) => return self.swap_owned(at, owner, tag),
-            Step::LoadOwned(at, to) => return self.load_owned(at, to),
-            Step::TakeOwned(at, to, seen) => return self.take_owned(at, to, seen, false),
-            Step::TakeOwnedWeakly(at, to, seen) => return self.take_owned(at, to, seen, true),
-            _ => return self.of_shared_cells(step),
-        };
-        let cell = self.owned_cell(at);
+    pub(crate) fn with_owned_cell(&mut self, cell: AtomicOwned<u64>, step: Step) -> (Thing, Found)
+        requires { IsOwnedCell self.old.w (owned_cell cell) }
+    {
+        let rt = self.rt;
         let found = match step {
-            Step::IsNullOwned(_) => told(world::atomic_owned::is_null(&self.w, &cell)),
-            Step::TagOfOwned(_) => Found::Tagged(world::atomic_owned::tag(&self.w, &cell)),
-            Step::TagIfMarked(_, tag) => {
+            Step::IsNull => told(world::atomic_owned::is_null(&self.w, &cell)),
+            Step::TagOf => Found::Tagged(world::atomic_owned::tag(&self.w, &cell)),
+            Step::TagIfMarked(tag) => {
                 let marked = |seen: Ptr<'_, u64>| seen.tag() == Tag::First;
                 told(world::atomic_owned::update_tag_if(&mut self.w, &cell, tag, marked))
             }
-            Step::TagIfFull(_, tag) => {
+            Step::TagIfFull(tag) => {
                 let full = |seen: Ptr<'_, u64>| !seen.is_null();
                 told(world::atomic_owned::update_tag_if(&mut self.w, &cell, tag, full))
             }
-            _ => Found::Nothing,
-        };
-        self.put(at, Thing::OwnedCell(cell));
-        found
-    }
-
-    fn swap_owned(&mut self, at: usize, owner: usize, tag: Tag) -> Found {
-        let rt = self.rt;
-        let new = match self.take(owner) {
-            Thing::Owned(owner) => Some(owner),
-            Thing::Nothing => None,
-            _ => panic!(rt; "an owner is there, or nothing"),
-        };
-        let cell = self.owned_cell(at);
-        let (old, was) = world::atomic_owned::swap(&mut self.w, &cell, (new, tag));
-        self.put(at, Thing::OwnedCell(cell));
-        self.put(owner, owned_thing(old));
-        Found::Tagged(was)
-    }
-
-    fn load_owned(&mut self, at: usize, to: usize) -> Found {
-        let guard = self.guard(G);
-        let cell = self.owned_cell(at);
-        let seen = world::atomic_owned::load(&self.w, &cell, &guard);
-        self.put(G, Thing::Guard(guard));
-        self.put(at, Thing::OwnedCell(cell));
-        self.put(to, Thing::Seen(seen));
-        Found::Done
-    }
-
-    /// Exchanges what is seen in a cell for nothing: whether that was there.
-    fn take_owned(&mut self, at: usize, to: usize, seen: usize, weak: bool) -> Found {
-        let rt = self.rt;
-        let current = match self.take(seen) {
-            Thing::Seen(current) => current,
-            _ => panic!(rt; "something is seen"),
-        };
-        let guard = self.guard(G);
-        let cell = self.owned_cell(at);
-        let nothing = (None, Tag::Both);
-        let w = &mut self.w;
-        let exchanged = if weak {
-            world::atomic_owned::compare_exchange_weak(w, &cell, current, nothing, &guard)
-        } else {
-            world::atomic_owned::compare_exchange(w, &cell, current, nothing, &guard)
-        };
-        let (taken, was) = match exchanged {
-            Ok((taken, _)) => (taken, true),
-            Err((back, _)) => (back, false),
-        };
-        self.put(G, Thing::Guard(guard));
-        self.put(at, Thing::OwnedCell(cell));
-        self.put(to, owned_thing(taken));
-        told(was)
-    }
-
-    /// A step with a cell that keeps one of the owners of an item.
-    fn of_shared_cells(&mut self, step: Step) -> Found {
-        let at = match step {
-            Step::IsNullShared(at)
-            | Step::TagOfShared(at)
-            | Step::TagSharedIfFull(at, _)
-            | Step::ClaimKept(at, _)
-            | Step::CloneCell(at, _) => at,
-            Step::IsAt(at, owner) => return self.is_at(at, owner),
-            Step::SwapShared(at, owner, tag) => return self.swap_shared(at, owner, tag),
-            Step::LoadShared(at, to) => return self.load_shared(at, to),
-            Step::TakeShared(at, to, seen) => return self.take_shared(at, to, seen, false),
-            Step::TakeSharedWeakly(at, to, seen) => return self.take_shared(at, to, seen, true),
-            _ => return self.of_raw(step),
-        };
-        let cell = self.shared_cell(at);
-        let found = match step {
-            Step::IsNullShared(_) => told(world::atomic_shared::is_null(&self.w, &cell)),
-            Step::TagOfShared(_) => Found::Tagged(world::atomic_shared::tag(&self.w, &cell)),
-            Step::TagSharedIfFull(_, tag) => {
-                let full = |seen: Ptr<'_, u64>| !seen.is_null();
-                told(world::atomic_shared::update_tag_if(&mut self.w, &cell, tag, full))
+            Step::Swap(at, tag) => {
+                let new = match self.take(at) {
+                    Thing::Owned(owner) => Some(owner),
+                    Thing::Nothing => None,
+                    _ => panic!(rt; "an owner is there, or nothing"),
+                };
+                let (old, was) = world::atomic_owned::swap(&mut self.w, &cell, (new, tag));
+                self.put(at, maybe(old.map(Thing::Owned)));
+                Found::Tagged(was)
             }
-            Step::CloneCell(_, to) => self.share_further(&cell, to, true),
-            Step::ClaimKept(_, to) => self.share_further(&cell, to, false),
-            _ => Found::Nothing,
+            _ => self.exchange_owned(&cell, step),
         };
-        self.put(at, Thing::SharedCell(cell));
-        found
+        (Thing::OwnedCell(cell), found)
     }
 
-    /// One more cell, or one more owner, of what a cell keeps.
-    fn share_further(&mut self, cell: &AtomicShared<u64>, to: usize, by_a_cell: bool) -> Found
-        requires { IsSharedCell self.old.w (shared_cell cell.now) }
+    /// What a cell keeps is seen under a guard, or exchanged for nothing where it is what is seen.
+    fn exchange_owned(&mut self, cell: &AtomicOwned<u64>, step: Step) -> Found
+        requires { IsOwnedCell self.old.w (owned_cell cell.now) }
     {
         let guard = self.guard(G);
-        let (thing, found) = if by_a_cell {
-            match world::atomic_shared::clone(&mut self.w, cell, &guard) {
-                Ok(copy) => (Thing::SharedCell(copy), Found::Done),
-                Err(_) => (Thing::Nothing, Found::NoSlot),
+        let w = &mut self.w;
+        let (to, thing, found) = match step {
+            Step::Load(to) => {
+                let seen = world::atomic_owned::load(w, cell, &guard);
+                (to, Thing::Seen(seen), Found::Done)
             }
-        } else {
-            match world::atomic_shared::get_shared(&mut self.w, cell, &guard) {
-                Some(owner) => (Thing::Shared(owner), Found::Done),
-                None => (Thing::Nothing, Found::No),
+            Step::Take(to, at) | Step::TakeWeakly(to, at) => {
+                let (current, nothing) = (self.seen(at), (None, Tag::Both));
+                let w = &mut self.w;
+                let exchanged = if let Step::Take(_, _) = step {
+                    world::atomic_owned::compare_exchange(w, cell, current, nothing, &guard)
+                } else {
+                    world::atomic_owned::compare_exchange_weak(w, cell, current, nothing, &guard)
+                };
+                let (taken, found) = match exchanged {
+                    Ok((taken, _)) => (taken, Found::Yes),
+                    Err((back, _)) => (back, Found::No),
+                };
+                (to, maybe(taken.map(Thing::Owned)), found)
             }
+            _ => (G, Thing::Nothing, Found::Nothing),
         };
         self.put(G, Thing::Guard(guard));
         self.put(to, thing);
         found
     }
 
-    /// Whether a cell keeps the item of an owner.
-    fn is_at(&mut self, at: usize, owner: usize) -> Found {
-        let shared = self.shared(owner);
-        let cell = self.shared_cell(at);
-        let kept = world::atomic_shared::kept_at(&self.w, &cell);
-        let owned = world::shared::owned_at(&shared);
-        self.put(at, Thing::SharedCell(cell));
-        self.put(owner, Thing::Shared(shared));
-        told(kept == owned)
-    }
-
-    fn swap_shared(&mut self, at: usize, owner: usize, tag: Tag) -> Found {
+    /// A step with a cell that keeps one of the owners of an item.
+    pub(crate) fn with_shared_cell(&mut self, cell: AtomicShared<u64>, step: Step) -> (Thing, Found)
+        requires { IsSharedCell self.old.w (shared_cell cell) }
+    {
         let rt = self.rt;
-        let new = match self.take(owner) {
-            Thing::Shared(owner) => Some(owner),
-            Thing::Nothing => None,
-            _ => panic!(rt; "an owner is there, or nothing"),
+        let found = match step {
+            Step::IsNull => told(world::atomic_shared::is_null(&self.w, &cell)),
+            Step::TagOf => Found::Tagged(world::atomic_shared::tag(&self.w, &cell)),
+            Step::TagIfFull(tag) => {
+                let full = |seen: Ptr<'_, u64>| !seen.is_null();
+                told(world::atomic_shared::update_tag_if(&mut self.w, &cell, tag, full))
+            }
+            Step::IsAt(owner) => {
+                let shared = self.take(owner);
+                let is_at = match &shared {
+                    Thing::Shared(shared) => {
+                        world::atomic_shared::kept_at(&self.w, &cell)
+                            == world::shared::owned_at(shared)
+                    }
+                    _ => panic!(rt; "an owner is there"),
+                };
+                self.put(owner, shared);
+                told(is_at)
+            }
+            Step::Swap(at, tag) => {
+                let new = match self.take(at) {
+                    Thing::Shared(owner) => Some(owner),
+                    Thing::Nothing => None,
+                    _ => panic!(rt; "an owner is there, or nothing"),
+                };
+                let (old, was) = world::atomic_shared::swap(&mut self.w, &cell, (new, tag));
+                self.put(at, maybe(old.map(Thing::Shared)));
+                Found::Tagged(was)
+            }
+            _ => self.exchange_shared(&cell, step),
         };
-        let cell = self.shared_cell(at);
-        let (old, was) = world::atomic_shared::swap(&mut self.w, &cell, (new, tag));
-        self.put(at, Thing::SharedCell(cell));
-        self.put(owner, shared_thing(old));
-        Found::Tagged(was)
+        (Thing::SharedCell(cell), found)
     }
 
-    fn load_shared(&mut self, at: usize, to: usize) -> Found {
+    /// What a cell keeps is seen under a guard, has one more cell or owner, or exchanged for nothing where it is what is seen.
+    fn exchange_shared(&mut self, cell: &AtomicShared<u64>, step: Step) -> Found
+        requires { IsSharedCell self.old.w (shared_cell cell.now) }
+    {
         let guard = self.guard(G);
-        let cell = self.shared_cell(at);
-        let seen = world::atomic_shared::load(&self.w, &cell, &guard);
-        self.put(G, Thing::Guard(guard));
-        self.put(at, Thing::SharedCell(cell));
-        self.put(to, Thing::Seen(seen));
-        Found::Done
-    }
-
-    /// Exchanges what is seen in a cell for nothing: whether that was there.
-    fn take_shared(&mut self, at: usize, to: usize, seen: usize, weak: bool) -> Found {
-        let rt = self.rt;
-        let current = match self.take(seen) {
-            Thing::Seen(current) => current,
-            _ => panic!(rt; "something is seen"),
-        };
-        let guard = self.guard(G);
-        let cell = self.shared_cell(at);
-        let nothing = (None, Tag::Both);
         let w = &mut self.w;
-        let exchanged = if weak {
-            world::atomic_shared::compare_exchange_weak(w, &cell, current, nothing, &guard)
-        } else {
-            world::atomic_shared::compare_exchange(w, &cell, current, nothing, &guard)
-        };
-        let (taken, was) = match exchanged {
-            Ok((taken, _)) => (taken, true),
-            Err((back, _)) => (back, false),
+        let (to, thing, found) = match step {
+            Step::Load(to) => {
+                let seen = world::atomic_shared::load(w, cell, &guard);
+                (to, Thing::Seen(seen), Found::Done)
+            }
+            Step::CloneCell(to) => match world::atomic_shared::clone(w, cell, &guard) {
+                Ok(copy) => (to, Thing::SharedCell(copy), Found::Done),
+                Err(_) => (to, Thing::Nothing, Found::NoSlot),
+            },
+            Step::ClaimKept(to) => match world::atomic_shared::get_shared(w, cell, &guard) {
+                Some(owner) => (to, Thing::Shared(owner), Found::Done),
+                None => (to, Thing::Nothing, Found::No),
+            },
+            Step::Take(to, at) | Step::TakeWeakly(to, at) => {
+                let (current, nothing) = (self.seen(at), (None, Tag::Both));
+                let w = &mut self.w;
+                let exchanged = if let Step::Take(_, _) = step {
+                    world::atomic_shared::compare_exchange(w, cell, current, nothing, &guard)
+                } else {
+                    world::atomic_shared::compare_exchange_weak(w, cell, current, nothing, &guard)
+                };
+                let (taken, found) = match exchanged {
+                    Ok((taken, _)) => (taken, Found::Yes),
+                    Err((back, _)) => (back, Found::No),
+                };
+                (to, maybe(taken.map(Thing::Shared)), found)
+            }
+            _ => (G, Thing::Nothing, Found::Nothing),
         };
         self.put(G, Thing::Guard(guard));
-        self.put(at, Thing::SharedCell(cell));
-        self.put(to, shared_thing(taken));
-        told(was)
+        self.put(to, thing);
+        found
     }
 }

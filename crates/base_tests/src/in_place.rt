@@ -4,155 +4,101 @@ use crate::play::plays;
 use crate::steps::Found::{Done, Guarded, Is, No, NotSole, Yes};
 use crate::steps::Part::Once;
 use crate::steps::Step::{
-    Clone, Close, DropOwned, DropShared, EndCell, IsGuarded, Open, Own, Pass, ReadOwned,
-    ReadShared, Release, Retire, Share, Slots, WriteCell, WriteOwned, WriteShared,
+    Clone, Close, Drop, EndCell, IsGuarded, Open, Own, Pass, Read, Release, Retire, Share, Slots,
+    Write, WriteCell,
 };
-use crate::steps::{A, B, G, Table};
+use crate::steps::{A, B, C, G, Table, W};
 use sdd_world::Job;
 
-const ONE_OF_TWO_OWNERS: Table = Table {
-    about: "one of two owners is given back",
-    sizes: [2, 1, 0, 0],
-    parts: &[Once(&[
-        (Share(A, 5), Done),
-        (Clone(A, B), Done),
-        (DropShared(A), No),
-        (Slots, Is(1)),
-        (DropShared(B), Yes),
-        (Slots, Is(0)),
-    ])],
-};
-
-const WAITS_ON: Table = Table {
-    about: "what waits waits on",
-    sizes: [2, 3, 0, 0],
-    parts: &[Once(&[
-        (Own(A, 5), Done),
-        (Retire(A, 0), Done),
-        (Own(B, 6), Done),
-        (DropOwned(B), Done),
-        (Slots, Is(1)),
-        (Pass(0, 3), Is(1)),
-        (Pass(0, 1), Is(0)),
-    ])],
-};
-
-const OWNED_UNDER_A_GUARD: Table = Table {
-    about: "no owned item is dropped under a guard",
-    sizes: [2, 1, 0, 0],
-    parts: &[Once(&[
-        (Open(G, 1), Done),
-        (Own(A, 5), Done),
-        (DropOwned(A), Guarded),
-        (ReadOwned(A), Is(5)),
-        (Retire(A, 0), Done),
-        (Close(G), Done),
-    ])],
-};
-
-const SHARED_UNDER_A_GUARD: Table = Table {
-    about: "no shared item is dropped under a guard",
-    sizes: [2, 1, 0, 0],
-    parts: &[Once(&[
-        (Open(G, 1), Done),
-        (Share(A, 6), Done),
-        (DropShared(A), Guarded),
-        (ReadShared(A), Is(6)),
-        (Release(A, 0), Yes),
-        (Close(G), Done),
-    ])],
-};
-
-const OWNED_IS_WRITTEN: Table = Table {
-    about: "an owned value is written",
-    sizes: [2, 1, 0, 0],
-    parts: &[Once(&[
-        (Own(A, 5), Done),
-        (WriteOwned(A, 7), Is(5)),
-        (ReadOwned(A), Is(7)),
-        (Retire(A, 0), Done),
-    ])],
-};
-
-const SHARED_IS_WRITTEN: Table = Table {
-    about: "a shared value is written by its one owner",
-    sizes: [2, 1, 0, 0],
-    parts: &[Once(&[
-        (Share(A, 5), Done),
-        (Clone(A, B), Done),
-        (WriteShared(A, 6), NotSole),
-        (Release(B, 0), No),
-        (WriteShared(A, 7), Is(5)),
-        (ReadShared(A), Is(7)),
-        (Release(A, 0), Yes),
-    ])],
-};
-
-const WRITTEN_BY_A_CELL: Table = Table {
-    about: "a value is written by the cell that owns it alone",
-    sizes: [2, 1, 1, 0],
-    parts: &[Once(&[
-        (IsGuarded, No),
-        (Share(A, 5), Done),
-        (WriteCell(A, 7), Is(5)),
-        (EndCell(A, 0), Done),
-    ])],
-};
-
-const CELL_BESIDE_OTHERS: Table = Table {
-    about: "no value is written by a cell beside other owners",
-    sizes: [2, 1, 1, 0],
-    parts: &[Once(&[
-        (Share(A, 5), Done),
-        (Clone(A, B), Done),
-        (WriteCell(B, 7), NotSole),
-        (ReadShared(A), Is(5)),
-        (Release(A, 0), No),
-        (EndCell(B, 0), Done),
-    ])],
-};
-
-const CELL_UNDER_A_GUARD: Table = Table {
-    about: "no value is written by a cell under a guard",
-    sizes: [2, 1, 1, 0],
-    parts: &[Once(&[
-        (Open(G, 0), Done),
-        (IsGuarded, Yes),
-        (Share(A, 5), Done),
-        (WriteCell(A, 7), Guarded),
-        (Close(G), Done),
-        (EndCell(A, 0), Done),
-    ])],
-};
-
-const NOTHING_UNDER_A_GUARD: Table = Table {
-    about: "nothing is written under a guard",
-    sizes: [2, 2, 0, 0],
-    parts: &[Once(&[
-        (Open(G, 1), Done),
-        (Own(A, 5), Done),
-        (Share(B, 6), Done),
-        (WriteOwned(A, 7), Guarded),
-        (WriteShared(B, 7), Guarded),
-        (ReadOwned(A), Is(5)),
-        (ReadShared(B), Is(6)),
-        (Retire(A, 0), Done),
-        (Release(B, 0), Yes),
-        (Close(G), Done),
-    ])],
-};
-
 const TABLES: &[Table] = &[
-    ONE_OF_TWO_OWNERS,
-    WAITS_ON,
-    OWNED_UNDER_A_GUARD,
-    SHARED_UNDER_A_GUARD,
-    OWNED_IS_WRITTEN,
-    SHARED_IS_WRITTEN,
-    WRITTEN_BY_A_CELL,
-    CELL_BESIDE_OTHERS,
-    CELL_UNDER_A_GUARD,
-    NOTHING_UNDER_A_GUARD,
+    Table {
+        about: "one of two owners is given back",
+        sizes: [2, 1, 0, 0],
+        parts: &[Once(&[
+            (A, Share(5), Done),
+            (A, Clone(B), Done),
+            (A, Drop, No),
+            (W, Slots, Is(1)),
+            (B, Drop, Yes),
+            (W, Slots, Is(0)),
+        ])],
+    },
+    Table {
+        about: "what waits waits on",
+        sizes: [2, 3, 0, 0],
+        parts: &[Once(&[
+            (A, Own(5), Done),
+            (A, Retire(0), Done),
+            (B, Own(6), Done),
+            (B, Drop, Done),
+            (W, Slots, Is(1)),
+            (W, Pass(0, 3), Is(1)),
+            (W, Pass(0, 1), Is(0)),
+        ])],
+    },
+    Table {
+        about: "an owned value is written",
+        sizes: [2, 1, 0, 0],
+        parts: &[Once(&[
+            (A, Own(5), Done),
+            (A, Write(7), Is(5)),
+            (A, Read, Is(7)),
+            (A, Retire(0), Done),
+        ])],
+    },
+    Table {
+        about: "a shared value is written by its one owner",
+        sizes: [2, 1, 0, 0],
+        parts: &[Once(&[
+            (A, Share(5), Done),
+            (A, Clone(B), Done),
+            (A, Write(6), NotSole),
+            (B, Release(0), No),
+            (A, Write(7), Is(5)),
+            (A, Read, Is(7)),
+            (A, Release(0), Yes),
+        ])],
+    },
+    Table {
+        about: "a value is written by a cell that is its one owner, and by none beside others",
+        sizes: [2, 2, 1, 0],
+        parts: &[Once(&[
+            (W, IsGuarded, No),
+            (A, Share(5), Done),
+            (A, WriteCell(7), Is(5)),
+            (A, EndCell(0), Done),
+            (A, Share(5), Done),
+            (A, Clone(B), Done),
+            (B, WriteCell(7), NotSole),
+            (A, Read, Is(5)),
+            (A, Release(0), No),
+            (B, EndCell(0), Done),
+        ])],
+    },
+    Table {
+        about: "nothing is written or dropped under a guard",
+        sizes: [2, 3, 1, 0],
+        parts: &[Once(&[
+            (G, Open(1), Done),
+            (W, IsGuarded, Yes),
+            (A, Own(5), Done),
+            (B, Share(6), Done),
+            (C, Share(8), Done),
+            (A, Write(7), Guarded),
+            (B, Write(7), Guarded),
+            (C, WriteCell(7), Guarded),
+            (A, Read, Is(5)),
+            (B, Read, Is(6)),
+            (A, Drop, Guarded),
+            (B, Drop, Guarded),
+            (A, Read, Is(5)),
+            (B, Read, Is(6)),
+            (A, Retire(0), Done),
+            (B, Release(0), Yes),
+            (C, EndCell(0), Done),
+            (G, Close, Done),
+        ])],
+    },
 ];
 
 #[test]

@@ -7,8 +7,9 @@ ghost use Rattle.sdd_world.specs.Tokens.{shared_slot};
 use crate::nested::Step::{Clone, Collect, Directory, Drop, Pass, Read, Release, Segment, Slots};
 use crate::stage::{count, told};
 use crate::steps::Found::{Done, Is, Yes};
-use crate::steps::{A, B, Found};
-use sdd_world::{Held, Holds, PrivateCollector, Shared, Sizes, World, world};
+use crate::steps::{A, B, Found, W};
+use crate::worlds::{close, pass, push, share, world_of};
+use sdd_world::{Held, Holds, PrivateCollector, Shared, World, world};
 use std::alloc::Global;
 use std::mem;
 use std::process::Abort;
@@ -30,10 +31,7 @@ impl Holds for Item {
 
     fn give_up(&mut self) -> Option<Held<Item>> {
         match self {
-            Item::Directory(segments) => match segments.pop() {
-                Some(segment) => Some(Held::Shared(segment)),
-                None => None,
-            },
+            Item::Directory(segments) => Some(Held::Shared(segments.pop()?)),
             Item::Segment(_) => None,
         }
     }
@@ -46,27 +44,27 @@ impl Holds for Item {
     }
 }
 
-/// What is done with items that may hold others. What a step makes or takes is at the first place that it names.
+/// What is done at a place for owners with items that may hold others.
 #[derive(Clone, Copy)]
 enum Step {
     /// A new segment.
-    Segment(usize, u64),
-    /// A new directory of the item that is at its place.
-    Directory(usize),
-    /// One more owner of the item at the first place, which is at the second.
-    Clone(usize, usize),
+    Segment(u64),
+    /// A new directory of the item that is at the place.
+    Directory,
+    /// One more owner of the item, which is at this place.
+    Clone(usize),
     /// The value of a segment.
-    Read(usize),
+    Read,
     /// Gives an owner back, drops it in place, or collects it under an accelerated guard: whether it was the last one.
-    Release(usize),
-    Drop(usize),
-    Collect(usize),
+    Release,
+    Drop,
+    Collect,
     /// Opens and closes this many accelerated guards, one by one: how many slots are in use then.
     Pass(usize),
     Slots,
 }
 
-type Row = (Step, Found);
+type Row = (usize, Step, Found);
 
 /// A place of items with one participant, a collector, and two places for owners.
 struct Nest<'r, R> {
@@ -81,15 +79,7 @@ struct Nest<'r, R> {
 impl<'r, R: Abort> Nest<'r, R> {
     /// A new place with four slots.
     fn new(rt: &'r R, alloc: Global) -> Self {
-        let sizes = Sizes {
-            participants: 1,
-            slots: 4,
-            cells: 0,
-            jobs: 0,
-        };
-        let Ok(w) = World::new(alloc, sizes) else {
-            panic!(rt; "memory is ample");
-        };
+        let w = world_of(rt, alloc, [1, 4, 0, 0]);
         let Ok(collector) = world::private_collector::new(alloc, &w) else {
             panic!(rt; "memory is ample");
         };
@@ -136,70 +126,43 @@ impl<'r, R: Abort> Nest<'r, R> {
         }
     }
 
-    /// Places an item, where a slot is free.
-    fn place(&mut self, at: usize, item: Item) -> Found {
+    fn step(&mut self, at: usize, step: Step) -> Found {
         let rt = self.rt;
-        match world::shared::new(&mut self.w, item) {
-            Ok(owner) => self.put(at, owner),
-            Err(_) => panic!(rt; "a slot is free"),
-        }
-    }
-
-    /// Opens and closes this many accelerated guards, one by one.
-    fn pass(&mut self, times: usize) -> Found {
-        let rt = self.rt;
-        for _ in 0..times {
-            if self.w.participants() == 0 {
-                panic!(rt; "there is a participant");
-            }
-            match world::guard::new(&mut self.w, 0) {
-                Ok(guard) => {
-                    world::guard::accelerate(&mut self.w, &guard);
-                    world::guard::close(&mut self.w, guard);
-                }
-                Err(_) => panic!(rt; "few guards are open"),
-            }
-        }
-        count(self.w.slots_in_use())
-    }
-
-    fn step(&mut self, step: Step) -> Found {
-        let rt = self.rt;
-        match step {
-            Segment(at, value) => self.place(at, Item::Segment(value)),
-            Directory(at) => {
+        let item = match step {
+            Segment(value) => Item::Segment(value),
+            Directory => {
                 let mut items = Vec::new(self.alloc);
-                match items.push(self.owner(at)) {
-                    Ok(()) => self.place(at, Item::Directory(items)),
-                    Err(_) => panic!(rt; "memory is ample"),
-                }
+                push(rt, &mut items, self.owner(at));
+                Item::Directory(items)
             }
-            Pass(times) => self.pass(times),
-            Slots => count(self.w.slots_in_use()),
-            Collect(at) => self.collect(at),
-            Clone(at, _) | Read(at) | Release(at) | Drop(at) => self.with_owner(at, step),
-        }
+            Pass(times) => return count(pass(rt, &mut self.w, 0, times)),
+            Slots => return count(self.w.slots_in_use()),
+            _ => return self.with_owner(at, step),
+        };
+        let owner = share(rt, &mut self.w, item);
+        self.put(at, owner)
     }
 
     /// A step with an owner.
     fn with_owner(&mut self, at: usize, step: Step) -> Found {
         let owner = self.owner(at);
         let (left, found) = match step {
-            Clone(_, to) => match world::shared::clone(&mut self.w, &owner) {
+            Clone(to) => match world::shared::clone(&mut self.w, &owner) {
                 Some(more) => (Some(owner), self.put(to, more)),
                 None => (Some(owner), Found::No),
             },
-            Read(_) => {
+            Read => {
                 let found = match world::shared::as_ref(&self.w, &owner) {
                     Item::Segment(value) => Is(*value),
                     Item::Directory(_) => Found::Nothing,
                 };
                 (Some(owner), found)
             }
-            Drop(_) => match world::shared::drop_in_place(&mut self.w, owner) {
+            Drop => match world::shared::drop_in_place(&mut self.w, owner) {
                 Ok(last) => (None, told(last)),
                 Err(owner) => (Some(owner), Found::Guarded),
             },
+            Collect => (None, self.collect(owner)),
             _ => (None, told(world::shared::release(&mut self.w, owner, 0))),
         };
         if let Some(owner) = left {
@@ -208,26 +171,22 @@ impl<'r, R: Abort> Nest<'r, R> {
         found
     }
 
-    fn collect(&mut self, at: usize) -> Found {
+    fn collect(&mut self, owner: Shared<Item>) -> Found
+        requires live { IsShared self.old.w (shared_slot owner) }
+        requires participant { 0 < length self.old.w.participants }
+    {
         let rt = self.rt;
-        if self.w.participants() == 0 {
-            panic!(rt; "there is a participant");
-        }
-        let Ok(guard) = world::guard::new(&mut self.w, 0) else {
+        let w = &mut self.w;
+        let Ok(guard) = world::guard::new(w, 0) else {
             panic!(rt; "few guards are open");
         };
-        let owner = self.owner(at);
-        if !world::guard::is_open(&self.w, &guard) {
-            panic!(rt; "the guard is open");
+        if !world::shared::is_here(w, &owner) || !world::guard::is_open(w, &guard) {
+            panic!(rt; "the item is there, and the guard is open");
         }
-        let last = world::private_collector::collect_shared(
-            &mut self.w,
-            &mut self.collector,
-            owner,
-            &guard,
-        );
-        world::guard::accelerate(&mut self.w, &guard);
-        world::guard::close(&mut self.w, guard);
+        let collector = &mut self.collector;
+        let last = world::private_collector::collect_shared(w, collector, owner, &guard);
+        world::guard::accelerate(w, &guard);
+        world::guard::close(w, guard);
         told(last)
     }
 
@@ -247,10 +206,7 @@ impl<'r, R: Abort> Nest<'r, R> {
             }
             _ => panic!(rt; "nothing is left"),
         }
-        match w.close() {
-            Ok(()) => {}
-            Err(_) => panic!(rt; "nothing is out"),
-        }
+        close(rt, w);
     }
 }
 
@@ -258,9 +214,8 @@ impl<'r, R: Abort> Nest<'r, R> {
 fn right<R: Abort>(rt: &R, alloc: Global, rows: &[Row]) -> usize {
     let mut nest = Nest::new(rt, alloc);
     let mut right = 0usize;
-    for at in 0..rows.len() {
-        let (step, wanted) = rows[at];
-        if nest.step(step) == wanted && right == at {
+    for (number, (at, step, wanted)) in rows.iter().enumerate() {
+        if nest.step(*at, *step) == *wanted && right == number {
             right = right.saturating_add(1);
         }
     }
@@ -268,61 +223,59 @@ fn right<R: Abort>(rt: &R, alloc: Global, rows: &[Row]) -> usize {
     right
 }
 
-/// An item is reclaimed before what it held.
-const BEFORE_WHAT_IT_HELD: &[Row] = &[
-    (Segment(A, 7), Done),
-    (Directory(A), Done),
-    (Release(A), Yes),
-    (Pass(1), Is(2)),
-    (Pass(1), Is(2)),
-    (Pass(1), Is(2)),
-    (Pass(1), Is(1)),
-    (Pass(1), Is(1)),
-    (Pass(1), Is(1)),
-    (Pass(1), Is(0)),
-];
-
-/// What only a dropped item held is dropped with it.
-const GOES_WITH_IT: &[Row] = &[
-    (Segment(A, 7), Done),
-    (Directory(A), Done),
-    (Directory(A), Done),
-    (Slots, Is(3)),
-    (Drop(A), Yes),
-    (Slots, Is(0)),
-];
-
-/// What has another owner stays.
-const STAYS: &[Row] = &[
-    (Segment(A, 7), Done),
-    (Clone(A, B), Done),
-    (Directory(A), Done),
-    (Drop(A), Yes),
-    (Read(B), Is(7)),
-    (Slots, Is(1)),
-    (Drop(B), Yes),
-];
-
-/// A collect reclaims what is overdue first. The directory has the other owner of its segment. It is overdue when the segment
-/// is collected, and reclaimed first, so the owner that is collected then is the last one.
-const OVERDUE_FIRST: &[Row] = &[
-    (Segment(A, 7), Done),
-    (Clone(A, B), Done),
-    (Directory(A), Done),
-    (Collect(A), Yes),
-    (Pass(2), Is(2)),
-    (Collect(B), Yes),
-    (Slots, Is(1)),
+const TABLES: &[&[Row]] = &[
+    // An item is reclaimed before what it held.
+    &[
+        (A, Segment(7), Done),
+        (A, Directory, Done),
+        (A, Release, Yes),
+        (W, Pass(1), Is(2)),
+        (W, Pass(1), Is(2)),
+        (W, Pass(1), Is(2)),
+        (W, Pass(1), Is(1)),
+        (W, Pass(1), Is(1)),
+        (W, Pass(1), Is(1)),
+        (W, Pass(1), Is(0)),
+    ],
+    // What only a dropped item held is dropped with it.
+    &[
+        (A, Segment(7), Done),
+        (A, Directory, Done),
+        (A, Directory, Done),
+        (W, Slots, Is(3)),
+        (A, Drop, Yes),
+        (W, Slots, Is(0)),
+    ],
+    // What has another owner stays.
+    &[
+        (A, Segment(7), Done),
+        (A, Clone(B), Done),
+        (A, Directory, Done),
+        (A, Drop, Yes),
+        (B, Read, Is(7)),
+        (W, Slots, Is(1)),
+        (B, Drop, Yes),
+    ],
+    // A collect reclaims what is overdue first. The directory has the other owner of its segment. It is overdue when the segment
+    // is collected, and reclaimed first, so the owner that is collected then is the last one.
+    &[
+        (A, Segment(7), Done),
+        (A, Clone(B), Done),
+        (A, Directory, Done),
+        (A, Collect, Yes),
+        (W, Pass(2), Is(2)),
+        (B, Collect, Yes),
+        (W, Slots, Is(1)),
+    ],
 ];
 
 #[test]
 fn what_an_item_holds_is_reclaimed_behind_it(rt: HostRuntime) {
-    let alloc = rt.alloc();
-    let found = [
-        right(&rt, alloc, BEFORE_WHAT_IT_HELD),
-        right(&rt, alloc, GOES_WITH_IT),
-        right(&rt, alloc, STAYS),
-        right(&rt, alloc, OVERDUE_FIRST),
-    ];
-    assert_eq!(rt; found, [10, 6, 7, 7], "rows before one that isn't right");
+    for rows in TABLES {
+        assert_eq!(rt;
+            right(&rt, rt.alloc(), rows),
+            rows.len(),
+            "rows before one that isn't right"
+        );
+    }
 }

@@ -5,7 +5,7 @@
 use crate::play::are_right;
 use crate::stage::{Stage, told};
 use crate::steps::Found::{Back, Done, Guarded, Is, Tagged};
-use crate::steps::{A, B, Found, G, Row, Step, Table};
+use crate::steps::{A, B, Found, G, Row, Step, W};
 use sdd_world::{Job, Tag};
 use std::alloc::{AllocError, Global};
 use std::mem;
@@ -49,7 +49,7 @@ struct Known {
 const NOBODY: usize = usize::MAX;
 
 /// What the model knows of a participant. A nest is over with its outermost closing.
-#[derive(Clone, Copy, Drop)]
+#[derive(Clone, Copy, Default, Drop)]
 struct ParticipantState {
     open: u32,
     seen: u64,
@@ -68,13 +68,12 @@ enum Kind {
     Guard,
 }
 
-/// Where it is, its item, and the participant of the guard.
+/// Where it is, and its item, or the participant of the guard.
 #[derive(Clone, Copy, Drop)]
 struct Had {
     at: usize,
     kind: Kind,
-    item: usize,
-    participant: usize,
+    of: usize,
 }
 
 /// Where something is seen, its value, and the nest under which it is.
@@ -107,15 +106,7 @@ impl Plain {
     fn new(alloc: Global) -> Result<Plain, AllocError> {
         let mut participants = Vec::new(alloc);
         for _ in 0..3 {
-            participants.push(ParticipantState {
-                open: 0,
-                seen: 0,
-                before: 0,
-                fast: false,
-                garbage: false,
-                closings: 0,
-                nest: 0,
-            })?;
+            participants.push(ParticipantState::default())?;
         }
         Ok(Plain {
             items: Vec::new(alloc),
@@ -156,11 +147,6 @@ impl Plain {
         last
     }
 
-    /// A slot is free again.
-    fn free(&mut self) {
-        self.used = self.used.saturating_sub(1);
-    }
-
     /// One owner is given back, and with the last one the item waits in the collector; what was collected three raises
     /// ago is reclaimed.
     fn collect(&mut self, item: usize) -> bool {
@@ -173,7 +159,7 @@ impl Plain {
                 && note.saturating_add(3) <= self.count
             {
                 self.apart.remove(0);
-                self.free();
+                self.used = self.used.saturating_sub(1);
             }
         }
         last
@@ -252,16 +238,17 @@ impl Plain {
         None
     }
 
-    /// The place behind all others, where the caller has one more thing.
-    fn gain(&mut self, kind: Kind, item: usize, participant: usize) -> usize {
+    /// The place behind all others.
+    fn next_place(&mut self) -> usize {
         let at = self.place;
-        self.place = self.place.saturating_add(1);
-        let _kept = self.hand.push(Had {
-            at,
-            kind,
-            item,
-            participant,
-        });
+        self.place = at.saturating_add(1);
+        at
+    }
+
+    /// The caller has one more thing there.
+    fn gain(&mut self, kind: Kind, of: usize) -> usize {
+        let at = self.next_place();
+        let _kept = self.hand.push(Had { at, kind, of });
         at
     }
 
@@ -274,7 +261,7 @@ impl Plain {
 
     /// Where there is nothing to make a call with.
     fn idle(&self) -> Row {
-        (Step::IsGuarded, told(self.guards().0 > 0))
+        (W, Step::IsGuarded, told(self.guards().0 > 0))
     }
 
     /// A new item, refused if and only if no slot is free. Its value is the number of the call.
@@ -283,7 +270,7 @@ impl Plain {
         let mut at = self.place;
         if !full {
             let item = self.items.len();
-            at = self.gain(kind, item, 0);
+            at = self.gain(kind, item);
             self.used = self.used.saturating_add(1);
             let _kept = self.items.push(Known {
                 value,
@@ -293,10 +280,10 @@ impl Plain {
             });
         }
         let step = match kind {
-            Kind::Owned => Step::Own(at, value),
-            _ => Step::Share(at, value),
+            Kind::Owned => Step::Own(value),
+            _ => Step::Share(value),
         };
-        (step, if full { Back(value) } else { Done })
+        (at, step, if full { Back(value) } else { Done })
     }
 
     /// One more owner, or one less; in place only where no guard is open.
@@ -305,25 +292,25 @@ impl Plain {
             return self.idle();
         };
         if choice == 3 {
-            if let Some(known) = self.items.get_mut(had.item) {
+            if let Some(known) = self.items.get_mut(had.of) {
                 known.owners = known.owners.saturating_add(1);
             }
-            let to = self.gain(Kind::Shared, had.item, 0);
-            return (Step::Clone(had.at, to), Done);
+            let to = self.gain(Kind::Shared, had.of);
+            return (had.at, Step::Clone(to), Done);
         }
         if choice < 6 {
             self.lose(i);
-            return (Step::Release(had.at, p), told(self.give(had.item, p)));
+            return (had.at, Step::Release(p), told(self.give(had.of, p)));
         }
         if self.guards().0 > 0 {
-            return (Step::DropShared(had.at), Guarded);
+            return (had.at, Step::Drop, Guarded);
         }
         self.lose(i);
-        let last = self.give(had.item, NOBODY);
+        let last = self.give(had.of, NOBODY);
         if last {
-            self.free();
+            self.used = self.used.saturating_sub(1);
         }
-        (Step::DropShared(had.at), told(last))
+        (had.at, Step::Drop, told(last))
     }
 
     /// What an owner names is seen under a guard, or collected.
@@ -334,26 +321,21 @@ impl Plain {
         };
         if collects {
             self.lose(i);
-            return (
-                Step::Collect(B, had.at, guard.at),
-                told(self.collect(had.item)),
-            );
+            let step = Step::Collect(had.at, guard.at);
+            return (B, step, told(self.collect(had.of)));
         }
-        let at = self.place;
-        self.place = self.place.saturating_add(1);
-        let participant = guard.participant;
-        if let (Some(known), Some(state)) = (
-            self.items.get(had.item),
-            self.participants.get(participant),
-        ) {
+        let at = self.next_place();
+        if let Some(known) = self.items.get(had.of)
+            && let Some(state) = self.participants.get(guard.of)
+        {
             let _kept = self.sights.push(Sight {
                 at,
                 value: known.value,
-                participant,
+                participant: guard.of,
                 nest: state.nest,
             });
         }
-        (Step::See(had.at, guard.at, at), Done)
+        (guard.at, Step::See(had.at, at), Done)
     }
 
     /// An item is retired; or its value is another one, or nothing is changed while a guard is open.
@@ -362,17 +344,17 @@ impl Plain {
             return self.idle();
         };
         if !writes {
-            self.give(had.item, p);
+            self.give(had.of, p);
             self.lose(i);
-            return (Step::Retire(had.at, p), Done);
+            return (had.at, Step::Retire(p), Done);
         }
         let mut found = Guarded;
         if self.guards().0 == 0
-            && let Some(known) = self.items.get_mut(had.item)
+            && let Some(known) = self.items.get_mut(had.of)
         {
             found = Is(mem::replace(&mut known.value, new));
         }
-        (Step::WriteOwned(had.at, new), found)
+        (had.at, Step::Write(new), found)
     }
 
     fn open_one(&mut self, p: usize) -> Row {
@@ -380,7 +362,7 @@ impl Plain {
             return self.idle();
         }
         self.open(p);
-        (Step::Open(self.gain(Kind::Guard, 0, p), p), Done)
+        (self.gain(Kind::Guard, p), Step::Open(p), Done)
     }
 
     /// A guard is accelerated, perhaps, and closed.
@@ -389,14 +371,13 @@ impl Plain {
             return [self.idle(), self.idle()];
         };
         let hastens = dice.roll(dice.haste) == 0;
-        let before = if hastens {
-            (Step::Accelerate(guard.at), Done)
-        } else {
-            self.idle()
-        };
-        self.close(guard.participant, hastens);
+        let mut before = self.idle();
+        if hastens {
+            before = (guard.at, Step::Accelerate, Done);
+        }
+        self.close(guard.of, hastens);
         self.lose(i);
-        [before, (Step::Close(guard.at), Done)]
+        [before, (guard.at, Step::Close, Done)]
     }
 
     /// An owner is put into the cell, or none, and what was there is put in its place.
@@ -410,7 +391,7 @@ impl Plain {
         let (at, new) = match given {
             Some((i, had)) => {
                 self.lose(i);
-                (had.at, Some(had.item))
+                (had.at, Some(had.of))
             }
             None => (self.place, None),
         };
@@ -419,11 +400,10 @@ impl Plain {
             let _kept = self.hand.push(Had {
                 at,
                 kind: Kind::Shared,
-                item,
-                participant: 0,
+                of: item,
             });
         }
-        (Step::SwapShared(A, at, Tag::First), Tagged(tag))
+        (A, Step::Swap(at, Tag::First), Tagged(tag))
     }
 
     /// A call at random, and another one that belongs to it.
@@ -445,19 +425,17 @@ impl Plain {
 
     /// Whether a nest isn't over.
     fn is_on(&self, sight: &Sight) -> bool {
-        match self.participants.get(sight.participant) {
-            Some(participant) => participant.open > 0 && participant.nest == sight.nest,
-            None => false,
-        }
+        let participant = self.participants.get(sight.participant);
+        participant.is_some_and(|state| state.open > 0 && state.nest == sight.nest)
     }
 }
 
 /// Whether as many slots are in use as the model says, and what was seen under a guard that is open is still to be read.
 fn is_alike<R: Abort>(stage: &mut Stage<'_, R, Job>, plain: &Plain) -> bool {
-    let mut alike = stage.step(Step::Slots) == Is(plain.used as u64);
+    let mut alike = stage.step(W, Step::Slots) == Is(plain.used as u64);
     for sight in &plain.sights {
         if plain.is_on(sight) {
-            alike = stage.step(Step::Look(sight.at)) == Is(sight.value) && alike;
+            alike = stage.step(sight.at, Step::Look) == Is(sight.value) && alike;
         }
     }
     alike
@@ -479,19 +457,13 @@ fn played<R: Abort>(
     calls
 }
 
-const PLACE: Table = Table {
-    about: "a place with three participants and one cell",
-    sizes: [3, SLOTS, 1, 0],
-    parts: &[],
-};
-
-const START: [Row; 2] = [(Step::NullSharedCell(A), Done), (Step::Collector(B), Done)];
+const START: &[Row] = &[(A, Step::NullSharedCell, Done), (B, Step::Collector, Done)];
 
 /// Everything is given back.
 const END: &[Row] = &[
-    (Step::GiveRest, Done),
-    (Step::EndCell(A, 0), Done),
-    (Step::HandOver(B, 0), Done),
+    (W, Step::GiveRest, Done),
+    (A, Step::EndCell(0), Done),
+    (B, Step::HandOver(0), Done),
 ];
 
 /// How many random calls are right in a new place.
@@ -500,8 +472,8 @@ fn right<R: Abort>(rt: &R, alloc: Global, start: Dice, calls: u64) -> u64 {
         panic!(rt; "memory is ample");
     };
     let mut dice = start;
-    let mut stage = Stage::new(rt, alloc, &PLACE);
-    let started = are_right(&mut stage, &START);
+    let mut stage = Stage::new(rt, alloc, [3, SLOTS, 1, 0]);
+    let started = are_right(&mut stage, START);
     let right = played(&mut stage, &mut plain, &mut dice, calls);
     let ended = are_right(&mut stage, END);
     stage.end();

@@ -1,19 +1,22 @@
-//! Steps of items that are out as raw pointers, and of cells of those.
+//! Steps of cells of raw pointers to the item that is out.
+
+ghost use Rattle.sdd_table.specs.Place.{IsRawCell};
+ghost use Rattle.sdd_world.specs.Tokens.{raw_cell};
 
 use crate::stage::{Stage, Thing, told};
 use crate::steps::{Found, G, Point, Step};
-use sdd_world::{Deferred, RawPtr, Tag, world};
+use sdd_world::{AtomicRaw, Deferred, RawPtr, Tag, world};
 use std::process::Abort;
 
 /// What a raw pointer is, which is to nothing or to the item that is out.
 fn point(item: RawPtr<u64>, found: RawPtr<u64>) -> Found {
     if found == RawPtr::null() {
-        return Found::Null;
+        Found::Null
+    } else if found.without_tag() == item {
+        Found::Item(found.tag())
+    } else {
+        Found::Nothing
     }
-    if found.without_tag() == item {
-        return Found::Item(found.tag());
-    }
-    Found::Nothing
 }
 
 /// The same of a call that may be refused.
@@ -26,7 +29,7 @@ fn outcome(item: RawPtr<u64>, outcome: Result<RawPtr<u64>, RawPtr<u64>>) -> Foun
 }
 
 /// The raw pointer of a row.
-fn pointer(item: RawPtr<u64>, point: Point) -> RawPtr<u64> {
+pub(crate) fn pointer(item: RawPtr<u64>, point: Point) -> RawPtr<u64> {
     match point {
         Point::Null => RawPtr::null(),
         Point::Item(tag) => item.with_tag(tag),
@@ -34,92 +37,53 @@ fn pointer(item: RawPtr<u64>, point: Point) -> RawPtr<u64> {
 }
 
 impl<'r, R: Abort, J: Deferred> Stage<'r, R, J> {
-    /// A step by which an item is taken back, or there is a new cell.
-    pub(crate) fn of_raw(&mut self, step: Step) -> Found {
-        let (at, thing, found) = match step {
-            Step::FromRaw(at) => match world::owned::from_raw(&mut self.w, self.raw) {
-                Some(owned) => (at, Thing::Owned(owned), Found::Yes),
-                None => (at, Thing::Nothing, Found::No),
-            },
-            Step::NullRawCell(at) => match world::atomic_raw::null(&mut self.w) {
-                Ok(cell) => (at, Thing::RawCell(cell), Found::Done),
-                Err(_) => (at, Thing::Nothing, Found::NoSlot),
-            },
-            Step::RawCell(at) => match world::atomic_raw::new(&mut self.w, RawPtr::null()) {
-                Ok(cell) => (at, Thing::RawCell(cell), Found::Done),
-                Err(_) => (at, Thing::Nothing, Found::NoSlot),
-            },
-            Step::IsOut(point) => {
-                let guard = self.guard(G);
-                let raw = pointer(self.raw, point);
-                let seen = world::raw_ptr::into_ptr(&self.w, raw, &guard).is_some();
-                (G, Thing::Guard(guard), told(seen))
-            }
-            _ => return self.of_raw_cells(step),
-        };
-        self.put(at, thing);
-        found
-    }
-
     /// A step with a cell of raw pointers.
-    fn of_raw_cells(&mut self, step: Step) -> Found {
-        let rt = self.rt;
+    pub(crate) fn with_raw_cell(&mut self, cell: AtomicRaw<u64>, step: Step) -> (Thing, Found)
+        requires { IsRawCell self.old.w (raw_cell cell) }
+    {
         let raw = self.raw;
-        let at = match step {
-            Step::LoadRaw(at)
-            | Step::StoreRaw(at, _)
-            | Step::SwapRaw(at, _)
-            | Step::ExchangeRaw(at, _, _)
-            | Step::UpdateRaw(at, _)
-            | Step::Untag(at)
-            | Step::TagOfRaw(at)
-            | Step::IsNullRaw(at) => at,
-            _ => return Found::Nothing,
-        };
-        let guard = self.guard(G);
-        let cell = match self.take(at) {
-            Thing::RawCell(cell) if world::atomic_raw::is_here(&self.w, &cell) => cell,
-            _ => panic!(rt; "a cell is there"),
-        };
         let w = &mut self.w;
         let found = match step {
-            Step::LoadRaw(_) => point(raw, world::atomic_raw::load(w, &cell, &guard)),
-            Step::StoreRaw(_, new) => {
+            Step::StoreRaw(new) => {
                 world::atomic_raw::store(w, &cell, pointer(raw, new));
                 Found::Done
             }
-            Step::SwapRaw(_, new) => {
-                point(
-                    raw,
-                    world::atomic_raw::swap(w, &cell, pointer(raw, new), &guard),
-                )
-            }
-            Step::ExchangeRaw(_, from, to) => {
-                let (from, to) = (pointer(raw, from), pointer(raw, to));
-                outcome(
-                    raw,
-                    world::atomic_raw::compare_exchange(w, &cell, from, to, &guard),
-                )
-            }
-            Step::UpdateRaw(_, agrees) => {
-                let both = |found: RawPtr<u64>| {
-                    if agrees {
-                        Some(found.with_tag(Tag::Both))
-                    } else {
-                        None
-                    }
-                };
-                outcome(raw, world::atomic_raw::fetch_update(w, &cell, &guard, both))
-            }
-            Step::Untag(_) => {
+            Step::Untag => {
                 let bare = |found: RawPtr<u64>| found.tag() == Tag::None;
                 told(world::atomic_raw::update_tag_if(w, &cell, Tag::None, bare))
             }
-            Step::TagOfRaw(_) => Found::Tagged(world::atomic_raw::tag(w, &cell)),
-            _ => told(world::atomic_raw::is_null(w, &cell)),
+            Step::TagOf => Found::Tagged(world::atomic_raw::tag(w, &cell)),
+            Step::IsNull => told(world::atomic_raw::is_null(w, &cell)),
+            _ => self.with_guarded_cell(&cell, step),
+        };
+        (Thing::RawCell(cell), found)
+    }
+
+    /// The same of calls that take a guard.
+    fn with_guarded_cell(&mut self, cell: &AtomicRaw<u64>, step: Step) -> Found
+        requires { IsRawCell self.old.w (raw_cell cell.now) }
+    {
+        let raw = self.raw;
+        let guard = self.guard(G);
+        let w = &mut self.w;
+        let found = match step {
+            Step::LoadRaw => point(raw, world::atomic_raw::load(w, cell, &guard)),
+            Step::SwapRaw(new) => {
+                let new = pointer(raw, new);
+                point(raw, world::atomic_raw::swap(w, cell, new, &guard))
+            }
+            Step::ExchangeRaw(from, to) => {
+                let (from, to) = (pointer(raw, from), pointer(raw, to));
+                let found = world::atomic_raw::compare_exchange(w, cell, from, to, &guard);
+                outcome(raw, found)
+            }
+            Step::UpdateRaw(agrees) => {
+                let both = |found: RawPtr<u64>| agrees.then_some(found.with_tag(Tag::Both));
+                outcome(raw, world::atomic_raw::fetch_update(w, cell, &guard, both))
+            }
+            _ => Found::Nothing,
         };
         self.put(G, Thing::Guard(guard));
-        self.put(at, Thing::RawCell(cell));
         found
     }
 }

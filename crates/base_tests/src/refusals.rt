@@ -1,30 +1,32 @@
 //! Runs in which any one allocation may be refused. A script has each refused in turn: whatever is refused, nothing was
 //! kept, and the same call then succeeds.
 
-ghost use Rattle.std.specs.Prelude.{◌≡◌};
-ghost use Rattle.sdd_world.specs.State.{fresh};
+ghost use Rattle.std.specs.Prelude.{◌<◌, length};
 
+use crate::worlds::close;
 use sdd_world::{PrivateCollector, Sizes, World, world};
 use std::alloc::{AllocError, Global};
 use std::process::Abort;
 
 const TWICE: &str = "memory was refused twice";
 
+/// The sizes of a world with three slots.
+const SIZES: Sizes = Sizes {
+    participants: 2,
+    slots: 3,
+    cells: 2,
+    jobs: 1,
+};
+
 // A world whose making is tried again where memory was refused.
 fn numbers<R: Abort>(rt: &R, alloc: Global, met: &mut bool) -> World<u64>
-    ensures { result ≡ fresh (record { participants = 2; slots = 3; cells = 2; jobs = 1 }) }
+    ensures { 1 < length result.participants }
 {
-    let sizes = Sizes {
-        participants: 2,
-        slots: 3,
-        cells: 2,
-        jobs: 1,
-    };
-    match World::new(alloc, sizes) {
+    match World::new(alloc, SIZES) {
         Ok(w) => w,
         Err(AllocError) => {
             *met = true;
-            World::new(alloc, sizes).expect(rt, TWICE)
+            World::new(alloc, SIZES).expect(rt, TWICE)
         }
     }
 }
@@ -40,10 +42,7 @@ fn collector<R: Abort>(
         Ok(collector) => collector,
         Err(AllocError) => {
             *met = true;
-            match world::private_collector::new(alloc, w) {
-                Ok(collector) => collector,
-                Err(_) => panic!(rt; "memory was refused twice"),
-            }
+            world::private_collector::new(alloc, w).expect(rt, TWICE)
         }
     }
 }
@@ -60,17 +59,14 @@ fn makes_and_retires<R: Abort>(rt: &R, alloc: Global) -> bool {
     let read = *world::owned::as_ref(&w, &owned);
     world::owned::retire(&mut w, owned, 1);
     world::private_collector::hand_over(&mut w, collector, 1);
-    let found = (before, read, w.slots_in_use());
-    match w.close() {
-        Ok(()) if found == (0, 7, 1) => met,
-        _ => panic!(rt; "nothing is out, and one slot was in use"),
-    }
+    assert_eq!(rt; (before, read, w.slots_in_use()), (0, 7, 1));
+    close(rt, w);
+    met
 }
 
 // A collector made behind the place, which is made whichever allocation is refused: it takes no memory.
 fn makes_a_collector<R: Abort>(rt: &R, alloc: Global) {
-    let mut met = false;
-    let mut w = numbers(rt, alloc, &mut met);
+    let mut w = numbers(rt, alloc, &mut false);
     let Ok(owned) = world::owned::new(&mut w, 7) else {
         panic!(rt; "a slot is free");
     };
@@ -79,11 +75,8 @@ fn makes_a_collector<R: Abort>(rt: &R, alloc: Global) {
         panic!(rt; "a collector takes no memory");
     };
     world::private_collector::hand_over(&mut w, collector, 1);
-    let used = w.slots_in_use();
-    match w.close() {
-        Ok(()) if used == 1 => {}
-        _ => panic!(rt; "nothing is out, and one slot was in use"),
-    }
+    assert_eq!(rt; w.slots_in_use(), 1);
+    close(rt, w);
 }
 
 #[test]

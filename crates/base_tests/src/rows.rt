@@ -4,9 +4,10 @@ ghost use Rattle.std.specs.Prelude.{◌≡◌, ◌≢◌, IsTrue, Some, length, 
 ghost use Rattle.sdd_table.specs.Place.{IsShared, TakeOwners, TakesOwner, kept_at};
 ghost use Rattle.sdd_world.specs.Tokens.{kept_slot, shared_slot};
 
+use crate::worlds::{close, pass, push, share, world_of};
 use sdd_table::tokens;
 use sdd_world::status::{Status, is_last};
-use sdd_world::{Held, Holds, KeepsRow, Kept, NoJob, Shared, Sizes, World, world};
+use sdd_world::{Held, Holds, KeepsRow, Kept, NoJob, Shared, World, world};
 use std::alloc::Global;
 use std::process::Abort;
 
@@ -24,10 +25,7 @@ impl Holds for Node {
     ghost holds = { λ n. reverse (map (λ k. SharedItem (kept_slot k)) n.row.items) };
 
     fn give_up(&mut self) -> Option<Held<Node>> {
-        match self.row.pop() {
-            Some(kept) => Some(Held::Shared(kept.into_shared())),
-            None => None,
-        }
+        Some(Held::Shared(self.row.pop()?.into_shared()))
     }
 
     fn end(self) {
@@ -65,28 +63,6 @@ const ROWS: &[Row] = &[
     (1, 3, 100_010, 221),
     (0, 3, 100_010_001, 222),
 ];
-
-/// A place of four items.
-fn place<R: Abort>(rt: &R, alloc: Global) -> World<Node, NoJob> {
-    let sizes = Sizes {
-        participants: 1,
-        slots: 4,
-        cells: 0,
-        jobs: 0,
-    };
-    match World::new(alloc, sizes) {
-        Ok(w) => w,
-        Err(_) => panic!(rt; "memory is ample"),
-    }
-}
-
-/// A new item.
-fn made<R: Abort>(rt: &R, w: &mut World<Node, NoJob>, node: Node) -> Shared<Node> {
-    match world::shared::new(w, node) {
-        Ok(owner) => owner,
-        Err(_) => panic!(rt; "a slot is free"),
-    }
-}
 
 /// One more owner of an item, for another to keep.
 fn more<R: Abort>(rt: &R, w: &mut World<Node, NoJob>, owner: &Shared<Node>) -> Kept {
@@ -169,28 +145,8 @@ fn given<R: Abort>(rt: &R, w: &mut World<Node, NoJob>, owner: Shared<Node>) -> (
     (number, world::shared::release(w, owner, 0))
 }
 
-/// Opens and closes guards until nothing waits.
-fn pass<R: Abort>(rt: &R, w: &mut World<Node, NoJob>) {
-    for _ in 0..8 {
-        if w.participants() == 0 {
-            panic!(rt; "there is a participant");
-        }
-        match world::guard::new(w, 0) {
-            Ok(guard) => {
-                world::guard::accelerate(w, &guard);
-                world::guard::close(w, guard);
-            }
-            Err(_) => panic!(rt; "few guards are open"),
-        }
-    }
-}
-
 /// Makes three items: their owners, and an owner of each for another item to keep.
-fn items<R: Abort>(
-    rt: &R,
-    alloc: Global,
-    w: &mut World<Node, NoJob>,
-) -> (Vec<Shared<Node>>, Vec<Kept>) {
+fn items<R: Abort>(rt: &R, alloc: Global, w: &mut World<Node, NoJob>) -> [Vec<Kept>; 2] {
     let mut owners = Vec::new(alloc);
     let mut row = Vec::new(alloc);
     for number in NUMBERS {
@@ -198,80 +154,52 @@ fn items<R: Abort>(
             number,
             row: Vec::new(alloc),
         };
-        let owner = made(rt, w, item);
+        let owner = share(rt, w, item);
         push(rt, &mut row, more(rt, w, &owner));
-        push(rt, &mut owners, owner);
+        push(rt, &mut owners, Kept::of(owner));
     }
-    (owners, row)
+    [owners, row]
 }
 
-/// Gives owners back of which none is the last, from the end on: what they name, in groups of three digits, and the sum of it.
-fn given_first<R: Abort>(rt: &R, w: &mut World<Node, NoJob>, mut row: Vec<Kept>) -> (u64, u64) {
+/// Gives owners back, from the end on, of which each is the last or none: what they name, in groups of three digits, and the
+/// sum of it.
+fn given_back<R: Abort>(
+    rt: &R,
+    w: &mut World<Node, NoJob>,
+    mut owners: Vec<Kept>,
+    are_last: bool,
+) -> (u64, u64) {
     let mut named = 0u64;
     let mut sum = 0u64;
-    while let Some(kept) = row.pop() {
-        match given(rt, w, kept.into_shared()) {
-            (number, false) => {
-                named = named.saturating_mul(1000).saturating_add(number);
-                sum = sum.saturating_add(number);
-            }
-            _ => panic!(rt; "there is another owner"),
-        }
-    }
-    row.destroy_empty();
-    (named, sum)
-}
-
-/// Gives owners back of which each is the last: the sum of what they name.
-fn given_last<R: Abort>(rt: &R, w: &mut World<Node, NoJob>, mut owners: Vec<Shared<Node>>) -> u64 {
-    let mut sum = 0u64;
-    while let Some(owner) = owners.pop() {
-        match given(rt, w, owner) {
-            (number, true) => sum = sum.saturating_add(number),
-            _ => panic!(rt; "there is no other owner"),
-        }
+    while let Some(kept) = owners.pop() {
+        let (number, is_last) = given(rt, w, kept.into_shared());
+        assert!(rt; is_last == are_last);
+        named = named.saturating_mul(1000).saturating_add(number);
+        sum = sum.saturating_add(number);
     }
     owners.destroy_empty();
-    sum
+    (named, sum)
 }
 
 /// Keeps a stretch of the row of an item, which then goes. What the new owners name, and how many owners there are of each item,
 /// by giving them back until it goes.
 fn played<R: Abort>(rt: &R, alloc: Global, from: usize, upto: usize) -> (u64, u64) {
-    let mut w = place(rt, alloc);
-    let (owners, row) = items(rt, alloc, &mut w);
-    let node = made(rt, &mut w, Node { number: 0, row });
+    let mut w: World<Node, NoJob> = world_of(rt, alloc, [1, 4, 0, 0]);
+    let [owners, row] = items(rt, alloc, &mut w);
+    let node = share(rt, &mut w, Node { number: 0, row });
     let new = kept(rt, alloc, &mut w, &node, from, upto);
     let (_, gone) = given(rt, &mut w, node);
-    pass(rt, &mut w);
-    let (named, more) = given_first(rt, &mut w, new);
-    let sum = given_last(rt, &mut w, owners);
-    pass(rt, &mut w);
-    if !gone || w.slots_in_use() > 0 {
-        panic!(rt; "no item is left");
-    }
-    match w.close() {
-        Ok(()) => (named, sum.saturating_add(more)),
-        Err(_) => panic!(rt; "nothing is out"),
-    }
-}
-
-fn push<R: Abort, X>(rt: &R, xs: &mut Vec<X>, x: X) {
-    match xs.push(x) {
-        Ok(()) => {}
-        Err(_) => panic!(rt; "memory is ample"),
-    }
+    pass(rt, &mut w, 0, 8);
+    let (named, more) = given_back(rt, &mut w, new, false);
+    let (_, sum) = given_back(rt, &mut w, owners, true);
+    assert!(rt; gone && pass(rt, &mut w, 0, 8) == 0);
+    close(rt, w);
+    (named, sum.saturating_add(more))
 }
 
 #[test]
 fn each_item_of_a_stretch_has_one_owner_more(rt: HostRuntime) {
-    let alloc = rt.alloc();
-    let mut right = 0usize;
-    for row in ROWS {
-        let (from, upto, named, counts) = *row;
-        if played(&rt, alloc, from, upto) == (named, counts) {
-            right = right.saturating_add(1);
-        }
+    for (from, upto, named, counts) in ROWS {
+        assert_eq!(rt; played(&rt, rt.alloc(), *from, *upto), (*named, *counts));
     }
-    assert_eq!(rt; right, ROWS.len());
 }

@@ -2,13 +2,14 @@
 //! data ask nothing of the prover.
 
 ghost use Rattle.std.specs.Prelude.{◌≡◌, ◌<◌, length};
-ghost use Rattle.sdd_table.specs.Place.{IsSized, IsOpen, IsOwned, IsShared, IsOwnedCell, IsSharedCell};
-ghost use Rattle.sdd_world.specs.Tokens.{owned_slot, shared_slot, owned_cell, shared_cell, guard_participant};
+ghost use Rattle.sdd_table.specs.Place.{IsOpen};
+ghost use Rattle.sdd_world.specs.Tokens.{guard_participant};
 
-use crate::steps::{Found, G, Table};
+use crate::steps::{Found, G, Step};
+use crate::worlds::{close, push, world_of};
 use sdd_world::{
     AtomicOwned, AtomicRaw, AtomicShared, Deferred, Owned, PrivateCollector, Ptr, RawPtr, Shared,
-    Sizes, World, WorldGuard, world,
+    World, WorldGuard, world,
 };
 use std::alloc::Global;
 use std::mem;
@@ -36,6 +37,14 @@ pub(crate) struct Stage<'r, R, J: Deferred> {
     pub(crate) raw: RawPtr<u64>,
 }
 
+/// A thing that may be there.
+pub(crate) fn maybe(thing: Option<Thing>) -> Thing {
+    match thing {
+        Some(thing) => thing,
+        None => Thing::Nothing,
+    }
+}
+
 /// An answer.
 pub(crate) fn told(yes: bool) -> Found {
     if yes { Found::Yes } else { Found::No }
@@ -48,54 +57,23 @@ pub(crate) fn count(count: usize) -> Found {
 
 /// A value that is there, or not.
 pub(crate) fn value(found: Option<u64>) -> Found {
-    match found {
-        Some(value) => Found::Is(value),
-        None => Found::Nothing,
-    }
-}
-
-/// The sizes of a table, which aren't out of bounds.
-fn sizes<R: Abort>(rt: &R, table: &Table) -> Sizes
-    ensures { IsSized result }
-{
-    let [participants, slots, cells, jobs] = table.sizes;
-    let most = participants.max(slots).max(cells).max(jobs);
-    if participants == 0 || most > 1_000_000 {
-        panic!(rt; "a place as small");
-    }
-    Sizes {
-        participants,
-        slots,
-        cells,
-        jobs,
-    }
+    found.map_or(Found::Nothing, Found::Is)
 }
 
 impl<'r, R: Abort, J: Deferred> Stage<'r, R, J> {
     /// A new place, of which the caller has nothing.
-    pub(crate) fn new(rt: &'r R, alloc: Global, table: &Table) -> Self {
-        let Ok(w) = World::new(alloc, sizes(rt, table)) else {
-            panic!(rt; "memory is ample");
-        };
+    pub(crate) fn new(rt: &'r R, alloc: Global, sizes: [usize; 4]) -> Self {
         let mut stage = Stage {
             rt,
             alloc,
-            w,
+            w: world_of(rt, alloc, sizes),
             things: Vec::new(alloc),
             raw: RawPtr::null(),
         };
         for _ in 0..=G {
-            stage.push(Thing::Nothing);
+            push(rt, &mut stage.things, Thing::Nothing);
         }
         stage
-    }
-
-    fn push(&mut self, thing: Thing) {
-        let rt = self.rt;
-        match self.things.push(thing) {
-            Ok(()) => {}
-            Err(_) => panic!(rt; "memory is ample"),
-        }
     }
 
     /// Takes what is at a place.
@@ -115,7 +93,7 @@ impl<'r, R: Abort, J: Deferred> Stage<'r, R, J> {
             return;
         }
         if at >= self.things.len() {
-            return self.push(thing);
+            return push(rt, &mut self.things, thing);
         }
         match mem::replace(&mut self.things[at], thing) {
             Thing::Nothing | Thing::Seen(_) => {}
@@ -136,45 +114,61 @@ impl<'r, R: Abort, J: Deferred> Stage<'r, R, J> {
         }
     }
 
-    /// Takes the owner at a place, whose item is there.
-    pub(crate) fn owned(&mut self, at: usize) -> Owned<u64>
-        ensures live { IsOwned self.new.w (owned_slot result) }
+    /// Takes what is seen from a place on.
+    pub(crate) fn seen(&mut self, at: usize) -> Ptr<'static, u64>
+        ensures same { self.new.w ≡ self.old.w }
     {
         let rt = self.rt;
         match self.take(at) {
-            Thing::Owned(owned) if world::owned::is_here(&self.w, &owned) => owned,
-            _ => panic!(rt; "an owner is there"),
+            Thing::Seen(seen) => seen,
+            _ => panic!(rt; "something is seen"),
         }
     }
 
-    pub(crate) fn shared(&mut self, at: usize) -> Shared<u64>
-        ensures live { IsShared self.new.w (shared_slot result) }
-    {
-        let rt = self.rt;
-        match self.take(at) {
-            Thing::Shared(shared) if world::shared::is_here(&self.w, &shared) => shared,
-            _ => panic!(rt; "an owner is there"),
-        }
+    /// A step with what is at a place, or there is then.
+    pub(crate) fn step(&mut self, at: usize, step: Step) -> Found {
+        let thing = self.take(at);
+        let (left, found) = match step {
+            Step::Retire(p) | Step::Release(p) | Step::EndCell(p) | Step::HandOver(p) => {
+                (Thing::Nothing, self.give(thing, p))
+            }
+            Step::Close => (Thing::Nothing, self.give(thing, 0)),
+            Step::Move(to) => {
+                self.put(to, thing);
+                (Thing::Nothing, Found::Done)
+            }
+            _ => self.step_with(thing, step),
+        };
+        self.put(at, left);
+        found
     }
 
-    /// Takes the cell at a place, which is in use.
-    pub(crate) fn owned_cell(&mut self, at: usize) -> AtomicOwned<u64>
-        ensures used { IsOwnedCell self.new.w (owned_cell result) }
-    {
+    /// A step with a thing, and what is at its place then.
+    fn step_with(&mut self, thing: Thing, step: Step) -> (Thing, Found) {
         let rt = self.rt;
-        match self.take(at) {
-            Thing::OwnedCell(cell) if world::atomic_owned::is_here(&self.w, &cell) => cell,
-            _ => panic!(rt; "a cell is there"),
-        }
-    }
-
-    pub(crate) fn shared_cell(&mut self, at: usize) -> AtomicShared<u64>
-        ensures used { IsSharedCell self.new.w (shared_cell result) }
-    {
-        let rt = self.rt;
-        match self.take(at) {
-            Thing::SharedCell(cell) if world::atomic_shared::is_here(&self.w, &cell) => cell,
-            _ => panic!(rt; "a cell is there"),
+        match thing {
+            Thing::Nothing => self.make_items(step),
+            Thing::Owned(owned) if world::owned::is_here(&self.w, &owned) => {
+                self.with_owned(owned, step)
+            }
+            Thing::Shared(shared) if world::shared::is_here(&self.w, &shared) => {
+                self.with_shared(shared, step)
+            }
+            Thing::OwnedCell(cell) if world::atomic_owned::is_here(&self.w, &cell) => {
+                self.with_owned_cell(cell, step)
+            }
+            Thing::SharedCell(cell) if world::atomic_shared::is_here(&self.w, &cell) => {
+                self.with_shared_cell(cell, step)
+            }
+            Thing::RawCell(cell) if world::atomic_raw::is_here(&self.w, &cell) => {
+                self.with_raw_cell(cell, step)
+            }
+            Thing::Guard(guard) if world::guard::is_open(&self.w, &guard) => {
+                self.with_guard(guard, step)
+            }
+            Thing::Collector(collector) => self.with_collector(collector, step),
+            Thing::Seen(seen) => self.with_seen(seen, step),
+            _ => panic!(rt; "what the place made is there"),
         }
     }
 
@@ -184,28 +178,29 @@ impl<'r, R: Abort, J: Deferred> Stage<'r, R, J> {
         if p >= self.w.participants() {
             panic!(rt; "there is such a participant");
         }
+        let w = &mut self.w;
         match thing {
             Thing::Nothing | Thing::Seen(_) => {}
-            Thing::Owned(owned) if world::owned::is_here(&self.w, &owned) => {
-                world::owned::retire(&mut self.w, owned, p);
+            Thing::Owned(owned) if world::owned::is_here(w, &owned) => {
+                world::owned::retire(w, owned, p);
             }
-            Thing::Shared(shared) if world::shared::is_here(&self.w, &shared) => {
-                return told(world::shared::release(&mut self.w, shared, p));
+            Thing::Shared(shared) if world::shared::is_here(w, &shared) => {
+                return told(world::shared::release(w, shared, p));
             }
-            Thing::OwnedCell(cell) if world::atomic_owned::is_here(&self.w, &cell) => {
-                world::atomic_owned::retire(&mut self.w, cell, p);
+            Thing::OwnedCell(cell) if world::atomic_owned::is_here(w, &cell) => {
+                world::atomic_owned::retire(w, cell, p);
             }
-            Thing::SharedCell(cell) if world::atomic_shared::is_here(&self.w, &cell) => {
-                world::atomic_shared::retire(&mut self.w, cell, p);
+            Thing::SharedCell(cell) if world::atomic_shared::is_here(w, &cell) => {
+                world::atomic_shared::retire(w, cell, p);
             }
-            Thing::RawCell(cell) if world::atomic_raw::is_here(&self.w, &cell) => {
-                world::atomic_raw::end(&mut self.w, cell);
+            Thing::RawCell(cell) if world::atomic_raw::is_here(w, &cell) => {
+                world::atomic_raw::end(w, cell);
             }
-            Thing::Guard(guard) if world::guard::is_open(&self.w, &guard) => {
-                world::guard::close(&mut self.w, guard);
+            Thing::Guard(guard) if world::guard::is_open(w, &guard) => {
+                world::guard::close(w, guard);
             }
             Thing::Collector(collector) => {
-                world::private_collector::hand_over(&mut self.w, collector, p);
+                world::private_collector::hand_over(w, collector, p);
             }
             _ => panic!(rt; "what the place made is there"),
         }
@@ -259,9 +254,6 @@ impl<'r, R: Abort, J: Deferred> Stage<'r, R, J> {
             }
         }
         things.destroy_empty();
-        match w.close() {
-            Ok(()) => {}
-            Err(_) => panic!(rt; "nothing is out"),
-        }
+        close(rt, w);
     }
 }

@@ -15,6 +15,9 @@ pub(crate) const G: usize = 4;
 
 pub(crate) const END: usize = usize::MAX;
 
+/// Where a step is of the whole world, and of nothing that the caller has.
+pub(crate) const W: usize = usize::MAX;
+
 /// A raw pointer: to nothing, or to the item that is out, with this tag.
 #[derive(Clone, Copy)]
 pub(crate) enum Point {
@@ -22,47 +25,44 @@ pub(crate) enum Point {
     Item(Tag),
 }
 
-/// What the caller does. What a step makes, takes or gives is at the place that it names, or at the first of them; a
-/// participant is named behind the places. Calls of cells are made under the guard at `G`.
+/// What the caller does with what is at a place, or to have something there. Further places are named by the step, and a
+/// participant behind them. Calls of cells are made under the guard at `G`.
 #[derive(Clone, Copy)]
 pub(crate) enum Step {
     /// A new item of this value with one owner, and one of what a closure gives: or the value is returned, where no slot is
     /// free, and the closure isn't asked.
-    Own(usize, u64),
-    OwnWith(usize, u64),
+    Own(u64),
+    OwnWith(u64),
     /// The same with counted owners.
-    Share(usize, u64),
-    ShareWith(usize, u64),
+    Share(u64),
+    ShareWith(u64),
     /// The same by a call whose owner is kept without its type in between: what is read then.
-    Keep(usize, u64),
+    Keep(u64),
     /// The value of an item.
-    ReadOwned(usize),
-    ReadShared(usize),
+    Read,
     /// The value of an item by where its owner says that it is.
-    ReadAt(usize),
-    /// One more owner of the item at the first place, which is at the second.
-    Clone(usize, usize),
+    ReadAt,
+    /// One more owner of an item, which is at this place.
+    Clone(usize),
     /// The owner of an item is given back by a participant: whether it was the last one, where owners are counted.
-    Retire(usize, usize),
-    Release(usize, usize),
+    Retire(usize),
+    Release(usize),
     /// The same in place: or the owner is returned, while a guard is open.
-    DropOwned(usize),
-    DropShared(usize),
-    /// The value of an item is written where it is lent: the one before. It is named by an owner, or by a cell.
-    WriteOwned(usize, u64),
-    WriteShared(usize, u64),
-    WriteCell(usize, u64),
+    Drop,
+    /// The value of an item is written where it is lent: the one before. It is named by an owner, or by a new cell of that.
+    Write(u64),
+    WriteCell(u64),
 
     /// A guard of a participant is opened, accelerated, and closed.
-    Open(usize, usize),
-    Accelerate(usize),
-    Close(usize),
+    Open(usize),
+    Accelerate,
+    Close,
     /// Opens a guard of each participant, each behind all others: how many.
     OpenEach,
     /// The participant of a guard, the epoch that it sees, and whether its participant has garbage.
-    Participant(usize),
-    Epoch(usize),
-    HasGarbage(usize),
+    Participant,
+    Epoch,
+    HasGarbage,
     /// Whether a guard is open.
     IsGuarded,
     /// Opens and closes this many accelerated guards of a participant, one by one: how many slots are in use then.
@@ -70,82 +70,72 @@ pub(crate) enum Step {
     /// How many slots are in use, and how many are free.
     Slots,
     FreeSlots,
-    /// What an owner names under the guard at the second place is seen from the third one on; the item that is seen.
-    See(usize, usize, usize),
-    Look(usize),
-    /// What is seen has another tag. One more owner of it is at the second place, and it isn't seen any more.
-    Retag(usize, Tag),
-    Claim(usize, usize),
-    /// The same by the call that hands back what is seen, and of what the cell at the first place keeps.
-    TryClaim(usize, usize),
-    ClaimKept(usize, usize),
-    /// A collector. The owner at the second place is collected under the guard at the third one: whether it was the last.
-    /// It is handed over to a participant.
-    Collector(usize),
-    Collect(usize, usize, usize),
-    HandOver(usize, usize),
+    /// What the owner at the first place names is seen under a guard from the second place on; the item that is seen.
+    See(usize, usize),
+    Look,
+    /// What is seen has another tag. One more owner of it is at this place, and it isn't seen any more.
+    Retag(Tag),
+    Claim(usize),
+    /// The same by the call that hands back what is seen, and of what a cell keeps.
+    TryClaim(usize),
+    ClaimKept(usize),
+    /// A collector. It collects the owner at the first place under the guard at the second: whether it was the last. It is
+    /// handed over to a participant.
+    Collector,
+    Collect(usize, usize),
+    HandOver(usize),
 
-    /// A new cell of a new item of this value, of nothing, and of the owner that is at its place.
-    OwnedCell(usize, u64),
-    NullOwnedCell(usize),
-    KeepOwned(usize),
-    SharedCell(usize, u64),
-    NullSharedCell(usize),
-    KeepShared(usize),
+    /// A new cell of a new item of this value, of nothing, and of an owner.
+    OwnedCell(u64),
+    NullOwnedCell,
+    SharedCell(u64),
+    NullSharedCell,
+    IntoCell,
     /// The same: the value that a link to it names.
-    Link(usize, u64),
-    LinkNull(usize),
-    /// One more cell of what the cell at the first place keeps, which is at the second.
-    CloneCell(usize, usize),
-    /// What the cell at the first place keeps is seen from the second one on.
-    LoadOwned(usize, usize),
-    LoadShared(usize, usize),
+    Link(u64),
+    LinkNull,
+    /// One more cell of what a cell keeps, which is at this place.
+    CloneCell(usize),
+    /// What the cell keeps is seen from this place on.
+    Load(usize),
     /// Whether the cell keeps nothing, and its tag.
-    IsNullOwned(usize),
-    IsNullShared(usize),
-    TagOfOwned(usize),
-    TagOfShared(usize),
-    /// Whether the cell keeps the item of the owner at the second place, by where both say that theirs is.
-    IsAt(usize, usize),
-    /// Changes the owner at the second place, or none, and this tag for what the cell has: the tag that it had.
-    SwapOwned(usize, usize, Tag),
-    SwapShared(usize, usize, Tag),
-    /// Takes what the cell keeps to the second place, and leaves nothing and the tag `Both`, where the cell is as it is seen
-    /// at the third one: whether it did.
-    TakeOwned(usize, usize, usize),
-    TakeShared(usize, usize, usize),
+    IsNull,
+    TagOf,
+    /// Whether the cell keeps the item of the owner at this place, by where both say that theirs is.
+    IsAt(usize),
+    /// Changes the owner at this place, or none, and this tag for what the cell has: the tag that it had.
+    Swap(usize, Tag),
+    /// Takes what the cell keeps to the first place, and leaves nothing and the tag `Both`, where the cell is as it is seen
+    /// at the second: whether it did.
+    Take(usize, usize),
     /// The same by the weak exchange.
-    TakeOwnedWeakly(usize, usize, usize),
-    TakeSharedWeakly(usize, usize, usize),
+    TakeWeakly(usize, usize),
     /// Gives the cell this tag where it has the tag `First`, and where it keeps something: whether it did.
-    TagIfMarked(usize, Tag),
-    TagIfFull(usize, Tag),
-    TagSharedIfFull(usize, Tag),
+    TagIfMarked(Tag),
+    TagIfFull(Tag),
     /// Ends a cell, and gives what it kept back by a participant.
-    EndCell(usize, usize),
+    EndCell(usize),
 
     /// The item of an owner is out as a raw pointer, and that becomes the owner again: whether its item was out.
-    IntoRaw(usize),
-    FromRaw(usize),
+    IntoRaw,
+    FromRaw,
     /// Whether a raw pointer can be read under the guard at `G`.
     IsOut(Point),
     /// A new cell of nothing by its own call, and by the one that takes a raw pointer.
-    NullRawCell(usize),
-    RawCell(usize),
+    NullRawCell,
+    RawCell,
     /// What the cell names is loaded, stored, swapped, and exchanged from the first to the second: what was found.
-    LoadRaw(usize),
-    StoreRaw(usize, Point),
-    SwapRaw(usize, Point),
-    ExchangeRaw(usize, Point, Point),
+    LoadRaw,
+    StoreRaw(Point),
+    SwapRaw(Point),
+    ExchangeRaw(Point, Point),
     /// An update by a closure that gives the tag `Both`, or nothing: what was found.
-    UpdateRaw(usize, bool),
+    UpdateRaw(bool),
     /// Sets the tag `None` where the cell has it already: whether it did.
-    Untag(usize),
-    TagOfRaw(usize),
-    IsNullRaw(usize),
+    Untag,
 
-    /// Has what is at the first place at the second.
-    Move(usize, usize),
+    /// Has what is at a place at this one.
+    Move(usize),
     /// Closes the guards that are behind the five places, and gives back all else that is, by participant 0, from the end on.
     GiveRest,
 }
@@ -173,8 +163,8 @@ pub(crate) enum Found {
     Kept(Tag),
 }
 
-/// A step, and what it finds.
-pub(crate) type Row = (Step, Found);
+/// A place, the step there, and what it finds.
+pub(crate) type Row = (usize, Step, Found);
 
 /// Rows that are played once, or this many times.
 #[derive(Clone, Copy)]

@@ -1,4 +1,4 @@
-use Rattle.base_tests.proofs.rows.given_first.Given as goal
+use Rattle.base_tests.proofs.rows.given_back.Given as goal
 
 abbrev pub invariant-loop-kept : goal.invariant-loop-kept
 invariant-loop-kept g l = Unit {0}
