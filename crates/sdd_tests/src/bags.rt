@@ -1,11 +1,10 @@
 //! Bags: calls as data, so that a test of many calls is a table, and bags beside the multisets that they are.
 
 ghost use Rattle.std.specs.Prelude.{◌<◌, length};
-ghost use Rattle.sdd_world.specs.Place.{IsOpen};
 ghost use Rattle.world_containers.specs.Bags.{IsLength, IsSomeBag, bag_cells, into_cells};
 
 use crate::bags::Call::{IsEmpty, Len, Pop, Push, TryPush};
-use crate::filled::{bag_of, lacking, some_bag};
+use crate::filled::{Lack, bag_of, some_bag};
 use crate::places::{end, give, new_bag, place_of};
 use crate::random_calls::next;
 use crate::replies::Reply::{Back, Count, Done, Is, Value};
@@ -25,7 +24,6 @@ pub(crate) fn pop<const N: usize>(w: &mut World<LinkedEntry<u64>>, bag: &Bag<u64
     requires participant { 0 < length w.old.participants }
     requires list { IsSomeBag N w.old (bag_cells bag.now) }
     ensures participant { 0 < length w.new.participants }
-    ensures open { IsOpen w.old 0 → IsOpen w.new 0 }
     ensures list { IsSomeBag N w.new (bag_cells bag.now) }
 {
     match world::bag::pop(w, bag, 0) {
@@ -176,23 +174,7 @@ const OVERFLOWING: &[(Call, Reply)] = &[
     (Pop, Value(None)),
 ];
 
-#[test]
-fn a_bag_of_one_gives_the_overflow_first(rt: HostRuntime) {
-    assert!(rt; on_a_bag::<_, 1>(&rt, rt.alloc(), (2, 4), OVERFLOWING) == 0);
-}
-
 const WITHOUT_CELLS: &[(Call, Reply)] = &[(Push(7), Back(7)), (Len, Count(0))];
-
-#[test]
-fn a_bag_takes_a_cell_more_than_its_length(rt: HostRuntime) {
-    let mut w = place_of(&rt, rt.alloc(), 1, 3);
-    match world::bag::new::<u64, _, 3>(rt.alloc(), &mut w) {
-        Ok(_) => panic!(rt; "three cells are free"),
-        Err(refused) => assert_eq!(rt; refused, NotMade::NoSlot),
-    }
-    end(&rt, w);
-    assert!(rt; on_a_bag::<_, 2>(&rt, rt.alloc(), (1, 3), WITHOUT_CELLS) == 0);
-}
 
 const WITHOUT_SLOTS: &[(Call, Reply)] = &[
     (Push(1), Done),
@@ -202,17 +184,28 @@ const WITHOUT_SLOTS: &[(Call, Reply)] = &[
     (Len, Count(2)),
 ];
 
+pub(crate) const THREE: &[(Call, Reply)] = &[(Push(1), Done), (Push(2), Done), (Push(3), Done)];
+
 #[test]
-fn a_bag_without_a_slot_hands_the_value_back(rt: HostRuntime) {
-    assert!(rt; on_a_bag::<_, 32>(&rt, rt.alloc(), (2, 40), WITHOUT_SLOTS) == 2);
+fn bags_overflow_and_are_folded(rt: HostRuntime) {
+    let folded = [
+        on_a_bag::<_, 1>(&rt, rt.alloc(), (2, 4), OVERFLOWING),
+        on_a_bag::<_, 2>(&rt, rt.alloc(), (1, 3), WITHOUT_CELLS),
+        on_a_bag::<_, 32>(&rt, rt.alloc(), (2, 40), WITHOUT_SLOTS),
+        on_a_bag::<_, 1>(&rt, rt.alloc(), (1, 3), &[]),
+        on_a_bag::<_, 2>(&rt, rt.alloc(), (3, 6), THREE),
+    ];
+    assert_eq!(rt; folded, [0, 0, 2, 0, 3]);
 }
 
-const THREE: &[(Call, Reply)] = &[(Push(1), Done), (Push(2), Done), (Push(3), Done)];
-
 #[test]
-fn every_owner_is_folded_once(rt: HostRuntime) {
-    assert!(rt; on_a_bag::<_, 1>(&rt, rt.alloc(), (1, 3), &[]) == 0);
-    assert!(rt; on_a_bag::<_, 2>(&rt, rt.alloc(), (3, 6), THREE) == 3);
+fn a_bag_takes_a_cell_more_than_its_length(rt: HostRuntime) {
+    let mut w: World<LinkedEntry<u64>> = place_of(&rt, rt.alloc(), 1, 3);
+    match world::bag::new::<u64, _, 3>(rt.alloc(), &mut w) {
+        Err(NotMade::NoSlot) => {}
+        _ => panic!(rt; "three cells are free"),
+    }
+    end(&rt, w);
 }
 
 /// The value of the next entry of a bag that is taken apart, which is given back.
@@ -363,16 +356,13 @@ fn values_become_a_bag(rt: HostRuntime) {
 #[test]
 fn a_bag_without_room_hands_back_what_was_built(rt: HostRuntime) {
     let mut w = place_of(&rt, rt.alloc(), 3, 9);
-    let (made, lack) = some_bag::<2>(rt.alloc(), &mut w, 1..6);
-    let found = match made {
-        Some(bag) => {
-            let len = world::bag::len(&w, &bag);
-            let last = pop(&mut w, &bag);
-            world::bag::retire(&mut w, bag, 0);
-            (lacking(lack), len, last)
-        }
-        None => panic!(rt; "three cells are free"),
+    let bag = match some_bag::<2>(rt.alloc(), &mut w, 1..6) {
+        (Some(bag), Some(Lack::Of(4))) => bag,
+        _ => panic!(rt; "three cells are free, and no slot for the fourth"),
     };
+    let len = world::bag::len(&w, &bag);
+    let last = pop(&mut w, &bag);
+    world::bag::retire(&mut w, bag, 0);
     end(&rt, w);
-    assert!(rt; found == (Some(4), 3, Some(3)));
+    assert!(rt; (len, last) == (3, Some(3)));
 }

@@ -1,7 +1,6 @@
 //! Entries in hand: written, cloned, and owners of entries that are given back at once.
 
-ghost use Rattle.std.specs.Prelude.{◌≡◌, ◌<◌, ◌≤◌, [], length, false, true};
-ghost use Rattle.sdd_world.specs.Place.{IsOpen};
+ghost use Rattle.std.specs.Prelude.{◌≡◌, ◌<◌, [], length, false, true};
 ghost use Rattle.world_containers.specs.Entries.{entry_value, entry_link};
 ghost use Rattle.sdd_world.specs.Tokens.{ptr_slot, shared_slot};
 ghost use Rattle.world_containers.specs.Chain.{Entry, Leaves, Stays, deleted};
@@ -56,8 +55,8 @@ fn an_entry_is_written_and_cloned(rt: HostRuntime) {
     let same = copy == entry;
     let values = (*entry.as_ref(), *copy.as_ref());
     let refused = match world::linked_entry::clone(&mut w, &entry) {
-        Ok(_) => panic!(rt; "no cell is free"),
         Err(refused) => refused,
+        _ => panic!(rt; "no cell is free"),
     };
     write(&mut entry, 8);
     let differs = copy != entry;
@@ -69,7 +68,6 @@ fn an_entry_is_written_and_cloned(rt: HostRuntime) {
 
 /// A new entry, given to the place.
 fn made<R: Abort>(rt: &R, w: &mut World<LinkedEntry<u64>>, value: u64) -> Shared<LinkedEntry<u64>>
-    requires { 0 ≤ length w.old.cells }
     ensures made { IsMade w.old w.new value (shared_slot result) }
     ensures leaves { Leaves [] [] w.old w.new }
     ensures stays { Stays w.old w.new }
@@ -89,22 +87,21 @@ fn put_behind<R: Abort>(
 ) -> (u64, bool)
     requires { 0 < length w.old.participants }
     ensures participant { 0 < length w.new.participants }
-    ensures open { IsOpen w.old 0 → IsOpen w.new 0 }
 {
     let first = made(rt, w, 1);
     let second = made(rt, w, 2);
     let at = place::shared::get_guarded_ptr(&first, guard);
     let next = match world::linked_list::push_back(w, at, second, mark, guard) {
         Ok(next) => next,
-        Err(_) => panic!(rt; "it isn't deleted"),
+        _ => panic!(rt; "it isn't deleted"),
     };
     if !w.is_readable(&next) {
         panic!(rt; "it is there");
     }
-    let value = match w.read(&next) {
-        Some(entry) => *entry.as_ref(),
-        None => panic!(rt; "it isn't null"),
+    let Some(entry) = w.read(&next) else {
+        panic!(rt; "it isn't null");
     };
+    let value = *entry.as_ref();
     give(rt, w, first);
     (value, next.tag() == Tag::First)
 }
@@ -113,7 +110,6 @@ fn put_behind<R: Abort>(
 fn put_behind_deleted<R: Abort>(rt: &R, w: &mut World<LinkedEntry<u64>>, guard: &WorldGuard) -> u64
     requires { 0 < length w.old.participants }
     ensures participant { 0 < length w.new.participants }
-    ensures open { IsOpen w.old 0 → IsOpen w.new 0 }
 {
     let first = made(rt, w, 1);
     let second = made(rt, w, 2);
@@ -130,16 +126,6 @@ fn put_behind_deleted<R: Abort>(rt: &R, w: &mut World<LinkedEntry<u64>>, guard: 
     give(rt, w, back);
     give(rt, w, first);
     value
-}
-
-#[test]
-fn an_entry_comes_back_from_behind_a_deleted_one(rt: HostRuntime) {
-    let mut w = place_of(&rt, rt.alloc(), 2, 4);
-    let guard = guarded(&rt, &mut w);
-    let back = put_behind_deleted(&rt, &mut w, &guard);
-    close(&rt, &mut w, guard);
-    end(&rt, w);
-    assert!(rt; back == 2);
 }
 
 /// What a deletion answers where the entry that `at` names is deleted already. The place stays as it was.
@@ -159,7 +145,6 @@ fn deleted_twice<R: Abort>(
 ) -> (bool, bool)
     requires { 0 < length w.old.participants }
     ensures participant { 0 < length w.new.participants }
-    ensures open { IsOpen w.old 0 → IsOpen w.new 0 }
 {
     let entry = made(rt, w, 1);
     let at = place::shared::get_guarded_ptr(&entry, guard);
@@ -175,24 +160,17 @@ fn deleted_twice<R: Abort>(
 }
 
 #[test]
-fn a_deleted_entry_is_deleted_once(rt: HostRuntime) {
-    let mut w = place_of(&rt, rt.alloc(), 1, 2);
-    let guard = guarded(&rt, &mut w);
-    let found = deleted_twice(&rt, &mut w, &guard);
-    close(&rt, &mut w, guard);
-    end(&rt, w);
-    assert!(rt; found == (false, true));
-}
-
-#[test]
-fn an_entry_is_put_behind_another(rt: HostRuntime) {
-    let mut w = place_of(&rt, rt.alloc(), 4, 6);
+fn entries_are_put_behind_others_and_deleted_once(rt: HostRuntime) {
+    let mut w = place_of(&rt, rt.alloc(), 7, 11);
     let guard = guarded(&rt, &mut w);
     let marked = put_behind(&rt, &mut w, true, &guard);
     let clear = put_behind(&rt, &mut w, false, &guard);
+    let back = put_behind_deleted(&rt, &mut w, &guard);
+    let deleted = deleted_twice(&rt, &mut w, &guard);
     close(&rt, &mut w, guard);
     end(&rt, w);
     assert!(rt; marked == (2, true) && clear == (2, false));
+    assert!(rt; back == 2 && deleted == (false, true));
 }
 
 #[test]
@@ -203,8 +181,8 @@ fn an_entry_is_made_where_a_cell_is_free(rt: HostRuntime) {
     };
     let value = *entry.as_ref();
     let back = match world::linked_entry::new(&mut w, 6) {
-        Ok(_) => panic!(rt; "the cell is taken"),
         Err(back) => back,
+        _ => panic!(rt; "the cell is taken"),
     };
     retire(&rt, &mut w, entry);
     end(&rt, w);

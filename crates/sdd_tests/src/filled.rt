@@ -26,14 +26,6 @@ pub(crate) enum Lack {
     Unmade(NotMade, usize),
 }
 
-/// The number that no slot or no cell was free for, where there was one.
-pub(crate) fn lacking(lack: Option<Lack>) -> Option<u64> {
-    match lack {
-        Some(Lack::Of(number)) => Some(number),
-        _ => None,
-    }
-}
-
 /// A stack of the numbers of a range, as far as it was made.
 pub(crate) fn some_stack(
     w: &mut World<LinkedEntry<u64>>,

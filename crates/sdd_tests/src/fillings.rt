@@ -1,21 +1,20 @@
 //! Containers of the values of an iterator, and clones of containers.
 
 ghost use Rattle.std.specs.Prelude.{◌≡◌, ◌<◌, length, IfSome};
-ghost use Rattle.sdd_world.specs.Place.{IsOpen};
 ghost use Rattle.world_containers.specs.Copies.{ClonesAreSame};
 ghost use Rattle.world_containers.specs.Entries.{entry_link};
 ghost use Rattle.world_containers.specs.Stacks.{IsSomeStack, stack_cell};
 ghost use Rattle.world_containers.specs.Queues.{IsSomeQueue, oldest_cell, newest_cell};
 
 use crate::entries::retire;
-use crate::filled::{Lack, lacking, queue_of, some_bag, some_queue, some_stack, stack_of};
-use crate::places::{close, end, guarded, place_of, sizes};
+use crate::filled::{Lack, queue_of, some_bag, some_queue, some_stack, stack_of};
+use crate::places::{close, end, guarded, place_of};
 use crate::queues::{append, take};
 use crate::stacks::Change::Delete;
 use crate::stacks::{change_first, pop, push};
 use crate::walks::{three_of_queue, three_of_stack};
 use sdd_world::world::World;
-use std::alloc::{AllocError, Global};
+use std::alloc::AllocError;
 use std::process::Abort;
 use world_containers::linked_entry::LinkedEntry;
 use world_containers::queue::Queue;
@@ -79,7 +78,6 @@ pub(crate) fn copied_stack<T: Clone>(
     requires participant { 0 < length w.old.participants }
     requires list { IsSomeStack w.old (stack_cell stack) }
     ensures participant { 0 < length w.new.participants }
-    ensures open { IsOpen w.old 0 → IsOpen w.new 0 }
     ensures list { IfSome result.0 (λ s. IsSomeStack w.new (stack_cell s)) }
 {
     match world::stack::clone(w, &stack) {
@@ -155,78 +153,49 @@ fn values_become_a_stack(rt: HostRuntime) {
     assert!(rt; three == (Some(3), Some(2), Some(1)) && pushed.is_ok() && len == 4);
 }
 
-/// Three values of a container, or fewer.
-type Three = (Option<u64>, Option<u64>, Option<u64>);
-
-/// The value that a queue of 1 to 4 has no slot for, and what was built of it.
-fn built_queue<R: Abort>(rt: &R, alloc: Global) -> (Option<u64>, Three) {
-    let mut w = place_of(rt, alloc, 2, 5);
-    let (made, lack) = some_queue(&mut w, 1..5);
-    let found = match made {
-        Some(queue) => {
-            let three = three_of_queue(&w, &queue);
-            world::queue::retire(&mut w, queue, 0);
-            (lacking(lack), three)
-        }
-        None => panic!(rt; "two cells are free"),
-    };
-    end(rt, w);
-    found
-}
-
-/// The value that a stack of 1 to 4 has no cell for, and what was built of it.
-fn built_stack<R: Abort>(rt: &R, alloc: Global) -> (Option<u64>, Three) {
-    let mut w = place_of(rt, alloc, 5, 3);
-    let (made, lack) = some_stack(&mut w, 1..5);
-    let found = match made {
-        Some(stack) => {
-            let three = three_of_stack(&w, &stack);
-            world::stack::retire(&mut w, stack, 0);
-            (lacking(lack), three)
-        }
-        None => panic!(rt; "a cell is free"),
-    };
-    end(rt, w);
-    found
-}
-
 #[test]
 fn values_without_room_hand_back_what_was_built(rt: HostRuntime) {
-    let queue = built_queue(&rt, rt.alloc());
-    let stack = built_stack(&rt, rt.alloc());
-    assert!(rt; queue == (Some(3), (Some(1), Some(2), None)));
-    assert!(rt; stack == (Some(3), (Some(2), Some(1), None)));
+    let mut w = place_of(&rt, rt.alloc(), 2, 5);
+    let queue = match some_queue(&mut w, 1..5) {
+        (Some(queue), Some(Lack::Of(3))) => queue,
+        _ => panic!(rt; "two cells are free, and no slot for the third"),
+    };
+    let queued = three_of_queue(&w, &queue);
+    world::queue::retire(&mut w, queue, 0);
+    end(&rt, w);
+    let mut w = place_of(&rt, rt.alloc(), 5, 3);
+    let stack = match some_stack(&mut w, 1..5) {
+        (Some(stack), Some(Lack::Of(3))) => stack,
+        _ => panic!(rt; "a cell is free, and none for the third"),
+    };
+    let stacked = three_of_stack(&w, &stack);
+    world::stack::retire(&mut w, stack, 0);
+    end(&rt, w);
+    assert!(rt; queued == (Some(1), Some(2), None) && stacked == (Some(2), Some(1), None));
+}
+
+/// Why nothing was made, and how many values are returned.
+fn unmade<R: Abort, C>(rt: &R, made: Option<C>, lack: Option<Lack>) -> (NotMade, usize) {
+    match (made, lack) {
+        (None, Some(Lack::Unmade(refused, count))) => (refused, count),
+        _ => panic!(rt; "there is too little room"),
+    }
 }
 
 #[test]
 fn values_come_back_where_nothing_is_made(rt: HostRuntime) {
     let mut w = place_of(&rt, rt.alloc(), 2, 1);
     let (made, lack) = some_queue(&mut w, 1..5);
-    let queue = match (made, lack) {
-        (None, Some(Lack::Unmade(refused, count))) => (refused, count),
-        _ => panic!(rt; "one cell is free"),
-    };
+    let queue = unmade(&rt, made, lack);
     let (made, lack) = some_bag::<1>(rt.alloc(), &mut w, 1..5);
-    let bag = match (made, lack) {
-        (None, Some(Lack::Unmade(refused, count))) => (refused, count),
-        _ => panic!(rt; "one cell is free"),
-    };
+    let bag = unmade(&rt, made, lack);
     end(&rt, w);
-    let stack = unmade_stack(&rt, rt.alloc());
+    let mut w = place_of(&rt, rt.alloc(), 2, 0);
+    let (made, lack) = some_stack(&mut w, 1..5);
+    let stack = unmade(&rt, made, lack);
+    end(&rt, w);
     let wanted = (NotMade::NoSlot, 4);
     assert!(rt; queue == wanted && bag == wanted && stack == wanted);
-}
-
-/// Why a stack isn't made where no cell is free, and how many values are returned.
-fn unmade_stack<R: Abort>(rt: &R, alloc: Global) -> (NotMade, usize) {
-    let mut w = place_of(rt, alloc, 2, 0);
-    let (made, lack) = some_stack(&mut w, 1..5);
-    let found = match (made, lack) {
-        (None, Some(Lack::Unmade(refused, count))) => (refused, count),
-        _ => panic!(rt; "no cell is free"),
-    };
-    end(rt, w);
-    found
 }
 
 #[test]
@@ -248,47 +217,32 @@ fn a_clone_of_a_stack_outlasts_it(rt: HostRuntime) {
     assert!(rt; deleted && pushed.is_ok() && len == 3 && three == (Some(4), Some(2), Some(1)));
 }
 
-/// What a clone of a queue of 1 to 3 has for which two slots are free.
-fn partly_cloned_queue<R: Abort>(rt: &R, alloc: Global) -> Three {
-    let mut w = place_of(rt, alloc, 5, 10);
-    let queue = queue_of(rt, &mut w, 1..4);
+#[test]
+fn a_clone_without_room_hands_back_what_was_built(rt: HostRuntime) {
+    let mut w = place_of(&rt, rt.alloc(), 5, 10);
+    let queue = queue_of(&rt, &mut w, 1..4);
     let copy = match copied_queue(&mut w, queue) {
         (Some(copy), Some(NotMade::NoSlot)) => copy,
         _ => panic!(rt; "two slots are free"),
     };
-    let three = three_of_queue(&w, &copy);
+    let queued = three_of_queue(&w, &copy);
     world::queue::retire(&mut w, copy, 0);
-    end(rt, w);
-    three
-}
-
-/// What a clone of a stack of 1 to 3 has for which two cells are free.
-fn partly_cloned_stack<R: Abort>(rt: &R, alloc: Global) -> Three {
-    let mut w = place_of(rt, alloc, 8, 6);
-    let stack = stack_of(rt, &mut w, 1..4);
+    end(&rt, w);
+    let mut w = place_of(&rt, rt.alloc(), 8, 6);
+    let stack = stack_of(&rt, &mut w, 1..4);
     let copy = match copied_stack(&mut w, stack) {
         (Some(copy), Some(NotMade::NoSlot)) => copy,
         _ => panic!(rt; "two cells are free"),
     };
-    let three = three_of_stack(&w, &copy);
+    let stacked = three_of_stack(&w, &copy);
     world::stack::retire(&mut w, copy, 0);
-    end(rt, w);
-    three
-}
-
-#[test]
-fn a_clone_without_room_hands_back_what_was_built(rt: HostRuntime) {
-    let queue = partly_cloned_queue(&rt, rt.alloc());
-    let stack = partly_cloned_stack(&rt, rt.alloc());
-    assert!(rt; queue == (Some(1), Some(2), None) && stack == (Some(3), None, None));
+    end(&rt, w);
+    assert!(rt; queued == (Some(1), Some(2), None) && stacked == (Some(3), None, None));
 }
 
 #[test]
 fn a_refused_clone_of_a_value_ends_a_clone(rt: HostRuntime) {
-    let mut w: World<LinkedEntry<Rare>> = match World::new(rt.alloc(), sizes(9, 13)) {
-        Ok(w) => w,
-        Err(_) => panic!(rt; "memory is ample"),
-    };
+    let mut w: World<LinkedEntry<Rare>> = place_of(&rt, rt.alloc(), 9, 13);
     let values = [Rare { number: 1 }, Rare { number: 2 }, Rare { number: 3 }];
     let queue = match world::queue::from_iter(&mut w, values) {
         Ok(queue) => queue,
@@ -304,13 +258,10 @@ fn a_refused_clone_of_a_value_ends_a_clone(rt: HostRuntime) {
         panic!(rt; "a cell is free");
     };
     let refused = match world::linked_entry::clone(&mut w, &entry) {
-        Ok(_) => panic!(rt; "the third one isn't cloned"),
         Err(refused) => refused,
+        _ => panic!(rt; "the third one isn't cloned"),
     };
     retire(&rt, &mut w, entry);
-    match w.close() {
-        Ok(()) => {}
-        Err(_) => panic!(rt; "something is left"),
-    }
+    end(&rt, w);
     assert!(rt; len == 2 && refused == NotMade::Memory);
 }

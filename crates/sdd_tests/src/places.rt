@@ -1,13 +1,14 @@
 //! Places of numbers in lists, and new containers in them, of which a test knows only that they are there.
 
 ghost use Rattle.std.specs.Prelude.{◌≡◌, ◌<◌, length};
-ghost use Rattle.sdd_world.specs.Place.{IsOpen};
 ghost use Rattle.world_containers.specs.Bags.{IsLength, IsSomeBag, bag_cells};
 ghost use Rattle.world_containers.specs.Entries.{entry_link};
 ghost use Rattle.world_containers.specs.Queues.{IsSomeQueue, oldest_cell, newest_cell};
 ghost use Rattle.world_containers.specs.Stacks.{IsSomeStack, stack_cell};
 
 use sdd_world::guard::WorldGuard;
+use sdd_world::holds::Holds;
+use sdd_world::job::Deferred;
 use sdd_world::owner::Shared;
 use sdd_world::sizes::Sizes;
 use sdd_world::world as place;
@@ -20,16 +21,16 @@ use world_containers::queue::Queue;
 use world_containers::stack::Stack;
 use world_containers::world;
 
-/// A place with one participant, and with at most ten thousand slots and cells.
-pub(crate) fn place_of<R: Abort>(
+/// A place with one participant, and with at most 200,000 slots and cells.
+pub(crate) fn place_of<R: Abort, T, J: Deferred>(
     rt: &R,
     alloc: Global,
     slots: usize,
     cells: usize,
-) -> World<LinkedEntry<u64>>
+) -> World<T, J>
     ensures { 0 < length result.participants }
 {
-    if slots > 10_000 || cells > 10_000 {
+    if slots > 200_000 || cells > 200_000 {
         panic!(rt; "a small place");
     }
     match World::new(alloc, sizes(slots, cells)) {
@@ -111,7 +112,7 @@ pub(crate) fn sizes(slots: usize, cells: usize) -> Sizes
 }
 
 /// Ends a world in which nothing is left.
-pub(crate) fn end<R: Abort>(rt: &R, w: World<LinkedEntry<u64>>) {
+pub(crate) fn end<R: Abort, T: Holds, J: Deferred>(rt: &R, w: World<T, J>) {
     match w.close() {
         Ok(()) => {}
         Err(_) => panic!(rt; "something is left"),
@@ -126,7 +127,6 @@ pub(crate) fn give<R: Abort>(
 )
     requires { 0 < length w.old.participants }
     ensures participant { 0 < length w.new.participants }
-    ensures open { IsOpen w.old 0 → IsOpen w.new 0 }
 {
     let cell = match place::atomic_shared::from(w, owner) {
         Ok(cell) => cell,

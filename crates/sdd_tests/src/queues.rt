@@ -1,7 +1,6 @@
 //! Queues: calls as data, so that a test of many calls is a table.
 
 ghost use Rattle.std.specs.Prelude.{◌<◌, length};
-ghost use Rattle.sdd_world.specs.Place.{IsOpen};
 ghost use Rattle.world_containers.specs.Entries.{entry_link};
 ghost use Rattle.world_containers.specs.Queues.{IsSomeQueue, oldest_cell, newest_cell};
 
@@ -10,10 +9,11 @@ use crate::queues::Call::{
     Append, AppendMore, Front, IsEmpty, Len, Oldest, RefusedTake, Take, Three,
 };
 use crate::replies::Reply::{Back, Count, Done, Is, Listed, Value};
-use crate::replies::{Reply, told, value_of};
+use crate::replies::{Reply, Table, told, value_of};
 use crate::stacks::push;
 use crate::walks::three_of_queue;
 use sdd_world::guard::WorldGuard;
+use sdd_world::refusal::NoSlot;
 use sdd_world::world as place;
 use sdd_world::world::World;
 use std::alloc::Global;
@@ -45,7 +45,6 @@ pub(crate) fn append(
     requires participant { 0 < length w.old.participants }
     requires list { IsSomeQueue entry_link w.old (oldest_cell queue.now) (newest_cell queue.now) }
     ensures participant { 0 < length w.new.participants }
-    ensures open { IsOpen w.old 0 → IsOpen w.new 0 }
     ensures list { IsSomeQueue entry_link w.new (oldest_cell queue.now) (newest_cell queue.now) }
 {
     match world::queue::push(w, queue, value) {
@@ -62,7 +61,6 @@ pub(crate) fn take(w: &mut World<LinkedEntry<u64>>, queue: &Queue<u64>) -> Optio
     requires participant { 0 < length w.old.participants }
     requires list { IsSomeQueue entry_link w.old (oldest_cell queue.now) (newest_cell queue.now) }
     ensures participant { 0 < length w.new.participants }
-    ensures open { IsOpen w.old 0 → IsOpen w.new 0 }
     ensures list { IsSomeQueue entry_link w.new (oldest_cell queue.now) (newest_cell queue.now) }
 {
     match world::queue::pop(w, queue, 0) {
@@ -91,7 +89,6 @@ fn append_more(w: &mut World<LinkedEntry<u64>>, queue: &Queue<u64>, value: u64) 
     requires participant { 0 < length w.old.participants }
     requires list { IsSomeQueue entry_link w.old (oldest_cell queue.now) (newest_cell queue.now) }
     ensures participant { 0 < length w.new.participants }
-    ensures open { IsOpen w.old 0 → IsOpen w.new 0 }
     ensures list { IsSomeQueue entry_link w.new (oldest_cell queue.now) (newest_cell queue.now) }
 {
     let some = |first: Option<&LinkedEntry<u64>>| first.is_some();
@@ -109,7 +106,6 @@ fn refused_oldest(w: &mut World<LinkedEntry<u64>>, queue: &Queue<u64>) -> Option
     requires participant { 0 < length w.old.participants }
     requires list { IsSomeQueue entry_link w.old (oldest_cell queue.now) (newest_cell queue.now) }
     ensures participant { 0 < length w.new.participants }
-    ensures open { IsOpen w.old 0 → IsOpen w.new 0 }
     ensures list { IsSomeQueue entry_link w.new (oldest_cell queue.now) (newest_cell queue.now) }
 {
     let never = |_entry: &LinkedEntry<u64>| false;
@@ -137,7 +133,6 @@ fn make(
     requires participant { 0 < length w.old.participants }
     requires list { IsSomeQueue entry_link w.old (oldest_cell queue.now) (newest_cell queue.now) }
     ensures participant { 0 < length w.new.participants }
-    ensures open { IsOpen w.old 0 → IsOpen w.new 0 }
     ensures list { IsSomeQueue entry_link w.new (oldest_cell queue.now) (newest_cell queue.now) }
 {
     match call {
@@ -165,49 +160,11 @@ fn look(w: &World<LinkedEntry<u64>>, queue: &Queue<u64>, guard: &WorldGuard, cal
     }
 }
 
-/// Makes the calls of a table, in order: how many return what they should before the first that doesn't.
-fn play(
-    w: &mut World<LinkedEntry<u64>>,
-    queue: &Queue<u64>,
-    guard: &WorldGuard,
-    rows: &[(Call, Reply)],
-) -> usize
-    requires participant { 0 < length w.old.participants }
-    requires list { IsSomeQueue entry_link w.old (oldest_cell queue.now) (newest_cell queue.now) }
-    ensures participant { 0 < length w.new.participants }
-    ensures open { IsOpen w.old 0 → IsOpen w.new 0 }
-    ensures list { IsSomeQueue entry_link w.new (oldest_cell queue.now) (newest_cell queue.now) }
-{
-    let mut right = 0usize;
-    for at in 0..rows.len() {
-        let (call, wanted) = rows[at];
-        if make(w, queue, guard, call) == wanted && right == at {
-            right = right.saturating_add(1);
-        }
-    }
-    right
-}
-
-/// Makes the calls of a table on a new queue, under a guard, and ends both.
-fn on_a_queue<R: Abort>(rt: &R, alloc: Global, sizes: (usize, usize), rows: &[(Call, Reply)]) {
-    let (slots, cells) = sizes;
-    let mut w = place_of(rt, alloc, slots, cells);
-    let guard = guarded(rt, &mut w);
-    let queue = new_queue(rt, &mut w);
-    let right = play(&mut w, &queue, &guard, rows);
-    world::queue::retire(&mut w, queue, 0);
-    close(rt, &mut w, guard);
-    end(rt, w);
-    assert!(rt; right == rows.len());
-}
-
-#[test]
-fn a_queue_gives_the_oldest_first(rt: HostRuntime) {
-    on_a_queue(
-        &rt,
-        rt.alloc(),
-        (3, 5),
-        &[
+const TABLES: &[Table<Call>] = &[
+    Table {
+        about: "a queue gives the oldest first",
+        sizes: (3, 5),
+        rows: &[
             (Take, Value(None)),
             (Append(1), Done),
             (Append(2), Done),
@@ -217,16 +174,11 @@ fn a_queue_gives_the_oldest_first(rt: HostRuntime) {
             (Take, Value(Some(3))),
             (Take, Value(None)),
         ],
-    );
-}
-
-#[test]
-fn a_queue_without_room_hands_the_value_back(rt: HostRuntime) {
-    on_a_queue(
-        &rt,
-        rt.alloc(),
-        (2, 4),
-        &[
+    },
+    Table {
+        about: "a queue without room hands the value back",
+        sizes: (2, 4),
+        rows: &[
             (IsEmpty, Is(true)),
             (Append(1), Done),
             (Append(2), Done),
@@ -234,32 +186,22 @@ fn a_queue_without_room_hands_the_value_back(rt: HostRuntime) {
             (Len, Count(2)),
             (IsEmpty, Is(false)),
         ],
-    );
-}
-
-#[test]
-fn a_queue_is_peeked_at_its_oldest(rt: HostRuntime) {
-    on_a_queue(
-        &rt,
-        rt.alloc(),
-        (2, 4),
-        &[
+    },
+    Table {
+        about: "a queue is peeked at its oldest",
+        sizes: (2, 4),
+        rows: &[
             (Front, Value(None)),
             (Append(8), Done),
             (Append(9), Done),
             (Front, Value(Some(8))),
             (Oldest, Value(Some(8))),
         ],
-    );
-}
-
-#[test]
-fn a_refused_pop_of_a_queue_gives_an_owner_that_comes_back(rt: HostRuntime) {
-    on_a_queue(
-        &rt,
-        rt.alloc(),
-        (3, 5),
-        &[
+    },
+    Table {
+        about: "a refused pop of a queue gives an owner that comes back",
+        sizes: (3, 5),
+        rows: &[
             (RefusedTake, Value(None)),
             (Append(1), Done),
             (RefusedTake, Value(Some(1))),
@@ -272,16 +214,11 @@ fn a_refused_pop_of_a_queue_gives_an_owner_that_comes_back(rt: HostRuntime) {
             (Take, Value(Some(2))),
             (Take, Value(Some(3))),
         ],
-    );
-}
-
-#[test]
-fn a_walk_along_a_queue_gives_the_oldest_first(rt: HostRuntime) {
-    on_a_queue(
-        &rt,
-        rt.alloc(),
-        (3, 5),
-        &[
+    },
+    Table {
+        about: "a walk along a queue gives the oldest first",
+        sizes: (3, 5),
+        rows: &[
             (AppendMore(7), Is(false)),
             (Append(1), Done),
             (AppendMore(2), Is(true)),
@@ -290,15 +227,39 @@ fn a_walk_along_a_queue_gives_the_oldest_first(rt: HostRuntime) {
             (AppendMore(4), Is(false)),
             (Three, Listed(Some(1), Some(2), Some(3))),
         ],
-    );
+    },
+];
+
+/// Makes the calls of each table on a new queue, under a guard, and ends both.
+#[test]
+fn calls_of_queues_return_what_they_should(rt: HostRuntime) {
+    for table in TABLES {
+        on_a_queue(&rt, rt.alloc(), table);
+    }
+}
+
+fn on_a_queue<R: Abort>(rt: &R, alloc: Global, table: &Table<Call>) {
+    let (slots, cells) = table.sizes;
+    let mut w = place_of(rt, alloc, slots, cells);
+    let guard = guarded(rt, &mut w);
+    let queue = new_queue(rt, &mut w);
+    let mut right = true;
+    for (call, wanted) in table.rows {
+        right = make(&mut w, &queue, &guard, *call) == *wanted && right;
+    }
+    world::queue::retire(&mut w, queue, 0);
+    close(rt, &mut w, guard);
+    end(rt, w);
+    let about = table.about;
+    assert!(rt; right, "{about}");
 }
 
 #[test]
 fn a_queue_takes_two_cells(rt: HostRuntime) {
-    let mut w = place_of(&rt, rt.alloc(), 1, 1);
+    let mut w: World<LinkedEntry<u64>> = place_of(&rt, rt.alloc(), 1, 1);
     match world::queue::new(&mut w) {
-        Ok(_) => panic!(rt; "one cell is free"),
-        Err(_) => {}
+        Err(NoSlot) => {}
+        _ => panic!(rt; "one cell is free"),
     }
     let stack = new_stack(&rt, &mut w);
     let pushed = push(&mut w, &stack, 1);

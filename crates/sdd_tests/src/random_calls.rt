@@ -7,7 +7,7 @@ ghost use Rattle.world_containers.specs.Queues.{IsSomeQueue, oldest_cell, newest
 
 use crate::filled::{queue_of, stack_of};
 use crate::fillings::{copied_queue, copied_stack};
-use crate::places::{end, new_queue, new_stack, place_of};
+use crate::places::{end, place_of};
 use crate::queues::{append, take};
 use crate::stacks::{pop, push};
 use sdd_world::world::World;
@@ -24,11 +24,12 @@ pub(crate) fn next(seed: u64) -> u64 {
         .wrapping_add(1442695040888963407)
 }
 
-/// What a stack or a queue should have: its values, and how many slots are free.
+/// What a stack or a queue should have: its values, and how many slots are free; and whether it may be cloned.
 #[derive(Drop)]
 struct List {
     values: Vec<u64>,
     room: u64,
+    is_cloned: bool,
 }
 
 impl List {
@@ -60,17 +61,18 @@ impl List {
     }
 }
 
-/// A list of nothing with room for this many values, and one of the values below 20.
-fn list_of_none(alloc: Global, room: u64) -> List {
-    List {
-        values: Vec::new(alloc),
-        room,
-    }
-}
+/// How many slots there are, how many values in the beginning, how many calls are made, and by which number. Where there are
+/// values, their clones take their place now and then.
+type Run = (usize, u64, u32, u64);
 
-fn list_of_twenty(alloc: Global) -> List {
-    let mut list = list_of_none(alloc, 3000);
-    for value in 0..20 {
+/// A list of the numbers below one, with room for this many values in all.
+fn list_of(alloc: Global, room: usize, filled: u64) -> List {
+    let mut list = List {
+        values: Vec::new(alloc),
+        room: room as u64,
+        is_cloned: filled > 0,
+    };
+    for value in 0..filled {
         let _kept = list.push(value);
     }
     list
@@ -122,38 +124,6 @@ fn queue_call(
     )) && alike
 }
 
-#[test]
-fn a_stack_is_a_list_whose_end_comes_first(rt: HostRuntime) {
-    let mut w = place_of(&rt, rt.alloc(), 400, 401);
-    let mut list = list_of_none(rt.alloc(), 400);
-    let mut seed = 1;
-    let mut right = true;
-    let stack = new_stack(&rt, &mut w);
-    for _step in 0..1000 {
-        seed = next(seed);
-        right = stack_call(&mut w, &stack, &mut list, seed) && right;
-    }
-    world::stack::retire(&mut w, stack, 0);
-    end(&rt, w);
-    assert!(rt; right && list.room == 0);
-}
-
-#[test]
-fn a_queue_is_a_list(rt: HostRuntime) {
-    let mut w = place_of(&rt, rt.alloc(), 400, 402);
-    let mut list = list_of_none(rt.alloc(), 400);
-    let mut seed = 2;
-    let mut right = true;
-    let queue = new_queue(&rt, &mut w);
-    for _step in 0..1000 {
-        seed = next(seed);
-        right = queue_call(&mut w, &queue, &mut list, seed) && right;
-    }
-    world::queue::retire(&mut w, queue, 0);
-    end(&rt, w);
-    assert!(rt; right && list.room == 0);
-}
-
 /// As `stack_call`, or the stack's clone in its place, as `seed` says.
 fn stack_turn<R: Abort>(
     rt: &R,
@@ -167,7 +137,7 @@ fn stack_turn<R: Abort>(
     ensures participant { 0 < length w.new.participants }
     ensures list { IsSomeStack w.new (stack_cell result.0) }
 {
-    if seed >> 60 != 8 {
+    if !list.is_cloned || seed >> 60 != 8 {
         let alike = stack_call(w, &stack, list, seed);
         return (stack, alike);
     }
@@ -193,7 +163,7 @@ fn queue_turn<R: Abort>(
     ensures participant { 0 < length w.new.participants }
     ensures list { IsSomeQueue entry_link w.new (oldest_cell result.0) (newest_cell result.0) }
 {
-    if seed >> 60 != 8 {
+    if !list.is_cloned || seed >> 60 != 8 {
         let alike = queue_call(w, &queue, list, seed);
         return (queue, alike);
     }
@@ -206,38 +176,50 @@ fn queue_turn<R: Abort>(
     (copy, len == list.values.len())
 }
 
-#[test]
-fn a_stack_of_values_and_its_clones_are_a_list(rt: HostRuntime) {
-    let mut w = place_of(&rt, rt.alloc(), 3000, 3002);
-    let mut list = list_of_twenty(rt.alloc());
-    let mut seed = 3;
-    let mut stack = stack_of(&rt, &mut w, 0..20);
+/// Calls of a stack and of a list: whether both answer alike, and how much room the list has then.
+fn stack_run<R: Abort>(rt: &R, alloc: Global, run: Run) -> (bool, u64) {
+    let (room, filled, calls, mut seed) = run;
+    let mut w = place_of(rt, alloc, room, room.saturating_add(2));
+    let mut list = list_of(alloc, room, filled);
+    let mut stack = stack_of(rt, &mut w, 0..filled);
     let mut right = true;
-    for _step in 0..500 {
+    for _call in 0..calls {
         seed = next(seed);
-        let (left, alike) = stack_turn(&rt, &mut w, stack, &mut list, seed);
+        let (left, alike) = stack_turn(rt, &mut w, stack, &mut list, seed);
         stack = left;
         right = right && alike;
     }
     world::stack::retire(&mut w, stack, 0);
-    end(&rt, w);
-    assert!(rt; right);
+    end(rt, w);
+    (right, list.room)
 }
 
-#[test]
-fn a_queue_of_values_and_its_clones_are_a_list(rt: HostRuntime) {
-    let mut w = place_of(&rt, rt.alloc(), 3000, 3004);
-    let mut list = list_of_twenty(rt.alloc());
-    let mut seed = 4;
-    let mut queue = queue_of(&rt, &mut w, 0..20);
+/// Calls of a queue and of a list: whether both answer alike, and how much room the list has then.
+fn queue_run<R: Abort>(rt: &R, alloc: Global, run: Run) -> (bool, u64) {
+    let (room, filled, calls, mut seed) = run;
+    let mut w = place_of(rt, alloc, room, room.saturating_add(4));
+    let mut list = list_of(alloc, room, filled);
+    let mut queue = queue_of(rt, &mut w, 0..filled);
     let mut right = true;
-    for _step in 0..500 {
+    for _call in 0..calls {
         seed = next(seed);
-        let (left, alike) = queue_turn(&rt, &mut w, queue, &mut list, seed);
+        let (left, alike) = queue_turn(rt, &mut w, queue, &mut list, seed);
         queue = left;
         right = right && alike;
     }
     world::queue::retire(&mut w, queue, 0);
-    end(&rt, w);
-    assert!(rt; right);
+    end(rt, w);
+    (right, list.room)
+}
+
+#[test]
+fn a_stack_is_a_list_whose_end_comes_first(rt: HostRuntime) {
+    assert!(rt; stack_run(&rt, rt.alloc(), (400, 0, 1000, 1)) == (true, 0));
+    assert!(rt; stack_run(&rt, rt.alloc(), (3000, 20, 500, 3)).0);
+}
+
+#[test]
+fn a_queue_is_a_list(rt: HostRuntime) {
+    assert!(rt; queue_run(&rt, rt.alloc(), (400, 0, 1000, 2)) == (true, 0));
+    assert!(rt; queue_run(&rt, rt.alloc(), (3000, 20, 500, 4)).0);
 }

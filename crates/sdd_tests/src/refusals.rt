@@ -10,6 +10,7 @@ use crate::queues::append;
 use crate::stacks::push;
 use crate::walks::{three_of_queue, three_of_stack};
 use sdd_lists::world::entries;
+use sdd_world::refusal::NoSlot;
 use sdd_world::world::World;
 use std::alloc::{AllocError, Global};
 use std::process::Abort;
@@ -23,20 +24,20 @@ fn unplaced<R: Abort>(rt: &R, w: &mut World<LinkedEntry<u64>>) -> (u64, u64, u64
     ensures { 0 < length w.new.participants }
 {
     let placed = match world::linked_entry::place(w, 1) {
-        Ok(_) => panic!(rt; "there is no room"),
-        Err(back) => back,
+        Err(placed) => placed,
+        _ => panic!(rt; "there is no room"),
     };
     let one = match entries::make_one(w, 2) {
-        Ok(_) => panic!(rt; "there is no room"),
-        Err(back) => back,
+        Err(one) => one,
+        _ => panic!(rt; "there is no room"),
     };
     let two = match entries::make(w, 3) {
-        Ok(_) => panic!(rt; "there is no room"),
-        Err(back) => back,
+        Err(two) => two,
+        _ => panic!(rt; "there is no room"),
     };
     let three = match entries::make_three(w, 4) {
-        Ok(_) => panic!(rt; "there is no room"),
-        Err(back) => back,
+        Err(three) => three,
+        _ => panic!(rt; "there is no room"),
     };
     (placed, one, two, three)
 }
@@ -46,8 +47,8 @@ fn neither_entry_nor_stack_is_made_without_a_slot_or_a_cell(rt: HostRuntime) {
     let mut w = place_of(&rt, rt.alloc(), 1, 0);
     let without_cells = unplaced(&rt, &mut w);
     match world::stack::new(&mut w) {
-        Ok(_) => panic!(rt; "no cell is free"),
-        Err(_) => {}
+        Err(NoSlot) => {}
+        _ => panic!(rt; "no cell is free"),
     }
     let used = w.slots_in_use();
     end(&rt, w);
@@ -67,17 +68,17 @@ fn a_stack_is_neither_moved_nor_cloned_without_a_cell(rt: HostRuntime) {
     let stack = new_stack(&rt, &mut w);
     let pushed = push(&mut w, &stack, 5);
     match world::stack::pop_all(&mut w, &stack, 0) {
-        Ok(_) => panic!(rt; "no cell is free"),
-        Err(_) => {}
-    }
-    let refused = match world::stack::clone(&mut w, &stack) {
-        Err(CloneRefused::Unmade(why)) => why,
+        Err(NoSlot) => {}
         _ => panic!(rt; "no cell is free"),
-    };
+    }
+    match world::stack::clone(&mut w, &stack) {
+        Err(CloneRefused::Unmade(NotMade::NoSlot)) => {}
+        _ => panic!(rt; "no cell is free"),
+    }
     let left = (three_of_stack(&w, &stack), w.slots_in_use());
     world::stack::retire(&mut w, stack, 0);
     end(&rt, w);
-    assert!(rt; pushed.is_ok() && refused == NotMade::NoSlot);
+    assert!(rt; pushed.is_ok());
     assert!(rt; left == ((Some(5), None, None), 1));
 }
 
@@ -86,16 +87,16 @@ fn a_queue_is_not_cloned_with_one_cell(rt: HostRuntime) {
     let mut w = place_of(&rt, rt.alloc(), 3, 4);
     let queue = new_queue(&rt, &mut w);
     let first = append(&mut w, &queue, 5);
-    let refused = match world::queue::clone(&mut w, &queue) {
-        Err(CloneRefused::Unmade(why)) => why,
+    match world::queue::clone(&mut w, &queue) {
+        Err(CloneRefused::Unmade(NotMade::NoSlot)) => {}
         _ => panic!(rt; "one cell is free"),
-    };
+    }
     // that cell is free still
     let second = append(&mut w, &queue, 6);
     let left = three_of_queue(&w, &queue);
     world::queue::retire(&mut w, queue, 0);
     end(&rt, w);
-    assert!(rt; first.is_ok() && second.is_ok() && refused == NotMade::NoSlot);
+    assert!(rt; first.is_ok() && second.is_ok());
     assert!(rt; left == (Some(5), Some(6), None));
 }
 

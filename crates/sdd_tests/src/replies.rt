@@ -16,6 +16,13 @@ pub(crate) enum Reply {
     Count(usize),
 }
 
+/// Calls that are made in a new place of so many slots and cells, and what each of them returns.
+pub(crate) struct Table<C: 'static> {
+    pub(crate) about: &'static str,
+    pub(crate) sizes: (usize, usize),
+    pub(crate) rows: &'static [(C, Reply)],
+}
+
 /// Whether a value was put in, or was returned.
 pub(crate) fn told(pushed: Result<(), u64>) -> Reply {
     match pushed {
@@ -26,8 +33,5 @@ pub(crate) fn told(pushed: Result<(), u64>) -> Reply {
 
 /// The value of an entry, if there is one.
 pub(crate) fn value_of(entry: Option<&LinkedEntry<u64>>) -> Option<u64> {
-    match entry {
-        None => None,
-        Some(entry) => Some(*entry.as_ref()),
-    }
+    Some(*entry?.as_ref())
 }

@@ -1,12 +1,11 @@
 //! Stacks: calls as data, so that a test of many calls is a table.
 
 ghost use Rattle.std.specs.Prelude.{◌<◌, length, IfOk};
-ghost use Rattle.sdd_world.specs.Place.{IsOpen};
 ghost use Rattle.world_containers.specs.Stacks.{IsSomeStack, stack_cell};
 
 use crate::places::{close, end, give, guarded, new_stack, place_of};
 use crate::replies::Reply::{Back, Count, Done, Full, Is, Listed, Value};
-use crate::replies::{Reply, told, value_of};
+use crate::replies::{Reply, Table, told, value_of};
 use crate::stacks::Call::{
     Front, IsClear, IsDeleted, IsEmpty, IsMarked, Len, Make, Pop, Push, PushFirst, RefusedPop,
     Second, SecondOwned, Three,
@@ -52,7 +51,6 @@ pub(crate) fn push(
     requires participant { 0 < length w.old.participants }
     requires list { IsSomeStack w.old (stack_cell stack.now) }
     ensures participant { 0 < length w.new.participants }
-    ensures open { IsOpen w.old 0 → IsOpen w.new 0 }
     ensures list { IsSomeStack w.new (stack_cell stack.now) }
 {
     match world::stack::push(w, stack, value) {
@@ -69,7 +67,6 @@ pub(crate) fn pop(w: &mut World<LinkedEntry<u64>>, stack: &Stack<u64>) -> Option
     requires participant { 0 < length w.old.participants }
     requires list { IsSomeStack w.old (stack_cell stack.now) }
     ensures participant { 0 < length w.new.participants }
-    ensures open { IsOpen w.old 0 → IsOpen w.new 0 }
     ensures list { IsSomeStack w.new (stack_cell stack.now) }
 {
     match world::stack::pop(w, stack, 0) {
@@ -100,7 +97,6 @@ pub(crate) fn change_first(
     requires participant { 0 < length w.old.participants }
     requires list { IsSomeStack w.old (stack_cell stack.now) }
     ensures participant { 0 < length w.new.participants }
-    ensures open { IsOpen w.old 0 → IsOpen w.new 0 }
     ensures list { IsSomeStack w.new (stack_cell stack.now) }
 {
     let first = world::stack::peek(w, stack, guard);
@@ -157,7 +153,6 @@ fn push_first(w: &mut World<LinkedEntry<u64>>, stack: &Stack<u64>, value: u64) -
     requires participant { 0 < length w.old.participants }
     requires list { IsSomeStack w.old (stack_cell stack.now) }
     ensures participant { 0 < length w.new.participants }
-    ensures open { IsOpen w.old 0 → IsOpen w.new 0 }
     ensures list { IsSomeStack w.new (stack_cell stack.now) }
 {
     let none = |first: Option<&LinkedEntry<u64>>| first.is_none();
@@ -192,7 +187,6 @@ fn refused(w: &mut World<LinkedEntry<u64>>, stack: &Stack<u64>) -> Option<u64>
     requires participant { 0 < length w.old.participants }
     requires list { IsSomeStack w.old (stack_cell stack.now) }
     ensures participant { 0 < length w.new.participants }
-    ensures open { IsOpen w.old 0 → IsOpen w.new 0 }
     ensures list { IsSomeStack w.new (stack_cell stack.now) }
 {
     let never = |_entry: &LinkedEntry<u64>| false;
@@ -219,7 +213,6 @@ fn second_owned(
     requires participant { 0 < length w.old.participants }
     requires list { IsSomeStack w.old (stack_cell stack.now) }
     ensures participant { 0 < length w.new.participants }
-    ensures open { IsOpen w.old 0 → IsOpen w.new 0 }
     ensures list { IsSomeStack w.new (stack_cell stack.now) }
 {
     let first = world::stack::peek(w, stack, guard);
@@ -247,7 +240,6 @@ fn make(
     requires participant { 0 < length w.old.participants }
     requires list { IsSomeStack w.old (stack_cell stack.now) }
     ensures participant { 0 < length w.new.participants }
-    ensures open { IsOpen w.old 0 → IsOpen w.new 0 }
     ensures list { IsSomeStack w.new (stack_cell stack.now) }
 {
     match call {
@@ -278,49 +270,11 @@ fn look(w: &World<LinkedEntry<u64>>, stack: &Stack<u64>, guard: &WorldGuard, cal
     }
 }
 
-/// Makes the calls of a table, in order: how many return what they should before the first that doesn't.
-fn play(
-    w: &mut World<LinkedEntry<u64>>,
-    stack: &Stack<u64>,
-    guard: &WorldGuard,
-    rows: &[(Call, Reply)],
-) -> usize
-    requires participant { 0 < length w.old.participants }
-    requires list { IsSomeStack w.old (stack_cell stack.now) }
-    ensures participant { 0 < length w.new.participants }
-    ensures open { IsOpen w.old 0 → IsOpen w.new 0 }
-    ensures list { IsSomeStack w.new (stack_cell stack.now) }
-{
-    let mut right = 0usize;
-    for at in 0..rows.len() {
-        let (call, wanted) = rows[at];
-        if make(w, stack, guard, call) == wanted && right == at {
-            right = right.saturating_add(1);
-        }
-    }
-    right
-}
-
-/// Makes the calls of a table on a new stack, under a guard, and ends both.
-fn on_a_stack<R: Abort>(rt: &R, alloc: Global, sizes: (usize, usize), rows: &[(Call, Reply)]) {
-    let (slots, cells) = sizes;
-    let mut w = place_of(rt, alloc, slots, cells);
-    let guard = guarded(rt, &mut w);
-    let stack = new_stack(rt, &mut w);
-    let right = play(&mut w, &stack, &guard, rows);
-    world::stack::retire(&mut w, stack, 0);
-    close(rt, &mut w, guard);
-    end(rt, w);
-    assert!(rt; right == rows.len());
-}
-
-#[test]
-fn a_stack_gives_the_newest_first(rt: HostRuntime) {
-    on_a_stack(
-        &rt,
-        rt.alloc(),
-        (3, 4),
-        &[
+const TABLES: &[Table<Call>] = &[
+    Table {
+        about: "a stack gives the newest first",
+        sizes: (3, 4),
+        rows: &[
             (IsEmpty, Is(true)),
             (Push(1), Done),
             (Push(2), Done),
@@ -331,16 +285,11 @@ fn a_stack_gives_the_newest_first(rt: HostRuntime) {
             (Pop, Value(Some(2))),
             (IsEmpty, Is(false)),
         ],
-    );
-}
-
-#[test]
-fn deleted_entries_are_passed_over(rt: HostRuntime) {
-    on_a_stack(
-        &rt,
-        rt.alloc(),
-        (4, 8),
-        &[
+    },
+    Table {
+        about: "deleted entries are passed over",
+        sizes: (4, 8),
+        rows: &[
             (Make(Delete), Is(false)),
             (Push(1), Done),
             (Push(2), Done),
@@ -353,16 +302,11 @@ fn deleted_entries_are_passed_over(rt: HostRuntime) {
             (Pop, Value(Some(1))),
             (Pop, Value(None)),
         ],
-    );
-}
-
-#[test]
-fn an_entry_has_one_tag_at_a_time(rt: HostRuntime) {
-    on_a_stack(
-        &rt,
-        rt.alloc(),
-        (1, 2),
-        &[
+    },
+    Table {
+        about: "an entry has one tag at a time",
+        sizes: (1, 2),
+        rows: &[
             (Push(1), Done),
             (IsClear, Is(true)),
             (Make(Unmark), Is(false)),
@@ -379,16 +323,11 @@ fn an_entry_has_one_tag_at_a_time(rt: HostRuntime) {
             (Make(Delete), Is(true)),
             (IsEmpty, Is(true)),
         ],
-    );
-}
-
-#[test]
-fn functions_see_the_first_undeleted_entry(rt: HostRuntime) {
-    on_a_stack(
-        &rt,
-        rt.alloc(),
-        (3, 4),
-        &[
+    },
+    Table {
+        about: "functions see the first undeleted entry",
+        sizes: (3, 4),
+        rows: &[
             (Front, Value(None)),
             (Push(5), Done),
             (Front, Value(Some(5))),
@@ -397,36 +336,32 @@ fn functions_see_the_first_undeleted_entry(rt: HostRuntime) {
             (Make(Delete), Is(true)),
             (Front, Value(Some(5))),
         ],
-    );
-}
-
-#[test]
-fn a_value_is_pushed_on_a_condition(rt: HostRuntime) {
-    on_a_stack(
-        &rt,
-        rt.alloc(),
-        (2, 3),
-        &[
+    },
+    Table {
+        about: "a value is pushed on a condition",
+        sizes: (2, 3),
+        rows: &[
             (PushFirst(5), Done),
             (PushFirst(6), Back(6)),
             (Len, Count(1)),
             (Pop, Value(Some(5))),
             (PushFirst(7), Done),
         ],
-    );
-    let full = &[(PushFirst(8), Full(8)), (IsEmpty, Is(true))];
-    // no slot is free, and then no cell
-    on_a_stack(&rt, rt.alloc(), (0, 2), full);
-    on_a_stack(&rt, rt.alloc(), (1, 1), full);
-}
-
-#[test]
-fn a_refused_pop_takes_nothing_and_its_owner_comes_back(rt: HostRuntime) {
-    on_a_stack(
-        &rt,
-        rt.alloc(),
-        (3, 4),
-        &[
+    },
+    Table {
+        about: "no value is pushed on a condition without a slot",
+        sizes: (0, 2),
+        rows: &[(PushFirst(8), Full(8)), (IsEmpty, Is(true))],
+    },
+    Table {
+        about: "no value is pushed on a condition without a cell",
+        sizes: (1, 1),
+        rows: &[(PushFirst(8), Full(8)), (IsEmpty, Is(true))],
+    },
+    Table {
+        about: "a refused pop takes nothing and its owner comes back",
+        sizes: (3, 4),
+        rows: &[
             (RefusedPop, Value(None)),
             (Push(1), Done),
             (Push(2), Done),
@@ -438,16 +373,11 @@ fn a_refused_pop_takes_nothing_and_its_owner_comes_back(rt: HostRuntime) {
             (RefusedPop, Value(Some(1))),
             (Pop, Value(Some(1))),
         ],
-    );
-}
-
-#[test]
-fn the_next_entry_is_one_that_is_not_deleted(rt: HostRuntime) {
-    on_a_stack(
-        &rt,
-        rt.alloc(),
-        (4, 5),
-        &[
+    },
+    Table {
+        about: "the next entry is one that is not deleted",
+        sizes: (4, 5),
+        rows: &[
             (Second, Value(None)),
             (Push(1), Done),
             (Second, Value(None)),
@@ -457,16 +387,11 @@ fn the_next_entry_is_one_that_is_not_deleted(rt: HostRuntime) {
             (Push(3), Done),
             (Second, Value(Some(1))),
         ],
-    );
-}
-
-#[test]
-fn an_owner_of_the_next_entry_comes_back(rt: HostRuntime) {
-    on_a_stack(
-        &rt,
-        rt.alloc(),
-        (4, 5),
-        &[
+    },
+    Table {
+        about: "an owner of the next entry comes back",
+        sizes: (4, 5),
+        rows: &[
             (SecondOwned, Value(None)),
             (Push(1), Done),
             (SecondOwned, Value(None)),
@@ -479,16 +404,11 @@ fn an_owner_of_the_next_entry_comes_back(rt: HostRuntime) {
             (Pop, Value(Some(3))),
             (Pop, Value(Some(1))),
         ],
-    );
-}
-
-#[test]
-fn a_walk_along_a_stack_gives_the_newest_first(rt: HostRuntime) {
-    on_a_stack(
-        &rt,
-        rt.alloc(),
-        (3, 4),
-        &[
+    },
+    Table {
+        about: "a walk along a stack gives the newest first",
+        sizes: (3, 4),
+        rows: &[
             (Three, Listed(None, None, None)),
             (Push(1), Done),
             (Push(2), Done),
@@ -496,23 +416,42 @@ fn a_walk_along_a_stack_gives_the_newest_first(rt: HostRuntime) {
             (Push(3), Done),
             (Three, Listed(Some(3), Some(2), Some(1))),
         ],
-    );
-}
-
-#[test]
-fn a_walk_passes_deleted_entries(rt: HostRuntime) {
-    on_a_stack(
-        &rt,
-        rt.alloc(),
-        (3, 4),
-        &[
+    },
+    Table {
+        about: "a walk passes deleted entries",
+        sizes: (3, 4),
+        rows: &[
             (Push(1), Done),
             (Push(2), Done),
             (Make(Delete), Is(true)),
             (Push(3), Done),
             (Three, Listed(Some(3), Some(1), None)),
         ],
-    );
+    },
+];
+
+/// Makes the calls of each table on a new stack, under a guard, and ends both.
+#[test]
+fn calls_of_stacks_return_what_they_should(rt: HostRuntime) {
+    for table in TABLES {
+        on_a_stack(&rt, rt.alloc(), table);
+    }
+}
+
+fn on_a_stack<R: Abort>(rt: &R, alloc: Global, table: &Table<Call>) {
+    let (slots, cells) = table.sizes;
+    let mut w = place_of(rt, alloc, slots, cells);
+    let guard = guarded(rt, &mut w);
+    let stack = new_stack(rt, &mut w);
+    let mut right = true;
+    for (call, wanted) in table.rows {
+        right = make(&mut w, &stack, &guard, *call) == *wanted && right;
+    }
+    world::stack::retire(&mut w, stack, 0);
+    close(rt, &mut w, guard);
+    end(rt, w);
+    let about = table.about;
+    assert!(rt; right, "{about}");
 }
 
 #[test]
@@ -523,7 +462,7 @@ fn all_entries_move_to_another_stack(rt: HostRuntime) {
     let second = push(&mut w, &stack, 2);
     let other = match moved(&mut w, stack) {
         Ok(other) => other,
-        Err(_) => panic!(rt; "a cell is free"),
+        _ => panic!(rt; "a cell is free"),
     };
     let len = world::stack::len(&w, &other);
     let front = pop(&mut w, &other);

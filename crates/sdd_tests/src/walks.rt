@@ -1,51 +1,49 @@
 //! Walks along containers, and entries beside each other.
 
 ghost use Rattle.std.specs.Prelude.{◌<◌, length};
-ghost use Rattle.sdd_world.specs.Place.{IsOpen};
+ghost use Rattle.world_containers.specs.Chain.{Hangs};
 ghost use Rattle.world_containers.specs.Entries.{entry_link};
+ghost use Rattle.world_containers.specs.Iters.{iter_cell};
 ghost use Rattle.world_containers.specs.Stacks.{IsSomeStack, stack_cell};
 ghost use Rattle.world_containers.specs.Queues.{IsSomeQueue, oldest_cell, newest_cell};
 
 use crate::entries::retire;
-use crate::places::{close, end, give, guarded, new_queue, new_stack, place_of};
-use crate::queues::append;
-use crate::stacks::push;
+use crate::filled::{queue_of, stack_of};
+use crate::places::{close, end, give, guarded, place_of};
 use sdd_world::guard::WorldGuard;
 use sdd_world::owner::Shared;
 use sdd_world::world::World;
 use std::alloc::Global;
 use std::process::Abort;
+use world_containers::iter::Iter;
 use world_containers::linked_entry::LinkedEntry;
 use world_containers::queue::Queue;
 use world_containers::stack::Stack;
 use world_containers::world;
 
-/// The first three values that a walk along a stack gives.
-pub(crate) fn three_of_stack(
-    w: &World<LinkedEntry<u64>>,
-    stack: &Stack<u64>,
-) -> (Option<u64>, Option<u64>, Option<u64>)
-    requires { IsSomeStack w.now (stack_cell stack.now) }
+/// Three values of a container, or fewer.
+pub(crate) type Three = (Option<u64>, Option<u64>, Option<u64>);
+
+/// The first three values that a walk gives.
+fn three(w: &World<LinkedEntry<u64>>, mut iter: Iter<u64>) -> Three
+    requires { Hangs entry_link w.now (iter_cell iter) }
 {
-    let mut iter = world::stack::iter(w, stack);
     let first = world::iter::next(w, &mut iter).copied();
     let second = world::iter::next(w, &mut iter).copied();
     let third = world::iter::next(w, &mut iter).copied();
     (first, second, third)
 }
 
-/// The first three values that a walk along a queue gives.
-pub(crate) fn three_of_queue(
-    w: &World<LinkedEntry<u64>>,
-    queue: &Queue<u64>,
-) -> (Option<u64>, Option<u64>, Option<u64>)
+pub(crate) fn three_of_stack(w: &World<LinkedEntry<u64>>, stack: &Stack<u64>) -> Three
+    requires { IsSomeStack w.now (stack_cell stack.now) }
+{
+    three(w, world::stack::iter(w, stack))
+}
+
+pub(crate) fn three_of_queue(w: &World<LinkedEntry<u64>>, queue: &Queue<u64>) -> Three
     requires { IsSomeQueue entry_link w.now (oldest_cell queue.now) (newest_cell queue.now) }
 {
-    let mut iter = world::queue::iter(w, queue);
-    let first = world::iter::next(w, &mut iter).copied();
-    let second = world::iter::next(w, &mut iter).copied();
-    let third = world::iter::next(w, &mut iter).copied();
-    (first, second, third)
+    three(w, world::queue::iter(w, queue))
 }
 
 /// Whether there is an owner of the second undeleted entry to be had, which is given back.
@@ -58,7 +56,6 @@ fn second_is_shared<R: Abort>(
     requires participant { 0 < length w.old.participants }
     requires list { IsSomeStack w.old (stack_cell stack) }
     ensures participant { 0 < length w.new.participants }
-    ensures open { IsOpen w.old 0 → IsOpen w.new 0 }
 {
     let first = world::stack::peek(w, &stack, guard);
     match w.read(&first) {
@@ -80,13 +77,11 @@ fn second_is_shared<R: Abort>(
 fn the_next_entry_is_shared(rt: HostRuntime) {
     let mut w = place_of(&rt, rt.alloc(), 4, 6);
     let guard = guarded(&rt, &mut w);
-    let stack = new_stack(&rt, &mut w);
-    let first = push(&mut w, &stack, 1);
-    let second = push(&mut w, &stack, 2);
+    let stack = stack_of(&rt, &mut w, 1..3);
     let shared = second_is_shared(&rt, &mut w, stack, &guard);
     close(&rt, &mut w, guard);
     end(&rt, w);
-    assert!(rt; first.is_ok() && second.is_ok() && shared);
+    assert!(rt; shared);
 }
 
 /// Whether two entries of 5 are written as their value.
@@ -116,18 +111,16 @@ fn entries_are_equal_by_value(rt: HostRuntime) {
 #[test]
 fn a_queue_is_popped_on_a_condition(rt: HostRuntime) {
     let mut w = place_of(&rt, rt.alloc(), 2, 5);
-    let queue = new_queue(&rt, &mut w);
-    let appended_5 = append(&mut w, &queue, 5);
-    let appended_6 = append(&mut w, &queue, 6);
+    let queue = queue_of(&rt, &mut w, 5..7);
     let six = |entry: &LinkedEntry<u64>| *entry.as_ref() == 6;
     let refused = match world::queue::pop_if(&mut w, &queue, 0, six) {
-        Err(owner) => owner,
-        Ok(_) => panic!(rt; "the oldest is another"),
+        Err(refused) => refused,
+        _ => panic!(rt; "the oldest is another"),
     };
     let before = three_of_queue(&w, &queue);
     let five = |entry: &LinkedEntry<u64>| *entry.as_ref() == 5;
     let popped = match world::queue::pop_if(&mut w, &queue, 0, five) {
-        Ok(Some(owner)) => owner,
+        Ok(Some(popped)) => popped,
         _ => panic!(rt; "the oldest is this one"),
     };
     let after = three_of_queue(&w, &queue);
@@ -135,6 +128,5 @@ fn a_queue_is_popped_on_a_condition(rt: HostRuntime) {
     give(&rt, &mut w, refused);
     give(&rt, &mut w, popped);
     end(&rt, w);
-    assert!(rt; appended_5.is_ok() && appended_6.is_ok());
     assert!(rt; before == (Some(5), Some(6), None) && after == (Some(6), None, None));
 }

@@ -1,11 +1,9 @@
 //! Containers of a place that defers no jobs, by the names at the root.
 
-ghost use Rattle.std.specs.Prelude.{◌≤◌, ◌<◌, length};
-
+use crate::places::{end, place_of};
 use sdd_world::owner::Shared;
-use std::alloc::Global;
 use std::process::Abort;
-use world_containers::{LinkedEntry, NoJob, Sizes, World, sdd_world, world};
+use world_containers::{LinkedEntry, NoJob, World, sdd_world, world};
 
 /// A place of numbers in lists, without jobs.
 type Place = World<LinkedEntry<u64>, NoJob>;
@@ -18,34 +16,9 @@ fn give<R: Abort>(rt: &R, w: &mut Place, owner: Shared<LinkedEntry<u64>>) {
     sdd_world::world::shared::release(w, owner, 0);
 }
 
-/// Ends a place in which nothing is left.
-fn end<R: Abort>(rt: &R, w: Place) {
-    match w.close() {
-        Ok(()) => {}
-        Err(_) => panic!(rt; "something is left"),
-    }
-}
-
-/// A place with one participant and two slots.
-fn place<R: Abort>(rt: &R, alloc: Global, cells: usize) -> Place
-    requires { cells ≤ 5 }
-    ensures { 0 < length result.participants }
-{
-    let sizes = Sizes {
-        participants: 1,
-        slots: 2,
-        cells,
-        jobs: 0,
-    };
-    match World::new(alloc, sizes) {
-        Ok(w) => w,
-        Err(_) => panic!(rt; "memory is ample"),
-    }
-}
-
 #[test]
 fn a_place_without_jobs_has_a_queue(rt: HostRuntime) {
-    let mut w = place(&rt, rt.alloc(), 4);
+    let mut w: Place = place_of(&rt, rt.alloc(), 2, 4);
     let Ok(queue) = world::queue::new(&mut w) else {
         panic!(rt; "two cells are free");
     };
@@ -56,9 +29,8 @@ fn a_place_without_jobs_has_a_queue(rt: HostRuntime) {
         panic!(rt; "a slot and a cell are free");
     };
     let len = world::queue::len(&w, &queue);
-    let popped = match world::queue::pop(&mut w, &queue, 0) {
-        Some(popped) => popped,
-        None => panic!(rt; "it has two values"),
+    let Some(popped) = world::queue::pop(&mut w, &queue, 0) else {
+        panic!(rt; "it has two values");
     };
     let value = *sdd_world::world::shared::as_ref(&w, &popped).as_ref();
     world::queue::retire(&mut w, queue, 0);
@@ -71,7 +43,7 @@ fn a_place_without_jobs_has_a_queue(rt: HostRuntime) {
 
 #[test]
 fn a_place_without_jobs_has_a_stack_and_a_bag(rt: HostRuntime) {
-    let mut w = place(&rt, rt.alloc(), 5);
+    let mut w: Place = place_of(&rt, rt.alloc(), 2, 5);
     let Ok(stack) = world::stack::new(&mut w) else {
         panic!(rt; "a cell is free");
     };

@@ -1,11 +1,10 @@
 //! Values of bags that are written where they are.
 
 ghost use Rattle.std.specs.Prelude.{◌<◌, length};
-ghost use Rattle.sdd_world.specs.Place.{IsOpen};
 ghost use Rattle.world_containers.specs.Bags.{IsSomeBag, bag_cells};
 
-use crate::bags::Call::{self, Push, TryPush};
-use crate::bags::{play, pop, six_pops};
+use crate::bags::Call::{self, TryPush};
+use crate::bags::{THREE, play, pop, six_pops};
 use crate::filled::bag_of;
 use crate::places::{close, end, guarded, new_bag, place_of};
 use crate::replies::Reply::{self, Done};
@@ -45,8 +44,6 @@ fn raise<R: Abort, const N: usize>(
     }
     100
 }
-
-const THREE: &[(Call, Reply)] = &[(Push(1), Done), (Push(2), Done), (Push(3), Done)];
 
 #[test]
 fn each_value_is_written(rt: HostRuntime) {
@@ -165,7 +162,6 @@ fn is_refused<const N: usize>(w: &mut World<LinkedEntry<u64>>, bag: &Bag<u64, N>
     requires participant { 0 < length w.old.participants }
     requires list { IsSomeBag N w.old (bag_cells bag.now) }
     ensures participant { 0 < length w.new.participants }
-    ensures open { IsOpen w.old 0 → IsOpen w.new 0 }
     ensures list { IsSomeBag N w.new (bag_cells bag.now) }
 {
     let _walk = match w.iter_mut(bag) {

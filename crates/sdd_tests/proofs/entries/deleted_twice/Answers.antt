@@ -1,5 +1,4 @@
-use Rattle.std.proofs.Common.{arith, refl, sym, subst}
-use Rattle.sdd_world.specs.Place.{IsOpen}
+use Rattle.std.proofs.Common.{refl, sym, subst}
 use Rattle.sdd_world.specs.State.{State}
 use Rattle.sdd_world.specs.Tokens.{ptr_slot, shared_slot}
 use Rattle.sdd_world.specs.declared.tag.Tag.TheVariants as tag
@@ -22,8 +21,3 @@ is_deleted-is_deleted-requires-after_bounds g c κs =
     let now = made_named c.args.w.now c.made-entry.new.w _ (shared_slot c.made-entry.result) (ptr_slot c.get_guarded_ptr-still.result) m c.get_guarded_ptr-still.ensures.slot in
     let n = retagged_named entry_link c.made-entry.new.w c.delete_self.new.w tag.Second (ptr_slot c.get_guarded_ptr-still.result) m.entry now (c.if-not-delete_self.ensures.deleted refl m.entry is) in
     subst (λ (v : State _). NamesSomeEntry entry_link v (ptr_slot c.get_guarded_ptr-still.result)) (sym c.delete_again-again.ensures.kept) (record { entry = record m.entry { tag = tag.Second }; is = n })
-
-pub returns-clause-open : goal.returns-clause-open
-returns-clause-open g c = λ o.
-    let now : IsOpen c.delete_self.new.w 0 = let a = c.made-entry.ensures.stays.nests 0 in let d = c.delete_self.ensures.stays.nests 0 in omega (arith, o, a, d) in
-    c.give.ensures.«open» (subst (λ (v : State _). IsOpen v 0) (sym c.delete_again-again.ensures.kept) now)

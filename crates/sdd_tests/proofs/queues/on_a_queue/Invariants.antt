@@ -1,10 +1,10 @@
 use Rattle.std.proofs.Common.{◌<◌, length}
 use Rattle.world_containers.specs.Entries.{entry_link}
 use Rattle.world_containers.specs.Queues.{IsSomeQueue, oldest_cell, newest_cell}
-use Rattle.sdd_tests.proofs.random_calls.a_queue_of_values_and_its_clones_are_a_list.Given as goal
+use Rattle.sdd_tests.proofs.queues.on_a_queue.Given as goal
 
-abbrev pub invariant-loop-step : goal.invariant-loop-step
-invariant-loop-step g l = record {
+abbrev pub invariant-loop-call : goal.invariant-loop-call
+invariant-loop-call g l = record {
   participant : 0 < length l.w.participants;
   list : IsSomeQueue entry_link l.w (oldest_cell l.queue) (newest_cell l.queue);
 }

@@ -1,9 +1,9 @@
 use Rattle.std.proofs.Common.{◌<◌, length}
 use Rattle.world_containers.specs.Stacks.{IsSomeStack, stack_cell}
-use Rattle.sdd_tests.proofs.random_calls.a_stack_of_values_and_its_clones_are_a_list.Given as goal
+use Rattle.sdd_tests.proofs.stacks.on_a_stack.Given as goal
 
-abbrev pub invariant-loop-step : goal.invariant-loop-step
-invariant-loop-step g l = record {
+abbrev pub invariant-loop-call : goal.invariant-loop-call
+invariant-loop-call g l = record {
   participant : 0 < length l.w.participants;
   list : IsSomeStack l.w (stack_cell l.stack);
 }
