@@ -8,6 +8,12 @@ pub(crate) fn stirred(seed: u64) -> u64 {
         .wrapping_add(1442695040888963407)
 }
 
+/// A pair that is lent, copied.
+pub(crate) fn read(pair: Option<(&u64, &u64)>) -> Option<(u64, u64)> {
+    let (key, val) = pair?;
+    Some((*key, *val))
+}
+
 /// A condition that may be asked of numbers up to 5 alone.
 pub(crate) fn lacks_three(val: &u64) -> bool
     requires { val.now ≤ 5 }

@@ -16,7 +16,6 @@ mod refusals;
 mod removal;
 mod runs;
 mod shrink;
-mod tables;
 mod text;
 
 /// A tree of numbers.

@@ -1,7 +1,7 @@
 //! Calls of an array as data, so that a test of many calls is a table: each call with what it answers.
 
 use super::{cut, edit, holding, range, slot};
-use crate::numbers::always;
+use crate::numbers::{always, read};
 use leaf_array::{Array, InsertResult, RemoveResult};
 use std::ops::Bound;
 
@@ -90,65 +90,10 @@ fn insert_by_slot(array: &mut Array<u64, u64>, key: u64, val: u64) -> Told {
     }
 }
 
-/// Removes the pair in a slot, if it can be reached.
-fn remove_slot(array: &mut Array<u64, u64>, slot: u8) -> Told {
-    if array.rank_of(slot) == 0 {
-        return Told::Removed(RemoveResult::Fail);
-    }
-    Told::Removed(array.remove_unchecked(slot))
-}
-
-fn push_last(array: &mut Array<u64, u64>, key: u64, val: u64) -> Told {
-    if array.used() == 15 || array.lower_bound(&key).0 != array.len() {
-        return Told::Is(false);
-    }
-    array.push_last(key, val);
-    Told::Done
-}
-
-fn bury(array: &mut Array<u64, u64>, at: usize) -> Told {
-    if at >= array.len() {
-        return Told::Is(false);
-    }
-    array.bury(at);
-    Told::Done
-}
-
-fn freeze(array: &mut Array<u64, u64>) -> Told {
-    if array.is_frozen() {
-        return Told::Is(false);
-    }
-    Told::Number(array.freeze())
-}
-
-fn unfreeze(array: &mut Array<u64, u64>) -> Told {
-    if !array.is_frozen() {
-        return Told::Is(false);
-    }
-    array.unfreeze();
-    Told::Done
-}
-
-pub(super) fn copied(pair: Option<(&u64, &u64)>) -> Option<(u64, u64)> {
-    match pair {
-        Some((key, val)) => Some((*key, *val)),
-        None => None,
-    }
-}
-
-fn least(array: &Array<u64, u64>, key: u64) -> (Option<u64>, usize) {
-    let (val, word) = array.min_greater_equal(&key);
-    (val.copied(), word)
-}
-
-fn lower(array: &Array<u64, u64>, key: u64) -> (usize, Option<(u64, u64)>) {
-    let (place, pair) = array.lower_bound(&key);
-    (place, copied(pair))
-}
-
 /// A call that changes nothing.
 fn look(array: &Array<u64, u64>, call: Call) -> Told {
     match call {
+        Call::Len => Told::Number(array.len()),
         Call::IsEmpty => Told::Is(array.is_empty()),
         Call::IsFull => Told::Is(array.is_full()),
         Call::IsRetired => Told::Is(array.is_retired()),
@@ -156,13 +101,30 @@ fn look(array: &Array<u64, u64>, call: Call) -> Told {
         Call::Metadata => Told::Number(array.metadata()),
         Call::LastRemoved => Told::Part(array.last_removed().copied()),
         Call::SearchVal(key) => Told::Part(array.search_val(&key).copied()),
-        Call::MinGreaterEqual(key) => Told::Part(least(array, key).0),
-        Call::MinWord(key) => Told::Number(least(array, key).1),
-        Call::LowerBound(key) => Told::Number(lower(array, key).0),
-        Call::LowerPair(key) => Told::Pair(lower(array, key).1),
-        Call::Pair(at) => Told::Pair(copied(array.pair(at))),
-        _ => Told::Number(array.len()),
+        Call::MinGreaterEqual(key) => Told::Part(array.min_greater_equal(&key).0.copied()),
+        Call::MinWord(key) => Told::Number(array.min_greater_equal(&key).1),
+        Call::LowerBound(key) => Told::Number(array.lower_bound(&key).0),
+        Call::LowerPair(key) => Told::Pair(read(array.lower_bound(&key).1)),
+        Call::Pair(at) => Told::Pair(read(array.pair(at))),
+        _ => Told::Is(false),
     }
+}
+
+/// A call that answers nothing, if what it requires is met.
+fn act(array: &mut Array<u64, u64>, call: Call) -> Told {
+    match call {
+        Call::RemoveRange(low, high) => array.remove_range(low.as_ref(), high.as_ref()),
+        Call::PushLast(key, val)
+            if array.used() != 15 && array.lower_bound(&key).0 == array.len() => array.push_last(
+            key, val,
+        ),
+        Call::Bury(at) if at < array.len() => array.bury(at),
+        Call::Pack => array.pack(),
+        Call::Unfreeze if array.is_frozen() => array.unfreeze(),
+        Call::NewFrozen => *array = Array::new_frozen(),
+        _ => return look(array, call),
+    }
+    Told::Done
 }
 
 /// Makes a call.
@@ -174,34 +136,20 @@ pub(super) fn make(array: &mut Array<u64, u64>, call: Call) -> Told {
         Call::PutOver(key, val) => inserted(array.put::<true>(key, val)),
         Call::Remove(key) => Told::Removed(array.remove_if(&key, always)),
         Call::Spare(key) => Told::Removed(array.remove_if(&key, |_| false)),
-        Call::RemoveRange(low, high) => {
-            array.remove_range(low.as_ref(), high.as_ref());
-            Told::Done
-        }
         Call::InsertBySlot(key, val) => insert_by_slot(array, key, val),
-        Call::RemoveSlot(slot) => remove_slot(array, slot),
-        Call::PushLast(key, val) => push_last(array, key, val),
+        Call::RemoveSlot(slot) if array.rank_of(slot) != 0 => Told::Removed(array.remove_unchecked(
+            slot,
+        )),
         Call::PopLast => Told::Pair(array.pop_last()),
-        Call::Bury(at) => bury(array, at),
-        Call::Pack => {
-            array.pack();
-            Told::Done
-        }
-        Call::Freeze => freeze(array),
-        Call::Unfreeze => unfreeze(array),
-        Call::NewFrozen => {
-            *array = Array::new_frozen();
-            Told::Done
-        }
-        _ => look(array, call),
+        Call::Freeze if !array.is_frozen() => Told::Number(array.freeze()),
+        _ => act(array, call),
     }
 }
 
 /// Makes the calls of a table, in order, and returns the place of the first that is answered otherwise.
 pub(super) fn first_other(array: &mut Array<u64, u64>, rows: &[(Call, Told)]) -> Option<usize> {
-    for at in 0..rows.len() {
-        let (call, wanted) = rows[at];
-        if make(array, call) != wanted {
+    for (at, (call, wanted)) in rows.iter().enumerate() {
+        if make(array, *call) != *wanted {
             return Some(at);
         }
     }
@@ -211,34 +159,11 @@ pub(super) fn first_other(array: &mut Array<u64, u64>, rows: &[(Call, Told)]) ->
 /// Keys, and the calls of an array of them, each its own value.
 pub(super) type Table = (&'static [u64], &'static [(Call, Told)]);
 
-const TABLES: &[Table] = &[
-    edit::WITH_A_TOMBSTONE,
-    edit::REMOVED_LAST,
-    edit::UPSERTED,
-    edit::PUT,
-    edit::RETIRED,
-    edit::FROZEN,
-    edit::BETWEEN,
-    edit::PUSHED,
-    edit::BURIED,
-    cut::TAKEN,
-    range::FROZEN,
-    range::OPEN,
-    range::EMPTY,
-    range::IN_THE_MIDDLE,
-    slot::DRY_RUNS,
-    slot::REMOVED_SLOTS,
-    slot::FROZEN_SLOT,
-    slot::REOPENED,
-];
-
 /// The place of the first table that has a call that is answered otherwise, and the place of that call.
-fn first_other_of() -> Option<(usize, usize)> {
-    for at in 0..TABLES.len() {
-        let (keys, rows) = TABLES[at];
-        match first_other(&mut holding(keys), rows) {
-            Some(row) => return Some((at, row)),
-            None => {}
+fn first_other_of(tables: &[Table]) -> Option<(usize, usize)> {
+    for (at, (keys, rows)) in tables.iter().enumerate() {
+        if let Some(row) = first_other(&mut holding(keys), rows) {
+            return Some((at, row));
         }
     }
     None
@@ -246,5 +171,11 @@ fn first_other_of() -> Option<(usize, usize)> {
 
 #[test]
 fn arrays_answer_as_the_tables_say(rt: HostRuntime) {
-    assert_eq!(rt; first_other_of(), None);
+    let others = [
+        first_other_of(edit::TABLES),
+        first_other_of(cut::TABLES),
+        first_other_of(range::TABLES),
+        first_other_of(slot::TABLES),
+    ];
+    assert!(rt; others == [None; 4]);
 }

@@ -54,16 +54,18 @@ fn an_array_is_cut_at_each_boundary(rt: HostRuntime) {
     assert!(rt; cut);
 }
 
-/// The greatest pair is taken out.
-pub(super) const TAKEN: Table = (
-    &[3, 1, 2],
-    &[
-        (Remove(2), Removed(RemoveResult::Success)),
-        (PopLast, Told::Pair(Some((3, 3)))),
-        (Pair(0), Told::Pair(Some((1, 1)))),
-        (Pair(1), Told::Pair(None)),
-        (Pair(15), Told::Pair(None)),
-        (PopLast, Told::Pair(Some((1, 1)))),
-        (PopLast, Told::Pair(None)),
-    ],
-);
+pub(super) const TABLES: &[Table] = &[
+    // the greatest pair is taken out
+    (
+        &[3, 1, 2],
+        &[
+            (Remove(2), Removed(RemoveResult::Success)),
+            (PopLast, Told::Pair(Some((3, 3)))),
+            (Pair(0), Told::Pair(Some((1, 1)))),
+            (Pair(1), Told::Pair(None)),
+            (Pair(15), Told::Pair(None)),
+            (PopLast, Told::Pair(Some((1, 1)))),
+            (PopLast, Told::Pair(None)),
+        ],
+    ),
+];

@@ -19,17 +19,11 @@ const NAMES: &[(RemoveResult, &str)] = &[
     (RemoveResult::Frozen, "Frozen"),
 ];
 
-/// Whether each result is written by its name.
-fn are_named(alloc: Global) -> bool {
-    let mut named = true;
-    for (told, name) in NAMES {
-        named = is_written(alloc, told, name) && named;
-    }
-    named
-}
-
 #[test]
 fn results_are_written_by_their_names(rt: HostRuntime) {
-    let sized = is_written(rt.alloc(), &DIMENSION, "Dimension { len: 15, bits: 4 }");
-    assert!(rt; sized && are_named(rt.alloc()));
+    let mut named = is_written(rt.alloc(), &DIMENSION, "Dimension { len: 15, bits: 4 }");
+    for (told, name) in NAMES {
+        named = is_written(rt.alloc(), told, name) && named;
+    }
+    assert!(rt; named);
 }

@@ -73,30 +73,22 @@ fn falling(array: &Texts) -> u64 {
     slots
 }
 
-/// Whether a full array gives a pair back, and keeps what a removal isn't to take.
-fn is_full(array: &mut Texts) -> bool {
-    let back = repeats(array, "13") == Some(false);
-    let spared = remove(array, "0", "1") == RemoveResult::Fail;
-    let absent = remove(array, "13", "13") == RemoveResult::Fail;
-    back && spared && absent && array.len() == 15
-}
-
-/// Whether an array without five of its texts has the others, ordered as text, and still no place.
-fn has_the_others(array: &mut Texts) -> bool {
-    let repeated = repeats(array, "1") == Some(true);
-    let refused = repeats(array, "100") == Some(false);
-    let found = is_itself(array, "7") == Some(true) && is_itself(array, "10").is_none();
-    repeated && refused && found && array.len() == 10
-}
-
 #[test]
 fn text_keys_are_ordered_as_text(rt: HostRuntime) {
     let mut array = texts(TEXTS);
-    let full = is_full(&mut array);
+    // a full array gives a pair back, and keeps what a removal isn't to take
+    let back = repeats(&mut array, "13") == Some(false);
+    let spared = remove(&mut array, "0", "1") == RemoveResult::Fail;
+    let absent = remove(&mut array, "13", "13") == RemoveResult::Fail;
+    assert!(rt; back && spared && absent && array.len() == 15);
     let gone = loses(&mut array, &["10", "11", "12", "G", "M"]);
     // the slots of "0" to "9"
     let ranked = rising(&array) == 0x3056749AB8 && falling(&array) == 0x8BA9476503;
-    assert!(rt; full && gone && ranked && has_the_others(&mut array));
+    // no place is free yet
+    let repeated = repeats(&mut array, "1") == Some(true);
+    let refused = repeats(&mut array, "100") == Some(false);
+    let found = is_itself(&array, "7") == Some(true) && is_itself(&array, "10").is_none();
+    assert!(rt; gone && ranked && repeated && refused && found && array.len() == 10);
 }
 
 #[test]

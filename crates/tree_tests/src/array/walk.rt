@@ -165,8 +165,11 @@ fn what_may_be_shown_few_slots_serves(rt: HostRuntime) {
     assert!(rt; shown.is_ok() && !dealt && left == 0);
 }
 
-/// The slots that are shown where the array isn't frozen, and where it is, each a hexadecimal digit.
-fn shown_slots(array: &Array<u64, u64>) -> (u64, u64) {
+#[test]
+fn reachable_slots_are_shown_rising(rt: HostRuntime) {
+    let mut array = holding(&[10, 20, 30, 40, 50]);
+    let gone = make(&mut array, Remove(20)) == GONE;
+    // each slot a hexadecimal digit
     let mut open: u64 = 0;
     let mut frozen: u64 = 0;
     array.for_each_pos(
@@ -174,15 +177,8 @@ fn shown_slots(array: &Array<u64, u64>) -> (u64, u64) {
         |slot| open = open.wrapping_mul(16).wrapping_add(u64::from(slot)),
     );
     array.for_each_pos(|frozen| frozen, |slot| frozen = u64::from(slot));
-    (open, frozen)
-}
-
-#[test]
-fn reachable_slots_are_shown_rising(rt: HostRuntime) {
-    let mut array = holding(&[10, 20, 30, 40, 50]);
-    let gone = make(&mut array, Remove(20)) == GONE;
     // slot 2 had the removed pair
-    assert!(rt; gone && shown_slots(&array) == (0x135, 0));
+    assert!(rt; gone && (open, frozen) == (0x135, 0));
 }
 
 #[test]

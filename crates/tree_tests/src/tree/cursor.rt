@@ -1,15 +1,18 @@
 //! Cursors by example, and beside a plain machine over a list.
 
 use self::Step::{Flip, Get, GetBack, Next, NextBack};
-use super::calls::Call::{CountWithin, Fill};
+use super::calls::Act::Fill;
+use super::calls::Call::{All, CountWithin};
 use super::calls::Told::{Is, Number};
-use super::calls::{Call, Pairs, Seen, Told, read};
-use super::each_call::{clear, empty, remove, upsert, val_of};
-use super::removal::{is_from, is_up_to};
+use super::calls::{Call, Pairs, SAME, Seen, Told};
+use super::each_call::{clear, empty, iter_of, range_of, remove, upsert, val_of};
+use super::removal::is_within;
 use super::{Tree, tree_of};
-use crate::numbers::stirred;
+use crate::numbers::{read, stirred};
 use std::alloc::{AllocError, Global};
+use std::mem;
 use std::ops::Bound;
+use std::test::Fail;
 use tree_index::{Iter, Proximity, Range};
 
 /// A call of a cursor.
@@ -23,16 +26,12 @@ enum Step {
     GetBack,
 }
 
-fn turned(flipped: bool) -> Seen {
-    if flipped { Some((0, 0)) } else { None }
-}
-
 /// Takes a step of a cursor.
 fn take(iter: &mut Iter<'_, u64, u64>, step: Step) -> Seen {
     match step {
         Next => read(iter.next()),
         NextBack => read(iter.next_back()),
-        Flip => turned(iter.flip()),
+        Flip => iter.flip().then_some((0, 0)),
         Get => read(iter.get()),
         GetBack => read(iter.get_back()),
     }
@@ -43,7 +42,7 @@ fn take_within(range: &mut Range<'_, u64, u64>, step: Step) -> Seen {
     match step {
         Next => read(range.next()),
         NextBack => read(range.next_back()),
-        Flip => turned(range.flip()),
+        Flip => range.flip().then_some((0, 0)),
         Get => read(range.get()),
         GetBack => read(range.get_back()),
     }
@@ -51,9 +50,8 @@ fn take_within(range: &mut Range<'_, u64, u64>, step: Step) -> Seen {
 
 /// Takes the steps of a table, in order, and returns the place of the first that gives something else.
 fn first_other_step(iter: &mut Iter<'_, u64, u64>, rows: &[(Step, Seen)]) -> Option<usize> {
-    for at in 0..rows.len() {
-        let (one, wanted) = rows[at];
-        if take(iter, one) != wanted {
+    for (at, (step, wanted)) in rows.iter().enumerate() {
+        if take(iter, *step) != *wanted {
             return Some(at);
         }
     }
@@ -61,9 +59,8 @@ fn first_other_step(iter: &mut Iter<'_, u64, u64>, rows: &[(Step, Seen)]) -> Opt
 }
 
 fn first_other_within(range: &mut Range<'_, u64, u64>, rows: &[(Step, Seen)]) -> Option<usize> {
-    for at in 0..rows.len() {
-        let (one, wanted) = rows[at];
-        if take_within(range, one) != wanted {
+    for (at, (step, wanted)) in rows.iter().enumerate() {
+        if take_within(range, *step) != *wanted {
             return Some(at);
         }
     }
@@ -97,23 +94,16 @@ const THREE: &[(u64, u64)] = &[(1, 2), (2, 2), (3, 2)];
 
 const FOUR: &[(u64, u64)] = &[(1, 2), (2, 2), (3, 2), (4, 2)];
 
-/// The place of the first step along a cursor over these pairs that gives something else.
-fn first_other_along(alloc: Global, pairs: &[(u64, u64)], rows: &[(Step, Seen)]) -> Option<usize> {
-    first_other_step(&mut tree_of(alloc, pairs).iter(), rows)
-}
-
-/// The same along a range of four pairs, which flips at its bounds.
-fn first_other_of_four(alloc: Global) -> Option<usize> {
-    let tree = tree_of(alloc, FOUR);
-    let mut range = tree.range(Bound::Included(&1), Bound::Excluded(&4));
-    first_other_within(&mut range, TURNS)
-}
-
 #[test]
 fn both_ends_go_through_three_pairs(rt: HostRuntime) {
-    let turned = first_other_along(rt.alloc(), THREE, TURNS);
-    let done = first_other_along(rt.alloc(), THREE, UNTIL_IT_IS_DONE);
-    assert!(rt; [turned, done, first_other_of_four(rt.alloc())] == [None; 3]);
+    let three = tree_of(rt.alloc(), THREE);
+    let turned = first_other_step(&mut iter_of(&three), TURNS);
+    let done = first_other_step(&mut iter_of(&three), UNTIL_IT_IS_DONE);
+    // a range flips at its bounds
+    let four = tree_of(rt.alloc(), FOUR);
+    let (lower, upper) = (Bound::Included(1), Bound::Excluded(4));
+    let within = first_other_within(&mut range_of(&four, &lower, &upper), TURNS);
+    assert!(rt; [turned, done, within] == [None; 3]);
 }
 
 const DOUBLING: &[(u64, u64)] = &[(1, 2), (2, 3), (4, 6), (8, 12)];
@@ -130,23 +120,14 @@ const AT_ITS_END: &[(Step, Seen)] = &[
     (GetBack, Some((4, 6))),
 ];
 
-/// The first step of each of these that gives something else.
-fn within_and_beyond(tree: &Tree) -> [Option<usize>; 3] {
-    let mut range = tree.range(Bound::Included(&3), Bound::Included(&4));
-    let within = first_other_within(&mut range, WITHIN);
-    let beyond = first_other_step(&mut Iter::from(range.clone()), BEYOND);
-    [within, beyond, first_other_within(&mut range, AT_ITS_END)]
-}
-
 /// How many pairs at most are taken from 2 on, and how many come.
 const TAKEN: &[(usize, usize)] = &[(0, 0), (2, 2), (3, 3), (9, 3)];
 
 /// The place of the first row of which another number comes.
 fn first_other_count(tree: &Tree) -> Option<usize> {
-    for at in 0..TAKEN.len() {
-        let (count, given) = TAKEN[at];
-        let range = tree.range(Bound::Included(&2), Bound::Unbounded);
-        if range.take(count).count() != given {
+    for (at, (count, given)) in TAKEN.iter().enumerate() {
+        let range = range_of(tree, &Bound::Included(2), &Bound::Unbounded);
+        if range.take(*count).count() != *given {
             return Some(at);
         }
     }
@@ -155,30 +136,28 @@ fn first_other_count(tree: &Tree) -> Option<usize> {
 
 /// Two steps of a cursor that gives one pair, and one behind all pairs.
 fn taken_one(tree: &Tree) -> [Seen; 3] {
-    let mut first = tree.iter().take(1);
-    let mut beyond = tree.range(Bound::Excluded(&8), Bound::Unbounded).take(1);
+    let mut first = iter_of(tree).take(1);
+    let mut beyond = range_of(tree, &Bound::Excluded(8), &Bound::Unbounded).take(1);
     [read(first.next()), read(first.next()), read(beyond.next())]
 }
 
 #[test]
 fn a_range_keeps_to_its_bounds_and_to_what_is_taken(rt: HostRuntime) {
     let tree = tree_of(rt.alloc(), DOUBLING);
-    let kept = within_and_beyond(&tree) == [None; 3] && first_other_count(&tree).is_none();
-    assert!(rt; kept && taken_one(&tree) == [Some((1, 2)), None, None]);
+    let (lower, upper) = (Bound::Included(3), Bound::Included(4));
+    let mut range = range_of(&tree, &lower, &upper);
+    let within = first_other_within(&mut range, WITHIN);
+    let beyond = first_other_step(&mut Iter::from(range.clone()), BEYOND);
+    let ends = first_other_within(&mut range, AT_ITS_END);
+    assert!(rt; [within, beyond, ends, first_other_count(&tree)] == [None; 4]);
+    assert!(rt; taken_one(&tree) == [Some((1, 2)), None, None]);
 }
 
-// Each number with itself.
-const ALIKE: Pairs = Pairs {
-    factor: 1,
-    shift: 0,
-    modulus: 0,
-    val_factor: 1,
-    val_shift: 0,
-};
+const ALIKE: Pairs = Pairs(SAME, SAME);
 
 /// An excluded bound is left out.
 pub(super) const COUNTS: &[(Call, Told)] = &[
-    (Fill(ALIKE, 1, 10), Is(true)),
+    (All(Fill, ALIKE, 1, 10), Is(true)),
     (
         CountWithin(Bound::Included(1), Bound::Excluded(1)),
         Number(0),
@@ -213,61 +192,46 @@ struct Plain<'l> {
 }
 
 impl<'l> Plain<'l> {
-    fn first_within(&self) -> Option<usize> {
+    fn first_within(&self) -> Place {
         for (place, pair) in self.pairs.iter().enumerate() {
-            if is_from(self.lower, pair.0) {
-                return Some(place);
+            if is_within(pair.0, self.lower, Bound::Unbounded) {
+                return Place::At(place);
             }
         }
-        None
+        Place::Unopened
     }
 
-    fn last_within(&self) -> Option<usize> {
-        let mut last = None;
+    fn last_within(&self) -> Place {
+        let mut last = Place::Unopened;
         for (place, pair) in self.pairs.iter().enumerate() {
-            if is_up_to(self.upper, pair.0) {
-                last = Some(place);
+            if is_within(pair.0, Bound::Unbounded, self.upper) {
+                last = Place::At(place);
             }
         }
         last
     }
 
-    fn get(&self) -> Option<(u64, u64)> {
-        match self.forward {
-            Place::At(place) => {
-                let pair = *self.pairs.get(place)?;
-                if is_up_to(self.upper, pair.0) {
-                    Some(pair)
-                } else {
-                    None
-                }
-            }
-            _ => None,
-        }
+    /// The pair at an end, within bounds.
+    fn pair_at(&self, end: Place, lower: Bound<u64>, upper: Bound<u64>) -> Seen {
+        let Place::At(place) = end else {
+            return None;
+        };
+        let pair = *self.pairs.get(place)?;
+        is_within(pair.0, lower, upper).then_some(pair)
     }
 
-    fn get_back(&self) -> Option<(u64, u64)> {
-        match self.backward {
-            Place::At(place) => {
-                let pair = *self.pairs.get(place)?;
-                if is_from(self.lower, pair.0) {
-                    Some(pair)
-                } else {
-                    None
-                }
-            }
-            _ => None,
-        }
+    fn get(&self) -> Seen {
+        self.pair_at(self.forward, Bound::Unbounded, self.upper)
     }
 
-    fn next(&mut self) -> Option<(u64, u64)> {
+    fn get_back(&self) -> Seen {
+        self.pair_at(self.backward, self.lower, Bound::Unbounded)
+    }
+
+    fn next(&mut self) -> Seen {
         self.forward = match self.forward {
-            Place::Unopened => match self.first_within() {
-                Some(place) => Place::At(place),
-                None => Place::Unopened,
-            },
-            Place::At(place) if place < self.pairs.len() && place + 1 < self.pairs.len() =>
-                Place::At(place + 1),
+            Place::Unopened => self.first_within(),
+            Place::At(place) if place < self.pairs.len().saturating_sub(1) => Place::At(place + 1),
             _ => Place::Done,
         };
         match (self.forward, self.backward) {
@@ -277,12 +241,9 @@ impl<'l> Plain<'l> {
         }
     }
 
-    fn next_back(&mut self) -> Option<(u64, u64)> {
+    fn next_back(&mut self) -> Seen {
         self.backward = match self.backward {
-            Place::Unopened => match self.last_within() {
-                Some(place) => Place::At(place),
-                None => Place::Unopened,
-            },
+            Place::Unopened => self.last_within(),
             Place::At(place) if place > 0 => Place::At(place - 1),
             _ => Place::Done,
         };
@@ -298,8 +259,7 @@ impl<'l> Plain<'l> {
         match step {
             Next => self.next(),
             NextBack => self.next_back(),
-            Flip if self.flip() => Some((0, 0)),
-            Flip => None,
+            Flip => self.flip().then_some((0, 0)),
             Get => self.get(),
             GetBack => self.get_back(),
         }
@@ -313,9 +273,7 @@ impl<'l> Plain<'l> {
             _ => false,
         };
         if turns {
-            let forward = self.forward;
-            self.forward = self.backward;
-            self.backward = forward;
+            mem::swap(&mut self.forward, &mut self.backward);
         }
         turns
     }
@@ -378,7 +336,7 @@ fn goes_alike(tree: &Tree, pairs: &[(u64, u64)], seed: &mut u64) -> bool {
     *seed = stirred(*seed);
     let lower = bound_of(*seed >> 20);
     let upper = bound_of(*seed >> 40);
-    let mut range = tree.range(lower.as_ref(), upper.as_ref());
+    let mut range = range_of(tree, &lower, &upper);
     let mut plain = Plain {
         pairs,
         lower,
@@ -394,23 +352,17 @@ fn goes_alike(tree: &Tree, pairs: &[(u64, u64)], seed: &mut u64) -> bool {
     alike
 }
 
-/// Whether ten random ranges of a random tree do so.
-fn all_go_alike(alloc: Global, round: u64, seed: &mut u64) -> Result<bool, AllocError> {
-    let tree = thinned(alloc, round, seed);
-    let pairs = listed(alloc, &tree)?;
-    let mut alike = true;
-    for _ in 0..10u32 {
-        alike = goes_alike(&tree, &pairs, seed) && alike;
-    }
-    Ok(alike)
-}
-
 #[test]
-fn random_steps_answer_as_the_plain_machine(rt: HostRuntime) {
+fn random_steps_answer_as_the_plain_machine(rt: HostRuntime) -> Result<(), Fail> {
     let mut seed = 11u64;
     for round in 0..60u64 {
-        assert!(rt; all_go_alike(rt.alloc(), round, &mut seed) == Ok(true));
+        let tree = thinned(rt.alloc(), round, &mut seed);
+        let pairs = listed(rt.alloc(), &tree)?;
+        for _ in 0..10u32 {
+            assert!(rt; goes_alike(&tree, &pairs, &mut seed));
+        }
     }
+    Ok(())
 }
 
 /// Where a key is: 0 at its pair, 1 between two, 2 behind all, 3 before all, 4 in a tree without pairs; and
@@ -423,12 +375,8 @@ fn stands(tree: &Tree, key: u64) -> (u8, Seen, Seen) {
         Proximity::Larger(iter) => (3, iter),
         Proximity::Empty => return (4, None, None),
     };
-    let back = if kind == 0 {
-        None
-    } else {
-        read(iter.get_back())
-    };
-    (kind, read(iter.get()), back)
+    let back = iter.get_back().filter(|_| kind != 0);
+    (kind, read(iter.get()), read(back))
 }
 
 const ODD: &[(u64, u64)] = &[(1, 1), (3, 2), (5, 3), (7, 4)];
@@ -442,9 +390,8 @@ const PLACES: &[(u64, (u8, Seen, Seen))] = &[
 
 /// The place of the first row whose key is somewhere else.
 fn first_other_place(tree: &Tree) -> Option<usize> {
-    for at in 0..PLACES.len() {
-        let (key, place) = PLACES[at];
-        if stands(tree, key) != place {
+    for (at, (key, place)) in PLACES.iter().enumerate() {
+        if stands(tree, *key) != *place {
             return Some(at);
         }
     }

@@ -8,9 +8,11 @@ ghost use Rattle.tree_index.specs.Cursor.{unread};
 ghost use Rattle.tree_index.specs.Depth.{IsAbove};
 
 use super::Tree;
-use super::calls::{Seen, read};
+use super::calls::{Seen, Told};
+use crate::numbers::read;
 use std::alloc::{AllocError, Global};
-use tree_index::{Iter, TreeIndex};
+use std::ops::Bound;
+use tree_index::{InsertRefused, Iter, Range, TreeIndex};
 
 /// A tree without pairs.
 pub(super) fn empty(alloc: Global) -> Tree
@@ -23,6 +25,10 @@ pub(super) fn len_of(tree: &Tree) -> usize {
     tree.len()
 }
 
+pub(super) fn is_empty(tree: &Tree) -> bool {
+    tree.is_empty()
+}
+
 pub(super) fn depth_of(tree: &Tree) -> usize {
     tree.depth()
 }
@@ -32,13 +38,18 @@ pub(super) fn count_of(tree: &Tree) -> usize {
     tree.iter().count()
 }
 
-/// The first pair, and the last, of a walk.
+/// A walk through all pairs.
+pub(super) fn iter_of<'t>(tree: &'t Tree) -> Iter<'t, u64, u64> {
+    tree.iter()
+}
+
+/// Its first pair, and the last.
 pub(super) fn first_of(tree: &Tree) -> Seen {
-    read(tree.iter().next())
+    read(iter_of(tree).next())
 }
 
 pub(super) fn last_of(tree: &Tree) -> Seen {
-    read(tree.iter().next_back())
+    read(iter_of(tree).next_back())
 }
 
 /// The value of a key.
@@ -50,14 +61,40 @@ pub(super) fn has(tree: &Tree, key: u64) -> bool {
     tree.contains(&key)
 }
 
+/// The pairs within bounds.
+pub(super) fn range_of<'t>(
+    tree: &'t Tree,
+    lower: &'t Bound<u64>,
+    upper: &'t Bound<u64>,
+) -> Range<'t, u64, u64> {
+    tree.range(lower.as_ref(), upper.as_ref())
+}
+
+/// Inserts a pair.
+pub(super) fn insert_told(tree: &mut Tree, key: u64, val: u64) -> Told {
+    match tree.insert_sync(key, val) {
+        Ok(()) => Told::Done,
+        Err(InsertRefused::Duplicate(key, val)) => Told::Duplicate(key, val),
+        Err(InsertRefused::Memory(key, val)) => Told::NoMemory(key, val),
+    }
+}
+
 /// Inserts a pair, and returns whether it was taken.
 pub(super) fn insert(tree: &mut Tree, key: u64, val: u64) -> bool {
-    tree.insert_sync(key, val).is_ok()
+    insert_told(tree, key, val) == Told::Done
+}
+
+/// Upserts a pair.
+pub(super) fn upsert_told(tree: &mut Tree, key: u64, val: u64) -> Told {
+    match tree.upsert_sync(key, val) {
+        Ok(()) => Told::Done,
+        Err((key, val)) => Told::NoMemory(key, val),
+    }
 }
 
 /// Upserts a pair, and returns whether it was taken.
 pub(super) fn upsert(tree: &mut Tree, key: u64, val: u64) -> bool {
-    tree.upsert_sync(key, val).is_ok()
+    upsert_told(tree, key, val) == Told::Done
 }
 
 /// A tree with room for this many pairs, if there is memory.

@@ -1,11 +1,14 @@
 //! Leaves and their cursors by example.
 
-use super::calls::{EACH, EVENS, Pairs, Seen, fill, lose, pair_of, read};
+use super::calls::Act::{Fill, Lose};
+use super::calls::Numbers::Times;
+use super::calls::{EACH, EVENS, Pairs, SAME, Seen, all, pair_of};
 use super::each_call::empty;
 use super::{Tree, leaf_at};
-use crate::numbers::{always, stirred};
+use crate::numbers::{always, read, stirred};
 use leaf_array::{InsertResult, RemoveResult};
 use std::alloc::{AllocError, Global};
+use std::test::Fail;
 use tree_index::leaf::{Iter, Leaf, RevIter};
 
 /// Adds a pair whose key isn't there, and returns whether the leaf took it.
@@ -18,10 +21,10 @@ fn add(leaf: &mut Leaf<u64, u64>, key: u64, val: u64) -> bool {
 
 /// Removes the pair with this key, and returns whether it was there.
 fn drop_key(leaf: &mut Leaf<u64, u64>, key: u64) -> bool {
-    match leaf.array.remove_if(&key, always) {
-        RemoveResult::Success | RemoveResult::Retired => true,
-        _ => false,
-    }
+    matches!(
+        leaf.array.remove_if(&key, always),
+        RemoveResult::Success | RemoveResult::Retired
+    )
 }
 
 /// A cursor over a leaf.
@@ -46,10 +49,7 @@ enum Step {
 }
 
 fn alone(key: Option<&u64>) -> Seen {
-    match key {
-        Some(key) => Some((*key, 0)),
-        None => None,
-    }
+    Some((*key?, 0))
 }
 
 /// The pair that a jump of a rising cursor gives, where nothing lies before it in its leaf.
@@ -141,6 +141,8 @@ enum Call {
     Add(u64, u64),
     Drop(u64),
     Pack,
+    /// Each key below fifteen is added with itself.
+    Fill,
     /// The leaf has no pair and no neighbour, or it is full and gets one.
     IsNew,
     IsFull,
@@ -159,6 +161,7 @@ fn make(leaf: &mut Leaf<u64, u64>, tree: &Tree, call: Call) -> bool {
             leaf.array.pack();
             true
         }
+        Call::Fill => takes(leaf),
         Call::IsNew => is_new(leaf),
         Call::IsFull => {
             leaf.next = Some(7);
@@ -168,6 +171,14 @@ fn make(leaf: &mut Leaf<u64, u64>, tree: &Tree, call: Call) -> bool {
         Call::Back(rows) => goes(Cursor::Falling(RevIter::new(leaf)), tree, rows).1,
         Call::Part => part(leaf, tree),
     }
+}
+
+fn takes(leaf: &mut Leaf<u64, u64>) -> bool {
+    let mut taken = true;
+    for key in 0..15u64 {
+        taken = add(leaf, key, key) && taken;
+    }
+    taken
 }
 
 fn is_new(leaf: &Leaf<u64, u64>) -> bool {
@@ -197,127 +208,87 @@ const OF_THE_COPY: &[(Step, Seen)] = &[(Step::Get, Some((2049, 2)))];
 /// Whether a falling cursor and its copy go so.
 fn part(leaf: &Leaf<u64, u64>, tree: &Tree) -> bool {
     let (cursor, first) = goes(Cursor::Falling(RevIter::new(leaf)), tree, FIRST);
-    match cursor {
-        Cursor::Rising(_) => false,
-        Cursor::Falling(falling) => {
-            let copy = Cursor::Falling(falling.clone());
-            let then = goes(Cursor::Falling(falling), tree, THEN).1;
-            first && then && goes(copy, tree, OF_THE_COPY).1
-        },
-    }
+    let Cursor::Falling(falling) = cursor else {
+        return false;
+    };
+    let copy = Cursor::Falling(falling.clone());
+    let then = goes(Cursor::Falling(falling), tree, THEN).1;
+    first && then && goes(copy, tree, OF_THE_COPY).1
 }
 
-/// A new leaf has no pairs and no neighbours.
-const NEW: &[Call] = &[
-    Call::IsNew,
-    Call::Forth(&[
-        (Step::Next, None),
-        (Step::Get, None),
-        (Step::Last, None),
-        (Step::Turn, None),
-        (Step::Next, None),
-        (Step::Get, None),
-        (Step::Last, None),
-    ]),
-    Call::Add(0, 0),
-    Call::Add(1, 1),
-    Call::Add(2, 2),
-    Call::Add(3, 3),
-    Call::Add(4, 4),
-    Call::Add(5, 5),
-    Call::Add(6, 6),
-    Call::Add(7, 7),
-    Call::Add(8, 8),
-    Call::Add(9, 9),
-    Call::Add(10, 10),
-    Call::Add(11, 11),
-    Call::Add(12, 12),
-    Call::Add(13, 13),
-    Call::Add(14, 14),
-    Call::IsFull,
+const TABLES: &[&[Call]] = &[
+    // a new leaf has no pairs and no neighbours
+    &[
+        Call::IsNew,
+        Call::Forth(&[
+            (Step::Next, None),
+            (Step::Get, None),
+            (Step::Last, None),
+            (Step::Turn, None),
+            (Step::Next, None),
+            (Step::Get, None),
+            (Step::Last, None),
+        ]),
+        Call::Fill,
+        Call::IsFull,
+    ],
+    // a cursor turns round at its pair, and falls through the keys that are left
+    &[
+        Call::Add(1, 0),
+        Call::Add(2, 1),
+        Call::Add(2049, 2),
+        Call::Add(6, 3),
+        Call::Drop(6),
+        Call::Forth(&[
+            (Step::Get, None),
+            (Step::Next, Some((1, 0))),
+            (Step::Turn, None),
+            (Step::Get, Some((1, 0))),
+            (Step::Turn, None),
+            (Step::Get, Some((1, 0))),
+            (Step::Next, Some((2, 1))),
+            (Step::Next, Some((2049, 2))),
+            (Step::Next, None),
+            (Step::Get, Some((2049, 2))),
+            (Step::Last, Some((2049, 0))),
+        ]),
+        Call::Part,
+    ],
+    // A leaf without pairs leads on from the key that it lost last. The tree has the keys 0, 10, up to 190, each with its
+    // tenth part.
+    &[
+        Call::Forth(&[(Step::Jump, None)]),
+        Call::Back(&[(Step::Jump, None)]),
+        Call::Add(35, 0),
+        Call::Add(120, 0),
+        Call::Drop(120),
+        Call::Forth(&[(Step::Jump, Some((40, 4)))]),
+        Call::Drop(35),
+        Call::Forth(&[(Step::Jump, Some((40, 4)))]),
+        Call::Back(&[(Step::Jump, Some((30, 3)))]),
+        Call::Pack,
+        Call::Add(190, 0),
+        Call::Drop(190),
+        Call::Forth(&[(Step::Jump, None)]),
+        Call::Forth(&[(Step::Jump, None), (Step::Get, None)]),
+        Call::Forth(&[
+            (Step::Jump, None),
+            (Step::Turn, None),
+            (Step::Jump, Some((180, 18))),
+        ]),
+        Call::Pack,
+        Call::Back(&[(Step::Jump, None)]),
+    ],
 ];
 
-/// A cursor turns round at its pair, and falls through the keys that are left.
-const TURNED: &[Call] = &[
-    Call::Add(1, 0),
-    Call::Add(2, 1),
-    Call::Add(2049, 2),
-    Call::Add(6, 3),
-    Call::Drop(6),
-    Call::Forth(&[
-        (Step::Get, None),
-        (Step::Next, Some((1, 0))),
-        (Step::Turn, None),
-        (Step::Get, Some((1, 0))),
-        (Step::Turn, None),
-        (Step::Get, Some((1, 0))),
-        (Step::Next, Some((2, 1))),
-        (Step::Next, Some((2049, 2))),
-        (Step::Next, None),
-        (Step::Get, Some((2049, 2))),
-        (Step::Last, Some((2049, 0))),
-    ]),
-    Call::Part,
-];
-
-/// A leaf without pairs leads on from the key that it lost last. The tree has the keys 0, 10, up to 190, each with its
-/// tenth part.
-const APART: &[Call] = &[
-    Call::Forth(&[(Step::Jump, None)]),
-    Call::Back(&[(Step::Jump, None)]),
-    Call::Add(35, 0),
-    Call::Add(120, 0),
-    Call::Drop(120),
-    Call::Forth(&[(Step::Jump, Some((40, 4)))]),
-    Call::Drop(35),
-    Call::Forth(&[(Step::Jump, Some((40, 4)))]),
-    Call::Back(&[(Step::Jump, Some((30, 3)))]),
-    Call::Pack,
-    Call::Add(190, 0),
-    Call::Drop(190),
-    Call::Forth(&[(Step::Jump, None)]),
-    Call::Forth(&[(Step::Jump, None), (Step::Get, None)]),
-    Call::Forth(&[
-        (Step::Jump, None),
-        (Step::Turn, None),
-        (Step::Jump, Some((180, 18))),
-    ]),
-    Call::Pack,
-    Call::Back(&[(Step::Jump, None)]),
-];
-
-const TENS: Pairs = Pairs {
-    factor: 10,
-    shift: 0,
-    modulus: 0,
-    val_factor: 1,
-    val_shift: 0,
-};
+const TENS: Pairs = Pairs(Times(10, 0), SAME);
 
 /// Makes the calls of a table on a new leaf, in order, and returns the place of the first that doesn't go as it has to.
 fn first_other(tree: &Tree, calls: &[Call]) -> Option<usize> {
     let mut leaf: Leaf<u64, u64> = Leaf::new();
-    for at in 0..calls.len() {
-        if !make(&mut leaf, tree, calls[at]) {
+    for (at, call) in calls.iter().enumerate() {
+        if !make(&mut leaf, tree, *call) {
             return Some(at);
-        }
-    }
-    None
-}
-
-const TABLES: &[&[Call]] = &[NEW, TURNED, APART];
-
-/// The place of the first table that has a call that doesn't go as it has to, and the place of that call. Where the tree
-/// can't be filled, it is that of no table.
-fn first_other_of(alloc: Global, tables: &[&[Call]]) -> Option<(usize, usize)> {
-    let mut tree = empty(alloc);
-    if !fill(&mut tree, TENS, 0, 20) {
-        return Some((tables.len(), 0));
-    }
-    for at in 0..tables.len() {
-        match first_other(&tree, tables[at]) {
-            Some(call) => return Some((at, call)),
-            None => {},
         }
     }
     None
@@ -325,7 +296,11 @@ fn first_other_of(alloc: Global, tables: &[&[Call]]) -> Option<(usize, usize)> {
 
 #[test]
 fn leaves_answer_as_the_tables_say(rt: HostRuntime) {
-    assert_eq!(rt; first_other_of(rt.alloc(), TABLES), None);
+    let mut tree = empty(rt.alloc());
+    assert!(rt; all(&mut tree, Fill, TENS, 0, 20));
+    for (at, calls) in TABLES.iter().enumerate() {
+        assert_eq!(rt; first_other(&tree, calls), None, "table {at}");
+    }
 }
 
 /// The next number of a fixed row of numbers in no order.
@@ -334,13 +309,11 @@ fn drawn(seed: &mut u64) -> u64 {
     *seed >> 33
 }
 
-/// Whether a leaf takes each key below 15 whose binary digit is 1, falling, each with 14 less itself.
-fn takes(leaf: &mut Leaf<u64, u64>, mask: u64) -> bool {
+/// Whether a leaf takes these keys, falling, each with 14 less itself.
+fn takes_falling(leaf: &mut Leaf<u64, u64>, keys: &[u64]) -> bool {
     let mut taken = true;
-    for key in 0..15u64 {
-        if mask >> (14 - key) & 1 == 1 {
-            taken = add(leaf, 14 - key, key) && taken;
-        }
+    for key in keys.iter().rev() {
+        taken = add(leaf, *key, 14u64.saturating_sub(*key)) && taken;
     }
     taken
 }
@@ -356,38 +329,26 @@ fn keys_of(alloc: Global, mask: u64) -> Result<Vec<u64>, AllocError> {
     Ok(keys)
 }
 
-/// Whether a cursor over a leaf of random keys walks along a list of them.
-fn goes_along_some(alloc: Global, seed: &mut u64) -> Result<bool, AllocError> {
-    let mask = drawn(seed);
-    let keys = keys_of(alloc, mask)?;
-    let mut leaf: Leaf<u64, u64> = Leaf::new();
-    let taken = takes(&mut leaf, mask);
-    Ok(taken && goes_along(&leaf, &keys, seed))
-}
-
 #[test]
-fn cursors_go_along_a_plain_list_of_keys(rt: HostRuntime) {
+fn cursors_go_along_a_plain_list_of_keys(rt: HostRuntime) -> Result<(), Fail> {
+    let tree = empty(rt.alloc());
     let mut seed = 1u64;
     for _ in 0..40u32 {
-        assert!(rt; goes_along_some(rt.alloc(), &mut seed) == Ok(true));
+        let keys = keys_of(rt.alloc(), drawn(&mut seed))?;
+        let mut leaf: Leaf<u64, u64> = Leaf::new();
+        let taken = takes_falling(&mut leaf, &keys);
+        assert!(rt; taken && goes_along(&leaf, &tree, &keys, &mut seed));
     }
+    Ok(())
 }
 
 /// The place that a step goes to in a list of this many keys, from a place of which 0 is before all: back, or
 /// forth. One that is at the end stays.
 fn moved(place: usize, count: usize, falls: bool) -> usize {
-    if falls {
-        let start = if place == 0 {
-            count.saturating_add(1)
-        } else {
-            place
-        };
-        return if start > 1 { start - 1 } else { place };
-    }
-    if place < count {
-        place.saturating_add(1)
-    } else {
-        place
+    match (falls, place) {
+        (true, 0) => count,
+        (true, _) => place.saturating_sub(1).max(1),
+        (false, _) => place.saturating_add(1).min(count),
     }
 }
 
@@ -397,27 +358,17 @@ fn placed(keys: &[u64], place: usize) -> Seen {
     Some((key, 14u64.saturating_sub(key)))
 }
 
-/// A step of a cursor that turns round, and turns back.
-fn falls<'l>(rising: Iter<'l, u64, u64>) -> (Iter<'l, u64, u64>, Seen) {
-    let mut falling = rising.rev();
-    let seen = read(falling.next());
-    (falling.rev(), seen)
-}
-
-/// One call of a cursor, as `kind` says: it moves before its first pair, or a step back, or a step forth. Gives the
-/// cursor, and what the step gave.
-fn make_step<'l>(rising: Iter<'l, u64, u64>, kind: u64) -> (Iter<'l, u64, u64>, Seen) {
-    let mut rising = rising;
+/// One call of a cursor, as `kind` says: it moves before its first pair, or turns for a step back, or goes a step forth.
+/// Gives the cursor, and what the step gave.
+fn make_step<'l>(cursor: Cursor<'l>, tree: &'l Tree, kind: u64) -> (Cursor<'l>, Seen) {
     match kind {
-        0 => {
-            rising.rewind();
-            (rising, None)
+        0 => take(cursor, tree, Step::Rewind),
+        1 | 2 | 3 => {
+            let (turned, _) = take(cursor, tree, Step::Turn);
+            let (back, seen) = take(turned, tree, Step::Next);
+            (take(back, tree, Step::Turn).0, seen)
         }
-        1 | 2 | 3 => falls(rising),
-        _ => {
-            let seen = read(rising.next());
-            (rising, seen)
-        }
+        _ => take(cursor, tree, Step::Next),
     }
 }
 
@@ -427,64 +378,55 @@ fn make_step_in_list(keys: &[u64], place: usize, kind: u64) -> (usize, Seen) {
         return (0, None);
     }
     let next = moved(place, keys.len(), kind < 4);
-    (
-        next,
-        if next == place {
-            None
-        } else {
-            placed(keys, next)
-        },
-    )
+    (next, placed(keys, next).filter(|_| next != place))
 }
 
 /// Sixty calls of a cursor, in no order, beside a place in a list of the keys: whether it walks along.
-fn goes_along(leaf: &Leaf<u64, u64>, keys: &[u64], seed: &mut u64) -> bool {
-    let mut rising = Iter::new(leaf);
+fn goes_along(leaf: &Leaf<u64, u64>, tree: &Tree, keys: &[u64], seed: &mut u64) -> bool {
+    let mut cursor = Cursor::Rising(Iter::new(leaf));
     let mut place: usize = 0;
     let mut alike = true;
     for _ in 0..60u32 {
         let kind = drawn(seed) % 8;
-        let (stepped, seen) = make_step(rising, kind);
+        let (stepped, seen) = make_step(cursor, tree, kind);
         let (next, wanted) = make_step_in_list(keys, place, kind);
-        rising = stepped;
+        let (here, is_there) = goes(stepped, tree, &[(Step::Get, placed(keys, next))]);
+        cursor = here;
         place = next;
-        alike = seen == wanted && read(rising.get()) == placed(keys, place) && alike;
+        alike = seen == wanted && is_there && alike;
     }
-    let ends = rising.max_key() == keys.last() && rising.rev().min_key() == keys.first();
-    alike && ends
+    let (last, first) = (alone(keys.last()), alone(keys.first()));
+    let ends = [(Step::Last, last), (Step::Turn, None), (Step::Last, first)];
+    goes(cursor, tree, &ends).1 && alike
 }
 
-/// This many pairs of a tree, and those of them that are gone.
-#[derive(Clone, Copy)]
-struct Walk {
-    pairs: Pairs,
-    count: u64,
-    gap: (u64, u64),
-}
+/// The pairs of a tree, how many it has, and the numbers of those that are gone: from one on up to below another.
+type Walk = (Pairs, u64, (u64, u64));
 
 /// A cursor over the leaf of the first or of the last pair.
 fn starts<'t>(tree: &'t Tree, walk: Walk, falls: bool) -> Option<Cursor<'t>> {
-    let number = if falls { walk.count.wrapping_sub(1) } else { 0 };
-    let leaf = leaf_at(tree, pair_of(walk.pairs, number).0)?;
-    if falls {
-        Some(Cursor::Falling(RevIter::new(leaf)))
+    let (pairs, count, _) = walk;
+    let number = if falls { count.wrapping_sub(1) } else { 0 };
+    let leaf = leaf_at(tree, pair_of(pairs, number).0)?;
+    Some(if falls {
+        Cursor::Falling(RevIter::new(leaf))
     } else {
-        Some(Cursor::Rising(Iter::new(leaf)))
-    }
+        Cursor::Rising(Iter::new(leaf))
+    })
 }
 
 /// Whether a cursor moves one way through all leaves of a tree, by jumps from leaf to leaf, and ends at the last pair.
 fn jumps(tree: &Tree, walk: Walk, falls: bool) -> bool {
-    let mut cursor = match starts(tree, walk, falls) {
-        Some(start) => start,
-        None => return false,
+    let (pairs, count, gap) = walk;
+    let Some(mut cursor) = starts(tree, walk, falls) else {
+        return false;
     };
     let mut as_said = true;
     let mut pair = None;
-    for turn in 0..walk.count {
-        let number = if falls { walk.count - 1 - turn } else { turn };
-        if number < walk.gap.0 || walk.gap.1 <= number {
-            pair = Some(pair_of(walk.pairs, number));
+    for turn in 0..count {
+        let number = if falls { count - 1 - turn } else { turn };
+        if number < gap.0 || gap.1 <= number {
+            pair = Some(pair_of(pairs, number));
             let (next, as_wanted) = goes(cursor, tree, &[(Step::Cross, pair), (Step::Get, pair)]);
             cursor = next;
             as_said = as_wanted && as_said;
@@ -496,43 +438,30 @@ fn jumps(tree: &Tree, walk: Walk, falls: bool) -> bool {
 
 /// Whether the way to each key of a gap, which is gone, leads to a leaf that has pairs.
 fn leads_to_pairs(tree: &Tree, walk: Walk) -> bool {
+    let (pairs, _, gap) = walk;
     let mut there = true;
-    for number in walk.gap.0..walk.gap.1 {
-        let (key, _) = pair_of(walk.pairs, number);
-        there = match leaf_at(tree, key) {
-            Some(leaf) => !leaf.array.is_empty() && there,
-            None => false,
-        };
+    for number in gap.0..gap.1 {
+        let (key, _) = pair_of(pairs, number);
+        there = leaf_at(tree, key).is_some_and(|leaf| !leaf.array.is_empty()) && there;
     }
     there
 }
 
 /// Whether jumps go both ways through a tree of these pairs, over those that are gone.
 fn jumps_through(alloc: Global, walk: Walk) -> bool {
+    let (pairs, count, gap) = walk;
     let mut tree = empty(alloc);
-    let taken = fill(&mut tree, walk.pairs, 0, walk.count);
-    let gone = lose(&mut tree, walk.pairs, walk.gap.0, walk.gap.1);
+    let taken = all(&mut tree, Fill, pairs, 0, count);
+    let gone = all(&mut tree, Lose, pairs, gap.0, gap.1);
     let forth = jumps(&tree, walk, false);
     let back = jumps(&tree, walk, true);
     taken && gone && forth && back && leads_to_pairs(&tree, walk)
 }
 
 const WALKS: &[Walk] = &[
-    Walk {
-        pairs: EACH,
-        count: 150,
-        gap: (0, 0),
-    },
-    Walk {
-        pairs: EACH,
-        count: 150,
-        gap: (40, 110),
-    },
-    Walk {
-        pairs: EVENS,
-        count: 100,
-        gap: (20, 80),
-    },
+    (EACH, 150, (0, 0)),
+    (EACH, 150, (40, 110)),
+    (EVENS, 100, (20, 80)),
 ];
 
 #[test]
@@ -551,18 +480,13 @@ const STAYS: &[(Step, Seen)] = &[
     (Step::Get, None),
 ];
 
-/// Whether a cursor over the leaf of a key stays so.
-fn stays(tree: &Tree, key: u64) -> bool {
-    match leaf_at(tree, key) {
-        Some(leaf) => goes(Cursor::Rising(Iter::new(leaf)), tree, STAYS).1,
-        None => false,
-    }
-}
-
 #[test]
 fn a_cursor_over_emptied_leaves_alone_stays(rt: HostRuntime) {
     let mut tree = empty(rt.alloc());
-    let filled = fill(&mut tree, EACH, 0, 40);
-    let emptied = lose(&mut tree, EACH, 0, 40);
-    assert!(rt; filled && emptied && stays(&tree, 20));
+    let filled = all(&mut tree, Fill, EACH, 0, 40);
+    let emptied = all(&mut tree, Lose, EACH, 0, 40);
+    let Some(leaf) = leaf_at(&tree, 20) else {
+        panic!(rt; "a tree keeps one leaf");
+    };
+    assert!(rt; filled && emptied && goes(Cursor::Rising(Iter::new(leaf)), &tree, STAYS).1);
 }

@@ -1,7 +1,7 @@
 //! Nodes by example.
 
 use super::Tree;
-use super::calls::{EVENS, Seen, fill, shown};
+use super::calls::{Act, EVENS, Seen, all, shown};
 use super::each_call::{clear, depth_of, empty, insert, len_of};
 use tree_index::Node;
 
@@ -60,11 +60,7 @@ fn way_to(tree: &Tree, key: u64, wanted: Seen) -> Option<usize> {
 fn reads_on_the_way(tree: &Tree) -> bool {
     let mut as_said = true;
     for key in 0..8001u64 {
-        let wanted = if key % 2 == 0 && key < 8000 {
-            Some((key, key.wrapping_add(1)))
-        } else {
-            None
-        };
+        let wanted = (key % 2 == 0 && key < 8000).then_some((key, key + 1));
         as_said = way_to(tree, key, wanted) == Some(depth_of(tree)) && as_said;
     }
     as_said
@@ -88,7 +84,7 @@ const AT_A_CHILD: [Seen; 3] = [Some((0, 1)), None, Some((7998, 7999))];
 #[test]
 fn a_key_is_read_at_the_root_and_at_each_node_on_the_way(rt: HostRuntime) {
     let mut tree = empty(rt.alloc());
-    let taken = fill(&mut tree, EVENS, 0, 4000);
+    let taken = all(&mut tree, Act::Fill, EVENS, 0, 4000);
     let read = reads_on_the_way(&tree) && read_below_root(&tree, 0, 7998) == Some(AT_A_CHILD);
     assert!(rt; taken && read && len_of(&tree) == 4000 && depth_of(&tree) >= 2);
 }

@@ -1,12 +1,13 @@
 //! Pairs that come by rising keys, each put behind the last one, and copies that are made so.
 
+use super::calls::Act::Fill;
+use super::calls::Numbers::Modulo;
 use super::calls::Told::Is;
-use super::calls::{Pairs, equal, fill};
+use super::calls::{Pairs, SAME, all, equal};
 use super::each_call::{
     clear, copy_of, count_of, depth_of, empty, first_of, last_of, len_of, push, roomy, val_of,
 };
 use super::{Tree, leaf_at};
-use std::alloc::{AllocError, Global};
 use std::test::Fail;
 
 #[test]
@@ -35,13 +36,7 @@ fn a_tree_that_was_emptied_takes_pairs_behind_its_last_one(rt: HostRuntime) {
 }
 
 // Keys below 300, in no order and none twice, as 337 and 300 have no common divisor, each with its number.
-pub(super) const BELOW_300: Pairs = Pairs {
-    factor: 337,
-    shift: 0,
-    modulus: 300,
-    val_factor: 1,
-    val_shift: 0,
-};
+pub(super) const BELOW_300: Pairs = Pairs(Modulo(337, 300), SAME);
 
 /// How many pairs the first leaf has, if there is a pair.
 pub(super) fn first_leaf(tree: &Tree) -> Option<usize> {
@@ -49,21 +44,18 @@ pub(super) fn first_leaf(tree: &Tree) -> Option<usize> {
     Some(leaf_at(tree, key)?.array.len())
 }
 
-/// Whether a tree takes this many pairs, and its copy is equal, by its walk too, has the least depth, and a full first leaf.
-fn is_copied(alloc: Global, count: u64) -> Result<bool, AllocError> {
-    let mut tree = empty(alloc);
-    let taken = fill(&mut tree, BELOW_300, 0, count);
-    let copy = copy_of(alloc, &tree)?;
-    let len = len_of(&tree);
-    let same = equal(&copy, &tree) == Is(true) && count_of(&copy) == len;
-    let depth = if len > 240 { 2 } else { 1 };
-    let full = depth_of(&copy) == depth && first_leaf(&copy) == Some(len.min(15));
-    Ok(taken && same && (full || len == 0))
-}
-
 #[test]
-fn copies_of_every_size_have_full_leaves(rt: HostRuntime) {
+fn copies_of_every_size_have_full_leaves(rt: HostRuntime) -> Result<(), Fail> {
     for count in 0..300u64 {
-        assert!(rt; is_copied(rt.alloc(), count) == Ok(true));
+        let mut tree = empty(rt.alloc());
+        let taken = all(&mut tree, Fill, BELOW_300, 0, count);
+        let copy = copy_of(rt.alloc(), &tree)?;
+        let len = len_of(&tree);
+        // equal by its walk too, at the least depth, and with a full first leaf
+        let same = equal(&copy, &tree) == Is(true) && count_of(&copy) == len;
+        let depth = if len > 240 { 2 } else { 1 };
+        let full = depth_of(&copy) == depth && first_leaf(&copy) == Some(len.min(15));
+        assert!(rt; taken && same && (full || len == 0));
     }
+    Ok(())
 }

@@ -1,64 +1,43 @@
 //! Removal of ranges by example, and beside a map of std.
 
 use super::Tree;
-use super::calls::Call::{Contains, Fill, Len, RemoveRange};
+use super::calls::Act::Fill;
+use super::calls::Call::{All, Contains, Len, RemoveRange};
 use super::calls::Told::{Done, Is, Number};
-use super::calls::{Call, EACH, Told, fill, make};
+use super::calls::{Call, EACH, Told, all, make};
 use super::each_call::{count_of, empty, len_of, upsert, val_of};
 use crate::numbers::stirred;
-use std::alloc::{AllocError, Global};
+use std::alloc::AllocError;
 use std::collections::BTreeMap;
-use std::ops::Bound;
+use std::ops::{Bound, RangeBounds};
 
 /// A range is removed, and its edges are kept.
 pub(super) const EDGES: &[(Call, Told)] = &[
-    (Fill(EACH, 1, 8), Is(true)),
+    (All(Fill, EACH, 1, 8), Is(true)),
     (RemoveRange(Bound::Included(3), Bound::Excluded(8)), Done),
     (Contains(2), Is(true)),
     (Contains(3), Is(false)),
     (Len, Number(2)),
 ];
 
-/// Whether a range that is removed leaves the keys outside alone, of the keys from 1 to 13.
-fn leaves_the_keys_outside(alloc: Global, low: u64, high: u64) -> bool {
-    let mut tree = empty(alloc);
-    let filled = fill(&mut tree, EACH, 1, 14);
-    let range = RemoveRange(Bound::Included(low), Bound::Excluded(high));
-    let mut as_said = make(&mut tree, range) == Done && filled;
-    for key in 1..14u64 {
-        let outside = key < low || high <= key;
-        as_said = val_of(&tree, key).is_some() == outside && as_said;
-    }
-    as_said
-}
-
 #[test]
 fn each_range_of_thirteen_keys_leaves_the_keys_outside(rt: HostRuntime) {
     for pair in 0..225u64 {
-        assert!(rt; leaves_the_keys_outside(rt.alloc(), pair / 15, pair % 15));
+        let (low, high) = (pair / 15, pair % 15);
+        let mut tree = empty(rt.alloc());
+        let filled = all(&mut tree, Fill, EACH, 1, 14);
+        let range = RemoveRange(Bound::Included(low), Bound::Excluded(high));
+        assert!(rt; filled && make(&mut tree, range) == Done);
+        for key in 1..14u64 {
+            let outside = key < low || high <= key;
+            assert!(rt; val_of(&tree, key).is_some() == outside);
+        }
     }
 }
 
-/// Whether a key isn't before a lower bound.
-pub(super) fn is_from(lower: Bound<u64>, key: u64) -> bool {
-    match lower {
-        Bound::Included(low) => low <= key,
-        Bound::Excluded(low) => low < key,
-        Bound::Unbounded => true,
-    }
-}
-
-/// Whether a key isn't behind an upper bound.
-pub(super) fn is_up_to(upper: Bound<u64>, key: u64) -> bool {
-    match upper {
-        Bound::Included(high) => key <= high,
-        Bound::Excluded(high) => key < high,
-        Bound::Unbounded => true,
-    }
-}
-
-fn is_within(key: u64, lower: Bound<u64>, upper: Bound<u64>) -> bool {
-    is_from(lower, key) && is_up_to(upper, key)
+/// Whether a key lies within bounds.
+pub(super) fn is_within(key: u64, lower: Bound<u64>, upper: Bound<u64>) -> bool {
+    (lower, upper).contains(&key)
 }
 
 /// A bound from a random number, for keys up to 400.
@@ -101,24 +80,16 @@ fn stir_both(
     Ok(())
 }
 
-/// Whether this many rounds of upserts, and of a random range that is removed from a tree and from a map, leave the same
-/// pairs.
-fn go_alike(alloc: Global, rounds: u32) -> Result<bool, AllocError> {
-    let mut tree = empty(alloc);
-    let mut map = BTreeMap::new(alloc);
+#[test]
+fn random_ranges_leave_what_they_leave_of_a_map(rt: HostRuntime) {
+    let mut tree = empty(rt.alloc());
+    let mut map = BTreeMap::new(rt.alloc());
     let mut seed = 5u64;
-    let mut alike = true;
-    for _ in 0..rounds {
-        stir_both(&mut tree, &mut map, &mut seed)?;
+    for _ in 0..60u32 {
+        let stirs = stir_both(&mut tree, &mut map, &mut seed).is_ok();
         seed = stirred(seed);
         let (lower, upper) = (bound_of(seed >> 20), bound_of(seed >> 42));
         let removed = make(&mut tree, RemoveRange(lower, upper)) == Done;
-        alike = is_alike(&tree, &mut map, lower, upper) && removed && alike;
+        assert!(rt; stirs && removed && is_alike(&tree, &mut map, lower, upper));
     }
-    Ok(alike)
-}
-
-#[test]
-fn random_ranges_leave_what_they_leave_of_a_map(rt: HostRuntime) {
-    assert!(rt; go_alike(rt.alloc(), 60) == Ok(true));
 }

@@ -1,14 +1,19 @@
 //! Trees that lose pairs: leaves that are emptied leave them, and so do nodes.
 
+use super::calls::Act::{Fill, Lose};
 use super::calls::Call::{
-    Count, Depth, Fill, First, GoThrough, HasFewLeaves, IsDeeper, IsEmpty, Last, Len, Lose,
+    All, Count, Depth, First, GoThrough, HasFewLeaves, IsDeeper, Last, Len, RefillInRounds,
     RemoveRange, Shrink, StirOften,
 };
+use super::calls::Numbers::{Modulo, Times};
 use super::calls::Told::{Done, Is, Number, Pair};
-use super::calls::{Call, EACH, Pairs, Told, fill, lose};
-use super::each_call::{count_of, depth_of, len_of, remove, upsert};
+use super::calls::{Call, EACH, Pairs, Told, all};
+use super::each_call::{
+    count_of, depth_of, empty, first_of, is_empty, iter_of, len_of, remove, upsert,
+};
 use super::{Tree, leaf_at};
 use crate::numbers::stirred;
+use std::alloc::Global;
 use std::ops::Bound;
 
 /// How many pairs a leaf has, and the numbers of the ones on both sides.
@@ -29,7 +34,7 @@ fn leaves_of(tree: &Tree, most: usize) -> usize {
     let mut last = None;
     let mut in_leaf = 0usize;
     let mut linked = true;
-    for (key, _) in tree.iter() {
+    for (key, _) in iter_of(tree) {
         if in_leaf == 0 {
             let (len, prev, next) = shape(tree, *key);
             let named = prev.is_some() == (count > 0) && (count < 2 || prev == behind);
@@ -42,11 +47,10 @@ fn leaves_of(tree: &Tree, most: usize) -> usize {
         }
         in_leaf = in_leaf.wrapping_sub(1);
     }
-    if linked && last.is_none() {
-        count
-    } else {
-        usize::MAX
+    if !linked || last.is_some() {
+        return usize::MAX;
     }
+    count
 }
 
 /// Whether there are this many leaves at most, none with a number above `number`.
@@ -59,49 +63,20 @@ fn is_lean(tree: &Tree, most: usize) -> bool {
     leaves_of(tree, most) <= len_of(tree) && count_of(tree) == len_of(tree)
 }
 
-/// Removes the keys below 1000, by this many at a step, and returns whether each was there, and the tree was lean behind each
-/// fiftieth.
-pub(super) fn shrink(tree: &mut Tree, step: u64) -> bool {
-    let mut as_said = true;
+/// Whether a tree of the keys below 1000 loses them, by this many at a step, is lean behind each fiftieth, and has one leaf
+/// under one node left.
+pub(super) fn shrink(alloc: Global, step: u64) -> bool {
+    let mut tree = empty(alloc);
+    let mut as_said = all(&mut tree, Fill, EACH, 0, 1000) && depth_of(&tree) > 1;
     for turn in 0..1000u64 {
         let key = turn.wrapping_mul(step) % 1000;
-        as_said = lose(tree, EACH, key, key + 1) && as_said;
+        as_said = all(&mut tree, Lose, EACH, key, key + 1) && as_said;
         if turn % 50 == 49 {
-            as_said = is_lean(tree, 1000) && as_said;
+            as_said = is_lean(&tree, 1000) && as_said;
         }
     }
-    as_said
+    as_said && is_empty(&tree) && depth_of(&tree) == 1 && first_of(&tree).is_none()
 }
-
-// Leaves go with their pairs whatever the order: rising, falling, and in no order, as 1000 and 389 have no common
-// divisor. One leaf under one node is left.
-
-pub(super) const SHRUNK_RISING: &[(Call, Told)] = &[
-    (Fill(EACH, 0, 1000), Is(true)),
-    (IsDeeper(1), Is(true)),
-    (Shrink(1), Is(true)),
-    (IsEmpty, Is(true)),
-    (Depth, Number(1)),
-    (First, Pair(None)),
-];
-
-pub(super) const SHRUNK_FALLING: &[(Call, Told)] = &[
-    (Fill(EACH, 0, 1000), Is(true)),
-    (IsDeeper(1), Is(true)),
-    (Shrink(999), Is(true)),
-    (IsEmpty, Is(true)),
-    (Depth, Number(1)),
-    (First, Pair(None)),
-];
-
-pub(super) const SHRUNK_IN_NO_ORDER: &[(Call, Told)] = &[
-    (Fill(EACH, 0, 1000), Is(true)),
-    (IsDeeper(1), Is(true)),
-    (Shrink(389), Is(true)),
-    (IsEmpty, Is(true)),
-    (Depth, Number(1)),
-    (First, Pair(None)),
-];
 
 /// Whether the keys from 100 to 2999 come into a queue of a hundred, each as another is removed, which has no more leaves
 /// then than it had, but one.
@@ -109,8 +84,8 @@ pub(super) fn go_through(queue: &mut Tree) -> bool {
     let most = leaves_of(queue, 8).saturating_add(1);
     let mut as_said = most < 100;
     for key in 100..3000u64 {
-        let gone = lose(queue, EACH, key - 100, key - 99);
-        as_said = fill(queue, EACH, key, key + 1) && gone && as_said;
+        let gone = all(queue, Lose, EACH, key - 100, key - 99);
+        as_said = all(queue, Fill, EACH, key, key + 1) && gone && as_said;
         // ten pairs to a leaf are there at least, and a leaf that went gave its place to another
         if key % 100 == 99 {
             as_said = leaves_of(queue, 9) <= most && depth_of(queue) <= 2 && as_said;
@@ -118,15 +93,6 @@ pub(super) fn go_through(queue: &mut Tree) -> bool {
     }
     as_said
 }
-
-/// A queue keeps no leaf of what went through it.
-pub(super) const QUEUE: &[(Call, Told)] = &[
-    (Fill(EACH, 0, 100), Is(true)),
-    (GoThrough, Is(true)),
-    (Len, Number(100)),
-    (First, Pair(Some((2900, !2900)))),
-    (Last, Pair(Some((2999, !2999)))),
-];
 
 /// Upserts a hundred keys below 500 in no order, and removes up to four hundred.
 fn stir(tree: &mut Tree, start: u64) -> u64 {
@@ -153,102 +119,54 @@ pub(super) fn stir_often(tree: &mut Tree) -> bool {
     lean
 }
 
-/// As many pairs go as come at random.
-pub(super) const STIRRED: &[(Call, Told)] = &[(StirOften, Is(true))];
+/// Whether each of six rounds fills a tree with the keys below 200 in no order, each with the number of its round, and no more
+/// leaves, and empties it.
+pub(super) fn refill_in_rounds(tree: &mut Tree) -> bool {
+    let mut as_said = true;
+    for round in 0..6u64 {
+        let pairs = Pairs(Modulo(7, 200), Times(0, round));
+        let filled = all(tree, Fill, pairs, 0, 200) && has_few_leaves(tree, 40, 40);
+        as_said = all(tree, Lose, pairs, 0, 200) && is_empty(tree) && filled && as_said;
+    }
+    as_said
+}
 
-/// A range takes its leaves along, in a tree of three levels at least, which is filled again then.
-pub(super) const WITHOUT_RANGES: &[(Call, Told)] = &[
-    (Fill(EACH, 0, 5000), Is(true)),
-    (IsDeeper(2), Is(true)),
-    (
-        RemoveRange(Bound::Included(20), Bound::Excluded(4990)),
-        Done,
-    ),
-    (Len, Number(30)),
-    // fifteen pairs to a leaf that rising keys filled: two on the left, of which one is cut, and one on the right
-    (HasFewLeaves(400, 4), Is(true)),
-    (RemoveRange(Bound::Unbounded, Bound::Excluded(4990)), Done),
-    (Len, Number(10)),
-    (Depth, Number(1)),
-    (RemoveRange(Bound::Unbounded, Bound::Unbounded), Done),
-    (Depth, Number(1)),
-    (Fill(EACH, 0, 300), Is(true)),
-    (Count, Number(300)),
-];
-
-// The keys below 200 in no order, each with the number of its round.
-const ROUND_0: Pairs = Pairs {
-    factor: 7,
-    shift: 0,
-    modulus: 200,
-    val_factor: 0,
-    val_shift: 0,
-};
-
-const ROUND_1: Pairs = Pairs {
-    factor: 7,
-    shift: 0,
-    modulus: 200,
-    val_factor: 0,
-    val_shift: 1,
-};
-
-const ROUND_2: Pairs = Pairs {
-    factor: 7,
-    shift: 0,
-    modulus: 200,
-    val_factor: 0,
-    val_shift: 2,
-};
-
-const ROUND_3: Pairs = Pairs {
-    factor: 7,
-    shift: 0,
-    modulus: 200,
-    val_factor: 0,
-    val_shift: 3,
-};
-
-const ROUND_4: Pairs = Pairs {
-    factor: 7,
-    shift: 0,
-    modulus: 200,
-    val_factor: 0,
-    val_shift: 4,
-};
-
-const ROUND_5: Pairs = Pairs {
-    factor: 7,
-    shift: 0,
-    modulus: 200,
-    val_factor: 0,
-    val_shift: 5,
-};
-
-/// A leaf that was freed takes new pairs, which take no more places than the first round took.
-pub(super) const ROUNDS: &[(Call, Told)] = &[
-    (Fill(ROUND_0, 0, 200), Is(true)),
-    (HasFewLeaves(40, 40), Is(true)),
-    (Lose(ROUND_0, 0, 200), Is(true)),
-    (IsEmpty, Is(true)),
-    (Fill(ROUND_1, 0, 200), Is(true)),
-    (HasFewLeaves(40, 40), Is(true)),
-    (Lose(ROUND_1, 0, 200), Is(true)),
-    (IsEmpty, Is(true)),
-    (Fill(ROUND_2, 0, 200), Is(true)),
-    (HasFewLeaves(40, 40), Is(true)),
-    (Lose(ROUND_2, 0, 200), Is(true)),
-    (IsEmpty, Is(true)),
-    (Fill(ROUND_3, 0, 200), Is(true)),
-    (HasFewLeaves(40, 40), Is(true)),
-    (Lose(ROUND_3, 0, 200), Is(true)),
-    (IsEmpty, Is(true)),
-    (Fill(ROUND_4, 0, 200), Is(true)),
-    (HasFewLeaves(40, 40), Is(true)),
-    (Lose(ROUND_4, 0, 200), Is(true)),
-    (IsEmpty, Is(true)),
-    (Fill(ROUND_5, 0, 200), Is(true)),
-    (HasFewLeaves(40, 40), Is(true)),
-    (Lose(ROUND_5, 0, 200), Is(true)),
-    (IsEmpty, Is(true)),
+pub(super) const TABLES: &[&[(Call, Told)]] = &[
+    // leaves go with their pairs whatever the order: rising, falling, and in no order, as 1000 and 389 have no common divisor
+    &[
+        (Shrink(1), Is(true)),
+        (Shrink(999), Is(true)),
+        (Shrink(389), Is(true)),
+    ],
+    // a queue keeps no leaf of what went through it
+    &[
+        (All(Fill, EACH, 0, 100), Is(true)),
+        (GoThrough, Is(true)),
+        (Len, Number(100)),
+        (First, Pair(Some((2900, !2900)))),
+        (Last, Pair(Some((2999, !2999)))),
+    ],
+    // as many pairs go as come at random
+    &[(StirOften, Is(true))],
+    // a range takes its leaves along, in a tree of three levels at least, which is filled again then
+    &[
+        (All(Fill, EACH, 0, 5000), Is(true)),
+        (IsDeeper(2), Is(true)),
+        (
+            RemoveRange(Bound::Included(20), Bound::Excluded(4990)),
+            Done,
+        ),
+        (Len, Number(30)),
+        // fifteen pairs to a leaf that rising keys filled: two on the left, of which one is cut, and one on the right
+        (HasFewLeaves(400, 4), Is(true)),
+        (RemoveRange(Bound::Unbounded, Bound::Excluded(4990)), Done),
+        (Len, Number(10)),
+        (Depth, Number(1)),
+        (RemoveRange(Bound::Unbounded, Bound::Unbounded), Done),
+        (Depth, Number(1)),
+        (All(Fill, EACH, 0, 300), Is(true)),
+        (Count, Number(300)),
+    ],
+    // a leaf that was freed takes new pairs, which take no more places than the first round took
+    &[(RefillInRounds, Is(true))],
 ];

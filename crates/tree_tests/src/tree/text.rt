@@ -5,10 +5,8 @@ use tree_index::{Proximity, TreeIndex};
 
 /// A number with its text, as it is lent.
 fn read(pair: Option<(&u64, &&'static str)>) -> Option<(u64, &'static str)> {
-    match pair {
-        Some((key, text)) => Some((*key, *text)),
-        None => None,
-    }
+    let (key, text) = pair?;
+    Some((*key, *text))
 }
 
 const APPOINTMENTS: [(u64, &str); 3] = [(930, "dentist"), (1100, "review"), (1530, "train")];
