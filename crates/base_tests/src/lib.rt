@@ -4,6 +4,8 @@
 #[cfg(test)]
 mod cells;
 #[cfg(test)]
+mod groups;
+#[cfg(test)]
 mod guards;
 #[cfg(test)]
 mod in_place;

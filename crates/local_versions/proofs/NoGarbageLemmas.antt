@@ -3,8 +3,9 @@ use Rattle.std.proofs.Common.{◌≡◌, ℕ, zero, suc, ◌+◌, ◌<◌, ◌�
 use Rattle.std.proofs.lemmas.Bool.{false≢true}
 use Rattle.std.proofs.lemmas.Bool.Decides.{eqb_tells, nat_tests}
 use Rattle.std.proofs.lemmas.List.Sums.{sum_by-set, sum_by-cons}
-use Rattle.sdd_world.specs.Counting.{Counted, tally, same_hold, kept_by, shared_owners, keeps_shared}
-use Rattle.sdd_world.specs.Holding.{Hold, OwnedItem, SharedItem, OwnedIn, SharedIn}
+use Rattle.sdd_world.specs.Counting.{Counted, tally, same_hold, rows_held, kept_by, shared_owners, keeps_shared}
+use Rattle.sdd_world.specs.Groups.{NoneOut, rows_of}
+use Rattle.sdd_world.specs.Holding.{Hold, OwnedItem, SharedItem, OwnedIn, SharedIn, OwnerGroup}
 use Rattle.sdd_world.specs.Passing.{IsPlain, is_plain}
 use Rattle.sdd_world.specs.Place.{IsPlace, held_times}
 use Rattle.sdd_world.specs.State.{State, ParticipantState, cell_at, emptiness, in_use, is_used, participant_at, nobody, status_at, usage, value_at, weight}
@@ -15,6 +16,7 @@ use Rattle.sdd_world.specs.declared.tag.Tag.{Tag}
 use Rattle.sdd_world.specs.declared.status.Status.{Status}
 use Rattle.sdd_world.specs.declared.status.Status.TheVariants as status
 use Rattle.sdd_world.proofs.ListLemmas.{hit-same, hit-other}
+use Rattle.sdd_world.proofs.RowLemmas.{rows_none}
 use Rattle.version_views.specs.Items.{held_by, slots_of}
 use Rattle.local_versions.specs.Placing.{IsFlat, IsNoDirectory}
 use Rattle.sdd_world.specs.declared.owner.Kept.{Kept}
@@ -92,6 +94,7 @@ held_owner h (x ∷ xs) some =
     ]
     same_or (OwnedIn c) x = inr refl
     same_or (SharedIn c) x = inr refl
+    same_or (OwnerGroup g) x = inr refl
 
 -- a sum of nothings is nothing
 all_none : {X : Type 0} (f : X → ℕ) (d : X) (xs : List X) → ((k : ℕ) → f (get_or xs k d) ≡ 0) → sum_by f xs ≡ 0
@@ -161,6 +164,15 @@ no_cell_in_cells c (cell.OfShared None t) = refl
 no_cell_in_cells c (cell.OfShared (Some x) t) = sum_by-cons (λ y. same_hold (SharedIn c) y) (SharedItem x) []
 no_cell_in_cells c (cell.OfRaw o t) = refl
 
+-- no cell keeps an owner of a group
+no_group_in_cells : (g : ℕ) (k : Cell) → tally (OwnerGroup g) (kept_by k) ≡ 0
+no_group_in_cells g cell.Free = refl
+no_group_in_cells g (cell.OfOwned None t) = refl
+no_group_in_cells g (cell.OfOwned (Some x) t) = sum_by-cons (λ y. same_hold (OwnerGroup g) y) (OwnedItem x) []
+no_group_in_cells g (cell.OfShared None t) = refl
+no_group_in_cells g (cell.OfShared (Some x) t) = sum_by-cons (λ y. same_hold (OwnerGroup g) y) (SharedItem x) []
+no_group_in_cells g (cell.OfRaw o t) = refl
+
 pub free_cells : (cs : List Cell) → ((c : ℕ) → get_or cs c cell.Free ≡ cell.Free) → sum_by emptiness cs ≡ length cs
 free_cells [] free = refl
 free_cells (k ∷ cs) free =
@@ -198,6 +210,37 @@ module _ {K V : Type 0} {s : ℕ} where
       not_item : (x y : ℕ) → SharedIn x ≡ SharedItem y → ⊥
       not_item x y e = cc
 
+  no_group_in_items : (g : ℕ) (o : Option (Item K V s)) → tally (OwnerGroup g) (held_in held_by o) ≡ 0
+  no_group_in_items g None = refl
+  no_group_in_items g (Some v) = elim (eqb_tells (tally (OwnerGroup g) (held_by v)) 0) [
+    | inl z ↦ z.1
+    | inr z ↦ let some = z.1 in let o = holds_segments v (OwnerGroup g) (omega (arith, some)) in absurd (not_item g (get_or (slots_of o.0) o.2 0) o.4)
+  ]
+    where
+      not_item : (x y : ℕ) → OwnerGroup x ≡ SharedItem y → ⊥
+      not_item x y e = cc
+
+  -- no item holds a group, so none has an owner where none is in hand, and no row keeps an owner
+  pub none_out : (w : State (Item K V s)) (hand : List Hold) → Counted held_by hand w → ((g : ℕ) → tally (OwnerGroup g) hand ≡ 0) → NoneOut w.groups
+  none_out w hand counted none g =
+      let each = counted.each (OwnerGroup g) in
+      let in_hand = none g in
+      let in_items = all_none (λ v. tally (OwnerGroup g) (held_in held_by v)) None w.values (λ x. no_group_in_items g (value_at w x)) in
+      let in_cells = all_none (λ x. tally (OwnerGroup g) (kept_by x)) cell.Free w.cells (λ x. no_group_in_cells g (cell_at w x)) in
+      let in_rows = rows_hold_none g (rows_of w.groups) in
+      omega (arith, each, in_hand, in_items, in_cells, in_rows)
+    where
+      rows_hold_none : (k : ℕ) (xs : List ℕ) → tally (OwnerGroup k) (map SharedItem xs) ≡ 0
+      rows_hold_none k [] = refl
+      rows_hold_none k (x ∷ xs) =
+          let none : same_hold (OwnerGroup k) (SharedItem x) ≡ 0 = refl in
+          let sum = sum_by-cons (λ y. same_hold (OwnerGroup k) y) (SharedItem x) (map SharedItem xs) in
+          let rest = rows_hold_none k xs in
+          omega (arith, none, sum, rest)
+
+  pub no_rows : (w : State (Item K V s)) (hand : List Hold) → Counted held_by hand w → ((g : ℕ) → tally (OwnerGroup g) hand ≡ 0) → (h : Hold) → tally h (rows_held w.groups) ≡ 0
+  no_rows w hand counted none h = ap (λ (xs : List ℕ). tally h (map SharedItem xs)) (rows_none w.groups (none_out w hand counted none))
+
   -- how many owners of the item in slot j cells keep
   abbrev kept_times : State (Item K V s) → ℕ → ℕ
   kept_times w j = sum_by (λ k. tally (SharedItem j) (kept_by k)) w.cells
@@ -212,7 +255,7 @@ module _ {K V : Type 0} {s : ℕ} where
     named : j ≡ get_or (slots_of directory) nth 0
 
   -- nothing waits, and no owner of an item is in hand
-  module _ (w : State (Item K V s)) (hand : List Hold) (place : IsPlace w) (counted : Counted held_by hand w) (outside : (j : ℕ) → tally (SharedItem j) hand ≡ 0) (plain : IsPlain w) (flat : IsFlat w) (empty : (q : ℕ) → bags_empty (participant_at w q) ≡ true) where
+  module _ (w : State (Item K V s)) (hand : List Hold) (place : IsPlace w) (counted : Counted held_by hand w) (outside : (j : ℕ) → tally (SharedItem j) hand ≡ 0) (ungrouped : (g : ℕ) → tally (OwnerGroup g) hand ≡ 0) (plain : IsPlain w) (flat : IsFlat w) (empty : (q : ℕ) → bags_empty (participant_at w q) ≡ true) where
     not_waiting : (j : ℕ) → weight (status_at w j) ≡ 0
     not_waiting j = sym (place.sound.once j) ∙ all_none (held_times j) nobody w.participants (λ q. nothing_held j (participant_at w q) (empty q) (place.idle q))
 
@@ -224,12 +267,13 @@ module _ {K V : Type 0} {s : ℕ} where
     owner_of_used j used =
         let owners = used_shared (status_at w j) (plain j) (not_waiting j) used in
         let each = counted.each (SharedItem j) in
+        let rows = no_rows w hand counted ungrouped (SharedItem j) in
         let none = outside j in
         elim (eqb_tells (kept_times w j) 0) [
           | inr z ↦ let some = z.1 in inl (omega (arith, some))
           | inl z ↦
               let unkept = z.1 in
-              let k = sum_some (λ o. tally (SharedItem j) (held_in held_by o)) None w.values (omega (arith, owners, each, none, unkept)) in
+              let k = sum_some (λ o. tally (SharedItem j) (held_in held_by o)) None w.values (omega (arith, owners, each, rows, none, unkept)) in
               let h = held_in_item j (value_at w k.0) k.2 in
               inr (record { above = k.0; directory = h.0; is = h.1; nth = h.2; inside = h.3; named = h.4 })
         ]
@@ -265,13 +309,14 @@ module _ {K V : Type 0} {s : ℕ} where
         let k = sum_some (λ k. tally (SharedItem j) (kept_by k)) cell.Free w.cells some in
         let n = kept_names j (cell_at w k.0) k.2 in
         let each = counted.each (SharedIn k.0) in
+        let rows = no_rows w (SharedIn c ∷ []) counted (λ g. sum_by-cons (λ y. same_hold (OwnerGroup g) y) (SharedIn c) []) (SharedIn k.0) in
         let one = ap keeps_shared n.1 in
         let in_items = all_none (λ v. tally (SharedIn k.0) (held_in held_by v)) None w.values (λ x. no_cell_in_items k.0 (value_at w x)) in
         let in_cells = all_none (λ x. tally (SharedIn k.0) (kept_by x)) cell.Free w.cells (λ x. no_cell_in_cells k.0 (cell_at w x)) in
         let hand = sum_by-cons (λ y. same_hold (SharedIn k.0) y) (SharedIn c) [] in
         elim (eqb_tells c k.0) [
           | inl e ↦ slot_same j i n.0 t (sym n.1 ∙ ap (cell_at w) (sym e.1) ∙ root)
-          | inr e ↦ let other = hit-other c k.0 (λ f. e.1 (sym f)) in absurd (omega (arith, each, one, in_items, in_cells, hand, other))
+          | inr e ↦ let other = hit-other c k.0 (λ f. e.1 (sym f)) in absurd (omega (arith, each, rows, one, in_items, in_cells, hand, other))
         ]
       where
         slot_same : (x y : ℕ) (a b : Tag) → cell.OfShared (Some x) a ≡ cell.OfShared (Some y) b → x ≡ y
@@ -280,7 +325,7 @@ module _ {K V : Type 0} {s : ℕ} where
     used_named : (j : ℕ) → 1 ≤ usage (status_at w j) → 1 ≤ times j (i ∷ slots_of d)
     used_named j used =
         let front = sum_by-cons (λ k. hit k j) i (slots_of d) in
-        elim (kept_or_below w (SharedIn c ∷ []) place counted (λ k. sum_by-cons (λ y. same_hold (SharedItem k) y) (SharedIn c) []) plain flat empty j used) [
+        elim (kept_or_below w (SharedIn c ∷ []) place counted (λ k. sum_by-cons (λ y. same_hold (SharedItem k) y) (SharedIn c) []) (λ g. sum_by-cons (λ y. same_hold (OwnerGroup g) y) (SharedIn c) []) plain flat empty j used) [
           | inl e ↦ let here = ap (λ k. hit k j) (sym (kept_by_root j e)) in let one = hit-same j in omega (arith, front, here, one)
           | inr r ↦
               let b = r.0 in

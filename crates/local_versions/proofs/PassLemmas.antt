@@ -79,7 +79,7 @@ module _ {K V : Type 0} {s : ℕ} (cmp : K → K → Ordering) where
     last_keeps : Frame a c × OnlyParticipant p a c
     last_keeps = keeps_closed a p known_fast
 
-    same_items : (c.values ≡ o.values) × (c.states ≡ o.states) × (c.cells ≡ o.cells) × ((local_at c p).nesting ≡ (local_at a p).nesting - 1)
+    same_items : (c.values ≡ o.values) × (c.states ≡ o.states) × (c.cells ≡ o.cells) × (c.groups ≡ o.groups) × ((local_at c p).nesting ≡ (local_at a p).nesting - 1)
     same_items = (gives_only held_by).closing p a known_fast
 
     only_pass : OnlyParticipant p w c
@@ -114,7 +114,7 @@ module _ {K V : Type 0} {s : ℕ} (cmp : K → K → Ordering) where
     }
 
     pass_closed : (local_at c p).nesting ≡ 0
-    pass_closed = let less = same_items.3 in let once = fast_once in omega (arith, less, once)
+    pass_closed = let less = same_items.4 in let once = fast_once in omega (arith, less, once)
 
     pass_named : cell_at c root ≡ cell_at w root
     pass_named = ap (λ (cs : List Cell). get_or cs root cell.Free) same_items.2 ∙ opened_cell cmp w root places store p known

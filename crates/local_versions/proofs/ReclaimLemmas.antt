@@ -6,7 +6,7 @@ use Rattle.std.proofs.lemmas.List.Sums.{sum_by-cons}
 use Rattle.sdd_world.specs.Counting.{Counted, OwnersAreCounted, same_hold}
 use Rattle.sdd_world.specs.Frame.{IsLive, Frame, OnlyParticipant, has_owner}
 use Rattle.sdd_world.specs.Holding.{Hold, SharedIn}
-use Rattle.sdd_world.specs.Passing.{CanPass, IsLayered, NoJobWaits, PassesReclaim, accelerated, is_plain, passed, passed_times, slot_held}
+use Rattle.sdd_world.specs.Passing.{CanPass, IsLayered, NoJobWaits, PassesReclaim, accelerated, is_plain, passed, passed_times, Reaches}
 use Rattle.sdd_world.specs.Place.{IsPlace}
 use Rattle.sdd_world.specs.State.{State, in_use, local_at, with_local_state, participant_at, value_at}
 use Rattle.sdd_world.specs.Steps.{bags_empty, guard_opened}
@@ -47,13 +47,10 @@ module _ {K V : Type 0} {s : ℕ} where
   layered w flat i j v u h is some slot there =
       let o = holds_segments v h some in
       let above : level v ≡ 1 = ap level o.1 in
-      let named = slot_same (get_or (slots_of o.0) o.2 0) j (ap (slot_held w) (sym o.4) ∙ slot) in
+      let named : get_or (slots_of o.0) o.2 0 ≡ j = (subst (λ (x : Hold). Reaches w x j) o.4 slot) in
       let low = flat i o.0 (is ∙ ap (λ (x : Item K V s). Some x) o.1) o.2 0 o.3 in
       let below = level_none u (subst (λ (x : Option (Item K V s)). IsNoDirectory x) there (subst (λ (x : ℕ). IsNoDirectory (value_at w x)) named low)) in
       omega (arith, above, below)
-    where
-      slot_same : (x y : ℕ) → Some x ≡ Some y → x ≡ y
-      slot_same x y e = cc
 
   -- where values only go, levels stay
   pub flat_after : (w w' : State (Item K V s)) → ((j : ℕ) (u : Item K V s) → value_at w' j ≡ Some u → value_at w j ≡ Some u) → IsFlat w → IsFlat w'
@@ -78,7 +75,7 @@ module _ {K V : Type 0} {s : ℕ} where
   counted_passed p hand w place known counted =
       let owners : OwnersAreCounted {T = Item K V s} held_by = owners_are_counted held_by in
       let o : State (Item K V s) = guard_opened held_by p w in
-      owners.closed p hand (accelerated p o) (counted_same held_by hand o (accelerated p o) refl refl refl (owners.opened p hand w place known counted))
+      owners.closed p hand (accelerated p o) (counted_same held_by hand o (accelerated p o) refl refl refl refl (owners.opened p hand w place known counted))
 
   -- over one pass, the root keeps its version
   rooted_passed : (n p c i : ℕ) (d : Directory K Kept) (w : State (Item K V s)) → CanPass (suc n) p w → IsRooted p c i d w → IsRooted p c i d (passed held_by p w)

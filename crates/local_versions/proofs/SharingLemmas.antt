@@ -5,7 +5,7 @@ use Rattle.std.specs.List.{All, sum_by}
 use Rattle.std.specs.declared.cmp.Ordering.{Ordering}
 use Rattle.sdd_world.specs.Counting.{Counted, kept_by, same_hold, shared_owners, tally}
 use Rattle.sdd_world.specs.Frame.{IsLive, has_owner}
-use Rattle.sdd_world.specs.Holding.{Hold, OwnedIn, OwnedItem, SharedIn, SharedItem}
+use Rattle.sdd_world.specs.Holding.{Hold, OwnedIn, OwnedItem, OwnerGroup, SharedIn, SharedItem}
 use Rattle.sdd_world.specs.Place.{IsPlace, IsShared}
 use Rattle.sdd_world.specs.State.{State, cell_at, value_at}
 use Rattle.sdd_world.specs.Steps.{held_in, hit, times}
@@ -21,6 +21,7 @@ use Rattle.version_views.specs.declared.directory.Directory.{Directory}
 use Rattle.version_views.specs.declared.item.Item.{Item}
 use Rattle.version_views.specs.declared.item.Item.TheVariants as items
 use Rattle.local_versions.specs.declared.store.readers.Opened.{Opened}
+use Rattle.local_versions.proofs.NoGarbageLemmas.{no_rows}
 use Rattle.local_versions.proofs.PlacingLemmas.{tally_reverse}
 use Rattle.local_versions.proofs.StayingLemmas.{versions_stay}
 
@@ -32,18 +33,27 @@ same_small (OwnedItem i) (OwnedItem j) = hit_small j i
 same_small (OwnedItem i) (SharedItem j) = omega arith
 same_small (OwnedItem i) (OwnedIn j) = omega arith
 same_small (OwnedItem i) (SharedIn j) = omega arith
+same_small (OwnedItem i) (OwnerGroup j) = omega arith
 same_small (SharedItem i) (OwnedItem j) = omega arith
 same_small (SharedItem i) (SharedItem j) = hit_small j i
 same_small (SharedItem i) (OwnedIn j) = omega arith
 same_small (SharedItem i) (SharedIn j) = omega arith
+same_small (SharedItem i) (OwnerGroup j) = omega arith
 same_small (OwnedIn i) (OwnedItem j) = omega arith
 same_small (OwnedIn i) (SharedItem j) = omega arith
 same_small (OwnedIn i) (OwnedIn j) = hit_small j i
 same_small (OwnedIn i) (SharedIn j) = omega arith
+same_small (OwnedIn i) (OwnerGroup j) = omega arith
 same_small (SharedIn i) (OwnedItem j) = omega arith
 same_small (SharedIn i) (SharedItem j) = omega arith
 same_small (SharedIn i) (OwnedIn j) = omega arith
 same_small (SharedIn i) (SharedIn j) = hit_small j i
+same_small (SharedIn i) (OwnerGroup j) = omega arith
+same_small (OwnerGroup i) (OwnedItem j) = omega arith
+same_small (OwnerGroup i) (SharedItem j) = omega arith
+same_small (OwnerGroup i) (OwnedIn j) = omega arith
+same_small (OwnerGroup i) (SharedIn j) = omega arith
+same_small (OwnerGroup i) (OwnerGroup j) = hit_small j i
 
 tally_within : (h : Hold) (ks : List Hold) → tally h ks ≤ length ks
 tally_within h [] = omega arith
@@ -91,26 +101,27 @@ module _ {K V : Type 0} {s : ℕ} where
   held_once w levelled j i (Some (items.Segment t)) e = omega arith
 
   -- where there are so few owners outside, slots and cells, an item with owners may have one more
-  pub can_be_shared : (hand : List Hold) (w : State (Item K V s)) → Counted held_by hand w → IsPlace w → IsLevelled w → length hand + length w.states + length w.cells < 4294967295 → (j : ℕ) → IsShared w j → CanBeShared w j
-  can_be_shared hand w counted place levelled few j sh =
+  pub can_be_shared : (hand : List Hold) (w : State (Item K V s)) → ((g : ℕ) → tally (OwnerGroup g) hand ≡ 0) → Counted held_by hand w → IsPlace w → IsLevelled w → length hand + length w.states + length w.cells < 4294967295 → (j : ℕ) → IsShared w j → CanBeShared w j
+  can_be_shared hand w none counted place levelled few j sh =
       let sizes = place.sound.sizes in
       let outside = tally_within (SharedItem j) hand in
       let in_items = sum_within (λ v. tally (SharedItem j) (held_in held_by v)) None w.values (λ i. held_once w levelled j i (value_at w i) refl) in
       let in_cells = sum_within (λ c. tally (SharedItem j) (kept_by c)) cell.Free w.cells (λ i. kept_once j (get_or w.cells i cell.Free)) in
       let each = counted.each (SharedItem j) in
+      let rows = no_rows w hand counted none (SharedItem j) in
       let owners = ap shared_owners sh.is in
-      record { inside = sh.inside; owners = sh.owners; is = sh.is; room = omega (arith, few, sizes, outside, in_items, in_cells, each, owners) }
+      record { inside = sh.inside; owners = sh.owners; is = sh.is; room = omega (arith, few, sizes, outside, in_items, in_cells, each, rows, owners) }
 
   -- and so may each segment of a directory that is there
-  pub segments_can_be_shared : (cmp : K → K → Ordering) (hand : List Hold) (w : State (Item K V s)) → Counted held_by hand w → IsPlace w → IsLevelled w → length hand + length w.states + length w.cells < 4294967295 → (i : ℕ) (d : Directory K Kept) → value_at w i ≡ Some (items.Directory d) → All (CanBeShared w) (slots_of d)
-  segments_can_be_shared cmp hand w counted place levelled few i d is = λ k e h. can_be_shared hand w counted place levelled few (get_or (slots_of d) k e) ((versions_stay cmp).owns hand w i d counted is k e h)
+  pub segments_can_be_shared : (cmp : K → K → Ordering) (hand : List Hold) (w : State (Item K V s)) → ((g : ℕ) → tally (OwnerGroup g) hand ≡ 0) → Counted held_by hand w → IsPlace w → IsLevelled w → length hand + length w.states + length w.cells < 4294967295 → (i : ℕ) (d : Directory K Kept) → value_at w i ≡ Some (items.Directory d) → All (CanBeShared w) (slots_of d)
+  segments_can_be_shared cmp hand w none counted place levelled few i d is = λ k e h. can_be_shared hand w none counted place levelled few (get_or (slots_of d) k e) ((versions_stay cmp).owns hand w i d counted is k e h)
 
   -- so may those of the present version of a store
   pub present_can_be_shared : (cmp : K → K → Ordering) (w : State (Item K V s)) (root : ℕ) (places : List (Option (Opened K V s))) (store : IsStore cmp w root places) (d : Directory K Kept) → value_at w store.slot ≡ Some (items.Directory d) → All (CanBeShared w) (slots_of d)
   present_can_be_shared cmp w root places store d is =
       let fit : length w.states ≤ 1073741824 = store.slots in
       let one = store.cells in
-      segments_can_be_shared cmp (SharedIn root ∷ []) w store.counted store.place store.levelled (omega (arith, fit, one)) store.slot d is
+      segments_can_be_shared cmp (SharedIn root ∷ []) w (λ g. sum_by-cons (λ y. same_hold (OwnerGroup g) y) (SharedIn root) []) store.counted store.place store.levelled (omega (arith, fit, one)) store.slot d is
 
   -- the item that the root of a store names has an owner
   pub present_lives : (cmp : K → K → Ordering) (w : State (Item K V s)) (root : ℕ) (places : List (Option (Opened K V s))) (store : IsStore cmp w root places) (i : ℕ) (t : Tag) → cell_at w root ≡ cell.OfShared (Some i) t → IsLive w i

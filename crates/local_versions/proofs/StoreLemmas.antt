@@ -237,7 +237,7 @@ module _ {K V : Type 0} {s : ℕ} (cmp : K → K → Ordering) where
         let moves = closed_moves (omega (arith, was)) in
         let same = (gives_only held_by).closing p w known in
         let named' : cell_at ended root ≡ cell.OfShared (Some store.slot) tag.None = ap (λ (cs : List Cell). get_or cs root cell.Free) same.2 ∙ store.named in
-        let less = same.3 in
+        let less = same.4 in
         let now : (local_at ended p).nesting ≡ 0 = omega (arith, less, was) in
         let not_writer : p ≢ length places = λ e. omega (arith, inside, e) in
         store_moved w ended root places store p (set places p None) store.slot store.number store.pairs moves named' (root_stays w ended root places store moves.keeps) (length-set places p None)

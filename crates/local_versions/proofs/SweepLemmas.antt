@@ -16,7 +16,7 @@ use Rattle.local_versions.specs.Reclaiming.{IsRootless, SweepsLeaveNone}
 use Rattle.version_views.specs.declared.item.Item.{Item}
 use Rattle.version_views.specs.declared.item.Item.TheVariants as items
 use Rattle.local_versions.proofs.ReclaimLemmas.{flat_after}
-use Rattle.local_versions.proofs.NoGarbageLemmas.{free_cells, none_left}
+use Rattle.local_versions.proofs.NoGarbageLemmas.{free_cells, none_left, none_out}
 
 module _ {K V : Type 0} {s : ℕ} where
   given_append : (p : ℕ) (hs ks : List Hold) (w : State (Item K V s)) → given_all p (hs ++ ks) w ≡ given_all p ks (given_all p hs w)
@@ -81,7 +81,7 @@ module _ {K V : Type 0} {s : ℕ} where
   leaves_none : (w w' : State (Item K V s)) → IsRootless w → AllSwept held_by w w' → IsUnused w'
   leaves_none w w' r swept =
       let end : IsRootless w' = subst (λ (x : State (Item K V s)). IsRootless x) (sym swept.now) (rootless_each swept.turns w r) in
-      (none_left w' [] end.place end.counted (λ j. refl) end.plain end.flat swept.empty end.cells, free_cells w'.cells end.cells)
+      (none_left w' [] end.place end.counted (λ j. refl) (λ g. refl) end.plain end.flat swept.empty end.cells, free_cells w'.cells end.cells, none_out w' [] end.counted (λ g. refl))
 
   pub sweeps_leave_none : SweepsLeaveNone K V s
   sweeps_leave_none = record { none = leaves_none }

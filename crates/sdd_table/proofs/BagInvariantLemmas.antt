@@ -6,9 +6,10 @@ use Rattle.std.proofs.lemmas.Bool.{false≢true}
 use Rattle.std.proofs.lemmas.Bool.Decides.{eqb_tells}
 use Rattle.std.proofs.lemmas.List.Sorted.{IsPermutation-reverse, sum_by-IsPermutation}
 use Rattle.std.proofs.lemmas.List.{nil_from_length, take-append-drop}
-use Rattle.sdd_table.specs.Holding.{Hold, OwnedItem, SharedItem, OwnedIn, SharedIn}
-use Rattle.sdd_table.specs.State.{State, ParticipantState, put_participant, recalled, retired, waiting_as, nobody, status_at, value_at, participant_at, left_due, is_used, taken, weight, bags_moved_on, rotated_bags, with_status, with_cell, with_local, vacated, occupied}
-use Rattle.sdd_table.specs.Steps.{times, hit, released_as, disowned_as, owned_ended_as, shared_ended_as, given, given_all, due_reclaimed_as, due_reclaimed, reclaimed, held_in}
+use Rattle.sdd_table.specs.Groups.{GroupState, less_owned, row_ended}
+use Rattle.sdd_table.specs.Holding.{Hold, OwnedItem, SharedItem, OwnedIn, SharedIn, OwnerGroup}
+use Rattle.sdd_table.specs.State.{State, ParticipantState, put_participant, recalled, retired, waiting_as, nobody, status_at, value_at, participant_at, cell_at, left_due, is_used, taken, weight, bags_moved_on, rotated_bags, with_status, with_groups, with_cell, with_local, vacated, occupied}
+use Rattle.sdd_table.specs.Steps.{times, hit, released_as, disowned_as, owned_ended_as, shared_ended_as, given, given_all, released, released_each, due_reclaimed_as, due_reclaimed, reclaimed, held_in}
 use Rattle.sdd_table.specs.Place.{Sound, held_times}
 use Rattle.sdd_table.specs.declared.status.Status.{Status}
 use Rattle.sdd_table.specs.declared.status.Status.TheVariants as status
@@ -409,11 +410,72 @@ gives_shared_ended_as w p c (cell.OfShared (Some i) t) h known =
     gives_then p w (with_cell c cell.Free w) _ first (gives_released_as (with_cell c cell.Free w) p i _ refl first.sound known)
 gives_shared_ended_as w p c (cell.OfRaw o t) h known = gives_refl p w h
 
+-- as many participants are known as before
+released_known_as : {T : Type 0} (w : State T) (p i : ℕ) (s : Status) → length (released_as s p i w).participants ≡ length w.participants
+released_known_as w p i status.Free = refl
+released_known_as w p i status.Owned = refl
+released_known_as {T} w p i (status.Shared n) = elim (leb n 1) as (λ b. length (cond b (retired p i w) (with_status i (status.Shared (n - 1)) w)).participants ≡ length w.participants) [ true ↦ length-set w.participants p (put_participant i (participant_at w p)) | false ↦ refl ]
+released_known_as w p i status.Raw = refl
+released_known_as w p i (status.Collected n b) = refl
+released_known_as w p i status.Retired = refl
+released_known_as w p i status.Idle = refl
+released_known_as w p i status.Deferred = refl
+
+pub released_known : {T : Type 0} (w : State T) (p i : ℕ) → length (released p i w).participants ≡ length w.participants
+released_known w p i = released_known_as w p i (status_at w i)
+
+disowned_known_as : {T : Type 0} (w : State T) (p i : ℕ) (s : Status) → length (disowned_as s p i w).participants ≡ length w.participants
+disowned_known_as w p i status.Free = refl
+disowned_known_as w p i status.Owned = length-set w.participants p (put_participant i (participant_at w p))
+disowned_known_as w p i (status.Shared n) = refl
+disowned_known_as w p i status.Raw = refl
+disowned_known_as w p i (status.Collected n b) = refl
+disowned_known_as w p i status.Retired = refl
+disowned_known_as w p i status.Idle = refl
+disowned_known_as w p i status.Deferred = refl
+
+owned_ended_known_as : {T : Type 0} (w : State T) (p c : ℕ) (k : Cell) → length (owned_ended_as k p c w).participants ≡ length w.participants
+owned_ended_known_as w p c cell.Free = refl
+owned_ended_known_as w p c (cell.OfOwned None t) = refl
+owned_ended_known_as w p c (cell.OfOwned (Some i) t) = disowned_known_as (with_cell c cell.Free w) p i (status_at w i)
+owned_ended_known_as w p c (cell.OfShared o t) = refl
+owned_ended_known_as w p c (cell.OfRaw o t) = refl
+
+shared_ended_known_as : {T : Type 0} (w : State T) (p c : ℕ) (k : Cell) → length (shared_ended_as k p c w).participants ≡ length w.participants
+shared_ended_known_as w p c cell.Free = refl
+shared_ended_known_as w p c (cell.OfOwned o t) = refl
+shared_ended_known_as w p c (cell.OfShared None t) = refl
+shared_ended_known_as w p c (cell.OfShared (Some i) t) = released_known_as (with_cell c cell.Free w) p i (status_at w i)
+shared_ended_known_as w p c (cell.OfRaw o t) = refl
+
+released_each_known : {T : Type 0} (w : State T) (p : ℕ) (is : List ℕ) → length (released_each p is w).participants ≡ length w.participants
+released_each_known w p [] = refl
+released_each_known w p (i ∷ is) = released_each_known (released p i w) p is ∙ released_known w p i
+
+pub given_known : {T : Type 0} (w : State T) (p : ℕ) (h : Hold) → length (given p h w).participants ≡ length w.participants
+given_known w p (OwnedItem i) = disowned_known_as w p i (status_at w i)
+given_known w p (SharedItem i) = released_known w p i
+given_known w p (OwnedIn c) = owned_ended_known_as w p c (cell_at w c)
+given_known w p (SharedIn c) = shared_ended_known_as w p c (cell_at w c)
+given_known w p (OwnerGroup g) = released_each_known (with_groups (less_owned g w.groups) w) p (reverse (row_ended g w.groups))
+
+pub gives_groups : {T : Type 0} (w : State T) (p : ℕ) (gs : List GroupState) → Sound w → Gives p w (with_groups gs w)
+gives_groups w p gs h = record { count = refl; values = refl; places = refl; cells = refl; known = refl; due = refl; calm = refl; others = λ k n. refl; noted = λ i n f e. e; occupied = refl; sound = record { sizes = h.sizes; once = h.once; filled = h.filled } }
+
+pub gives_released_each : {T : Type 0} (w : State T) (p : ℕ) (is : List ℕ) → Sound w → p < length w.participants → Gives p w (released_each p is w)
+gives_released_each w p [] h known = gives_refl p w h
+gives_released_each w p (i ∷ is) h known =
+    let first = gives_released_as w p i _ refl h known in
+    gives_then p w (released p i w) _ first (gives_released_each (released p i w) p is first.sound (omega (arith, known, first.known)))
+
 pub gives_given : {T : Type 0} (w : State T) (p : ℕ) (h : Hold) → Sound w → p < length w.participants → Gives p w (given p h w)
 gives_given w p (OwnedItem i) h known = gives_disowned_as w p i _ refl h known
 gives_given w p (SharedItem i) h known = gives_released_as w p i _ refl h known
 gives_given w p (OwnedIn c) h known = gives_owned_ended_as w p c _ h known
 gives_given w p (SharedIn c) h known = gives_shared_ended_as w p c _ h known
+gives_given w p (OwnerGroup g) h known =
+    let first = gives_groups w p (less_owned g w.groups) h in
+    gives_then p w (with_groups (less_owned g w.groups) w) _ first (gives_released_each (with_groups (less_owned g w.groups) w) p (reverse (row_ended g w.groups)) first.sound known)
 
 pub gives_all : {T : Type 0} (w : State T) (p : ℕ) (hs : List Hold) → Sound w → p < length w.participants → Gives p w (given_all p hs w)
 gives_all w p [] h known = gives_refl p w h

@@ -1,13 +1,14 @@
 -- what dropping an item in place does to the store
-use Rattle.std.proofs.Common.{◌≡◌, ◌≢◌, ℕ, suc, ◌+◌, ◌-◌, ◌<◌, ◌≤◌, true, false, List, [], ◌∷◌, ◌++◌, length, take, drop, get_or, refl, sym, ap, ◌∙◌, arith, length-set, subst, cond, get_or-set_same, get_or-set_other, inl, inr, ◌⊎◌, leb, Some, None, Option, is_some}
+use Rattle.std.proofs.Common.{◌≡◌, ◌≢◌, ℕ, suc, ◌+◌, ◌-◌, ◌<◌, ◌≤◌, true, false, List, [], ◌∷◌, ◌++◌, length, take, drop, reverse, get_or, refl, sym, ap, ◌∙◌, arith, length-set, subst, cond, get_or-set_same, get_or-set_other, inl, inr, ◌⊎◌, leb, Some, None, Option, is_some}
 use Rattle.std.proofs.lemmas.Bool.{false≢true}
 use Rattle.std.specs.List.{sum_by}
 use Rattle.std.proofs.Math.Seq.{take-append-add}
 use Rattle.std.proofs.lemmas.List.{ext_get_or, append_assoc, append-nil, nil_from_length, length-append, length-drop, drop_more}
 use Rattle.std.proofs.lemmas.Bool.Decides.{eqb_tells}
-use Rattle.sdd_table.specs.Holding.{Hold, OwnedItem, SharedItem, OwnedIn, SharedIn}
-use Rattle.sdd_table.specs.State.{State, ParticipantState, participant_at, nobody, changing, recalled, with_local_state, local_at, with_local, with_cell, with_status, status_at, value_at, cell_at, put_participant, retired, taken, left_due, occupied, weight}
-use Rattle.sdd_table.specs.Steps.{given, given_all, released_as, disowned_as, owned_ended_as, shared_ended_as, due_reclaimed, due_reclaimed_as, held_in}
+use Rattle.sdd_table.specs.Groups.{less_owned, row_ended}
+use Rattle.sdd_table.specs.Holding.{Hold, OwnedItem, SharedItem, OwnedIn, SharedIn, OwnerGroup}
+use Rattle.sdd_table.specs.State.{State, ParticipantState, participant_at, nobody, changing, recalled, with_local_state, local_at, with_local, with_groups, with_cell, with_status, status_at, value_at, cell_at, put_participant, retired, taken, left_due, occupied, weight}
+use Rattle.sdd_table.specs.Steps.{given, given_all, released, released_each, released_as, disowned_as, owned_ended_as, shared_ended_as, due_reclaimed, due_reclaimed_as, held_in}
 use Rattle.sdd_table.specs.Dropping.{undone, undone_times, Dropped}
 use Rattle.sdd_table.specs.Place.{Sound, IsPlace}
 use Rattle.sdd_table.specs.declared.status.Status.{Status}
@@ -15,7 +16,7 @@ use Rattle.sdd_table.specs.declared.status.Status.TheVariants as status
 use Rattle.sdd_table.specs.declared.status.Cell.{Cell}
 use Rattle.sdd_table.specs.declared.status.Cell.TheVariants as cell
 use Rattle.sdd_plain.specs.declared.local_state.LocalState.{LocalState}
-use Rattle.sdd_table.proofs.BagInvariantLemmas.{times_recalled, Calm, calm, reclaims_next, due_waiting, sound_taken, gives_given, times_set, sound_local}
+use Rattle.sdd_table.proofs.BagInvariantLemmas.{times_recalled, Calm, calm, reclaims_next, due_waiting, sound_taken, gives_given, gives_groups, gives_released_as, times_set, sound_local}
 
 -- what giving owners back adds to the current bag of p
 abbrev pub Grows : {T : Type 0} → ℕ → State T → State T → Type 0
@@ -65,17 +66,24 @@ grows_shared_ended_as w p c (cell.OfShared None t) known = grows_same p w (with_
 grows_shared_ended_as w p c (cell.OfShared (Some i) t) known = grows_released_as (with_cell c cell.Free w) p i (status_at (with_cell c cell.Free w) i) known
 grows_shared_ended_as w p c (cell.OfRaw o t) known = grows_same p w w refl
 
-grows_given : {T : Type 0} (w : State T) (p : ℕ) (h : Hold) → p < length w.participants → Grows p w (given p h w)
-grows_given w p (OwnedItem i) known = grows_disowned_as w p i (status_at w i) known
-grows_given w p (SharedItem i) known = grows_released_as w p i (status_at w i) known
-grows_given w p (OwnedIn c) known = grows_owned_ended_as w p c (cell_at w c) known
-grows_given w p (SharedIn c) known = grows_shared_ended_as w p c (cell_at w c) known
+grows_released_each : {T : Type 0} (w : State T) (p : ℕ) (is : List ℕ) → Sound w → p < length w.participants → Grows p w (released_each p is w)
+grows_released_each w p [] sound known = grows_same p w w refl
+grows_released_each w p (i ∷ is) sound known =
+    let g = gives_released_as w p i (status_at w i) refl sound known in
+    grows_then p w (released p i w) (released_each p is (released p i w)) (grows_released_as w p i (status_at w i) known) (grows_released_each (released p i w) p is g.sound (omega (arith, known, g.known)))
+
+grows_given : {T : Type 0} (w : State T) (p : ℕ) (h : Hold) → Sound w → p < length w.participants → Grows p w (given p h w)
+grows_given w p (OwnedItem i) sound known = grows_disowned_as w p i (status_at w i) known
+grows_given w p (SharedItem i) sound known = grows_released_as w p i (status_at w i) known
+grows_given w p (OwnedIn c) sound known = grows_owned_ended_as w p c (cell_at w c) known
+grows_given w p (SharedIn c) sound known = grows_shared_ended_as w p c (cell_at w c) known
+grows_given w p (OwnerGroup g) sound known = grows_released_each (with_groups (less_owned g w.groups) w) p (reverse (row_ended g w.groups)) (gives_groups w p (less_owned g w.groups) sound).sound known
 
 grows_all : {T : Type 0} (w : State T) (p : ℕ) (hs : List Hold) → Sound w → p < length w.participants → Grows p w (given_all p hs w)
 grows_all w p [] sound known = grows_same p w w refl
 grows_all w p (h ∷ hs) sound known =
     let g = gives_given w p h sound known in
-    grows_then p w (given p h w) (given_all p hs (given p h w)) (grows_given w p h known) (grows_all (given p h w) p hs g.sound (omega (arith, known, g.known)))
+    grows_then p w (given p h w) (given_all p hs (given p h w)) (grows_given w p h sound known) (grows_all (given p h w) p hs g.sound (omega (arith, known, g.known)))
 
 -- the place that came last is due, and in the same bags as often
 sound_recalled : {T : Type 0} (w : State T) (p : ℕ) → Sound w → p < length w.participants → Sound (changing p recalled w)
@@ -158,7 +166,7 @@ pub record Undoing {T : Type 0} (holds : T → List Hold) (p : ℕ) (h : Hold) (
 pub undoing_start : {T : Type 0} (holds : T → List Hold) (p : ℕ) (h : Hold) (w v : State T) → v ≡ given p h w → Sound w → p < length w.participants → (participant_at w p).due ≡ [] → Undoing holds p h w v
 undoing_start {T} holds p h w v e sound known idle =
     let g = gives_given w p h sound known in
-    let grown = grows_given w p h known in
+    let grown = grows_given w p h sound known in
     let start : Undoing holds p h w (given p h w) = record {
       known = omega (arith, g.known, known);
       size = g.known;

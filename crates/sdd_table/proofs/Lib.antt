@@ -1,4 +1,5 @@
 pub mod ListLemmas
+pub mod ArenaLemmas
 pub mod ChainLemmas
 pub mod ThreadLemmas
 pub mod BagInvariantLemmas

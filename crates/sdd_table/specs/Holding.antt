@@ -1,4 +1,4 @@
--- what an item holds, by the numbers of slots and cells
+-- what an item holds, by the numbers of slots, cells and groups
 use Rattle.std.specs.Prelude.{ℕ}
 
 pub data Hold : Type 0 where
@@ -6,3 +6,4 @@ pub data Hold : Type 0 where
   SharedItem : ℕ → Hold
   OwnedIn : ℕ → Hold
   SharedIn : ℕ → Hold
+  OwnerGroup : ℕ → Hold

@@ -1,4 +1,7 @@
 pub use Rattle.sdd_plain.specs.Epochs
+pub mod Groups
+pub mod Arena
+pub mod Names
 pub mod Holding
 pub mod Tokens
 pub mod State

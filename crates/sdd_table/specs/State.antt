@@ -7,6 +7,7 @@ use Rattle.sdd_table.specs.declared.status.Cell.TheVariants as cell
 use Rattle.sdd_plain.specs.declared.local_state.LocalState.{LocalState}
 use Rattle.sdd_plain.specs.declared.sizes.Sizes.{Sizes}
 use Rattle.sdd_plain.specs.declared.tag.Tag.{Tag}
+use Rattle.sdd_table.specs.Groups.{GroupState, NoneOut}
 pub use Rattle.sdd_plain.specs.Locals.{no_local}
 
 -- a participant: its notes on itself, the places in its three bags (of age 0, 1 and 2), and those that are being reclaimed
@@ -17,17 +18,19 @@ pub record ParticipantState : Type 0 where
   pub oldest : List ℕ
   pub due : List ℕ
 
--- the count of raises, the value and the use of each place (item slots, then job places), the cells, the participants
+-- the count of raises, the value and the use of each place (item slots, then job places), the cells, the participants, and the
+-- groups of owners
 pub record State (T : Type 0) : Type 0 where
   pub count : ℕ
   pub values : List (Option T)
   pub states : List Status
   pub cells : List Cell
   pub participants : List ParticipantState
+  pub groups : List GroupState
 
 -- places of these uses, and nothing else
 abbrev pub uses_alone : List Status → State ℕ
-uses_alone ss = record { count = 0; values = []; states = ss; cells = []; participants = [] }
+uses_alone ss = record { count = 0; values = []; states = ss; cells = []; participants = []; groups = [] }
 
 -- reading: numbers out of range name nothing
 abbrev pub nobody : ParticipantState
@@ -178,9 +181,9 @@ NoCellFree w = (c : ℕ) → c < length w.cells → cell_at w c ≢ cell.Free
 abbrev pub in_use : {T : Type 0} → State T → ℕ
 in_use w = sum_by usage w.states
 
--- no slot has an item, and every cell is free
+-- no slot has an item, every cell is free, and no group has an owner
 abbrev pub IsUnused : {T : Type 0} → State T → Type 0
-IsUnused w = (in_use w ≡ 0) × (sum_by emptiness w.cells ≡ length w.cells)
+IsUnused w = (in_use w ≡ 0) × (sum_by emptiness w.cells ≡ length w.cells) × NoneOut w.groups
 
 -- changing
 abbrev pub with_status : {T : Type 0} → ℕ → Status → State T → State T
@@ -188,6 +191,9 @@ with_status i s w = record w { states = set w.states i s }
 
 abbrev pub with_cell : {T : Type 0} → ℕ → Cell → State T → State T
 with_cell c k w = record w { cells = set w.cells c k }
+
+abbrev pub with_groups : {T : Type 0} → List GroupState → State T → State T
+with_groups gs w = record w { groups = gs }
 
 -- a cell that has tag t, where it is in use
 abbrev pub with_tag : Tag → Cell → Cell
@@ -281,4 +287,5 @@ fresh n = record {
   states = replicate n.slots status.Free ++ replicate n.jobs status.Idle;
   cells = replicate n.cells cell.Free;
   participants = replicate n.participants nobody;
+  groups = [];
 }

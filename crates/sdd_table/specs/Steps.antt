@@ -1,8 +1,9 @@
 -- what each call of a place makes of its state
-use Rattle.std.specs.Prelude.{◌≡◌, ℕ, zero, suc, ◌+◌, ◌-◌, ◌==◌, Bool, true, false, not, ◌&&◌, cond, Option, None, Some, List, [], ◌∷◌, ◌++◌, length, replicate, leb, ltb}
+use Rattle.std.specs.Prelude.{◌≡◌, ℕ, zero, suc, ◌+◌, ◌-◌, ◌==◌, Bool, true, false, not, ◌&&◌, cond, Option, None, Some, List, [], ◌∷◌, ◌++◌, length, replicate, reverse, leb, ltb}
 use Rattle.std.specs.List.{list_all, sum_by}
-use Rattle.sdd_table.specs.Holding.{Hold, OwnedItem, SharedItem, OwnedIn, SharedIn}
-use Rattle.sdd_table.specs.State.{State, ParticipantState, status_at, value_at, cell_at, participant_at, local_at, with_status, with_cell, changing, published_at, with_local_state, with_local, retired, slot_freed, rotated_bags, taken, raised, is_present, behind_at}
+use Rattle.sdd_table.specs.Groups.{less_owned, row_ended}
+use Rattle.sdd_table.specs.Holding.{Hold, OwnedItem, SharedItem, OwnedIn, SharedIn, OwnerGroup}
+use Rattle.sdd_table.specs.State.{State, ParticipantState, status_at, value_at, cell_at, participant_at, local_at, with_status, with_cell, with_groups, changing, published_at, with_local_state, with_local, retired, slot_freed, rotated_bags, taken, raised, is_present, behind_at}
 use Rattle.sdd_table.specs.declared.status.Status.{Status}
 use Rattle.sdd_table.specs.declared.status.Status.TheVariants as status
 use Rattle.sdd_table.specs.declared.status.Cell.{Cell}
@@ -67,12 +68,22 @@ shared_ended_as (cell.OfRaw o t) p c w = w
 abbrev pub shared_ended : {T : Type 0} → ℕ → ℕ → State T → State T
 shared_ended p c w = shared_ended_as (cell_at w c) p c w
 
+-- participant p gives one owner of each of several shared items back
+abbrev pub released_each : {T : Type 0} → ℕ → List ℕ → State T → State T
+released_each p [] w = w
+released_each p (i ∷ is) w = released_each p is (released p i w)
+
+-- an owner of group g is given back; the last one ends it, and gives back what its row names, from the end
+abbrev pub group_given : {T : Type 0} → ℕ → ℕ → State T → State T
+group_given p g w = released_each p (reverse (row_ended g w.groups)) (with_groups (less_owned g w.groups) w)
+
 -- participant p gives back what an item held that it reclaims
 abbrev pub given : {T : Type 0} → ℕ → Hold → State T → State T
 given p (OwnedItem i) w = disowned p i w
 given p (SharedItem i) w = released p i w
 given p (OwnedIn c) w = owned_ended p c w
 given p (SharedIn c) w = shared_ended p c w
+given p (OwnerGroup g) w = group_given p g w
 
 abbrev pub given_all : {T : Type 0} → ℕ → List Hold → State T → State T
 given_all p [] w = w

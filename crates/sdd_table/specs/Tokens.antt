@@ -1,6 +1,7 @@
 -- what owners and cells show to clauses: numbers of slots and cells
 use Rattle.std.specs.Prelude.{ℕ, Option}
-use Rattle.sdd_table.specs.Holding.{Hold, OwnedItem, SharedItem, OwnedIn, SharedIn}
+use Rattle.sdd_table.specs.Groups.{name_of}
+use Rattle.sdd_table.specs.Holding.{Hold, OwnedItem, SharedItem, OwnedIn, SharedIn, OwnerGroup}
 use Rattle.sdd_table.specs.declared.owner.Owned.{Owned}
 use Rattle.sdd_table.specs.declared.owner.Shared.{Shared}
 use Rattle.sdd_table.specs.declared.owner.Kept.{Kept}
@@ -33,12 +34,13 @@ owned_cell c = c.cell
 abbrev pub shared_cell : {T : Type 0} → AtomicShared T → ℕ
 shared_cell c = c.cell
 
--- an owner or a cell as what an item holds
+-- an owner, a cell or an owner of a group as what an item holds
 abbrev pub hold_of : {T : Type 0} → Held T → Hold
 hold_of (held.Owned o) = OwnedItem (owned_slot o)
 hold_of (held.Shared s) = SharedItem (shared_slot s)
 hold_of (held.OwnedCell c) = OwnedIn (owned_cell c)
 hold_of (held.SharedCell c) = SharedIn (shared_cell c)
+hold_of (held.Group g) = OwnerGroup (name_of g)
 
 -- the slots of owners that may be there
 abbrev pub owned_slots : {T : Type 0} → Option (Owned T) → Option ℕ

@@ -1,8 +1,7 @@
 -- how the fields of the store show its state, and what is always true of them
-use Rattle.std.specs.Prelude.{is_some, ◌≡◌, ℕ, ◌≤◌, List, length, map, get_or, sum_by, vec_capacity, replicate, ◌++◌, true, false}
-use Rattle.std.specs.Global.{Vec}
+use Rattle.std.specs.Prelude.{is_some, ◌≡◌, ℕ, ◌≤◌, length, map, get_or, sum_by, replicate, ◌++◌, true, false}
 use Rattle.sdd_table.specs.State.{State, weight, is_used, usage, vacancy, idleness, emptiness, is_job}
-use Rattle.sdd_table.specs.Steps.{times}
+pub use Rattle.sdd_table.specs.Names.{Lists, IsFreeList}
 use Rattle.sdd_table.specs.declared.table.Table.TheInside.{Inside}
 use Rattle.sdd_table.specs.Place.{held_times}
 use Rattle.sdd_table.specs.declared.status.Status.TheVariants as status
@@ -14,17 +13,8 @@ state_of w = record {
   states = w.states.items;
   cells = w.cells.items;
   participants = w.participants.all;
+  groups = w.groups;
 }
-
--- a list names each place once whose use weighs 1, and no other
-pub record Lists {X : Type 0} (f : X → ℕ) (all : List X) (names : List ℕ) : Type 0 where
-  pub each : (j : ℕ) → times j names ≡ get_or (map f all) j 0
-  pub count : length names ≡ sum_by f all
-
--- a stack of these names, with room for n
-pub record IsFreeList {X : Type 0} (f : X → ℕ) (all : List X) (n : ℕ) (stack : Vec ℕ) : Type 0 where
-  pub lists : Lists f all stack.items
-  pub room : n ≤ vec_capacity stack
 
 pub record IsTable {T J : Type 0} (w : Inside T J) : Type 0 where
   pub filled : map is_some w.values.items ≡ map is_used w.states.items

@@ -5,6 +5,7 @@ ghost use Rattle.sdd_table.specs.Holding.{Hold};
 ghost use Rattle.sdd_table.specs.Tokens.{hold_of, kept_slot};
 
 use crate::cell::{AtomicOwned, AtomicShared};
+use crate::groups::Group;
 use crate::owner::{Kept, Owned, Shared};
 
 /// What an item may own.
@@ -13,6 +14,7 @@ pub enum Held<T> {
     Shared(Shared<T>),
     OwnedCell(AtomicOwned<T>),
     SharedCell(AtomicShared<T>),
+    Group(Group),
 }
 
 /// An item that hands over what it owns one at a time, and is then consumed.
@@ -22,7 +24,7 @@ pub trait Holds: Sized {
     /// What the item owns, in the order in which it is handed over.
     ghost holds: { Self → List Hold };
 
-    /// Hands over one owner or cell, or answers that nothing is left.
+    /// Hands over one owner, cell or owner of a group, or answers that nothing is left.
     fn give_up(&mut self) -> Option<Held<Self>>
         ensures { MatchOption result ((holds self.old ≡ []) × (holds self.new ≡ [])) (λ h. holds self.old ≡ hold_of h ∷ holds self.new) };
 

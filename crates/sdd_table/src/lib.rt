@@ -7,6 +7,7 @@
 
 mod bags;
 pub mod cell;
+pub mod groups;
 pub mod holds;
 pub mod job;
 mod keeping;
@@ -22,6 +23,7 @@ pub mod table;
 pub mod tokens;
 
 pub use cell::{AtomicOwned, AtomicShared};
+pub use groups::Group;
 pub use holds::{Held, Holds, KeepsRow};
 pub use job::{Deferred, Job, NoJob, Task};
 pub use link::Link;

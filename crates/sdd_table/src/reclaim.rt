@@ -1,17 +1,19 @@
 //! What a rotation, an opening and a closing do to the store, with the bags open in between.
 
-ghost use Rattle.std.specs.Prelude.{◌≡◌, ◌+◌, ◌-◌, ◌<◌, ◌≤◌, ℕ, List, [], ◌∷◌, length, IsTrue, IsFalse, IfSome, IfNone, true};
+ghost use Rattle.std.specs.Prelude.{◌≡◌, ◌+◌, ◌-◌, ◌<◌, ◌≤◌, ℕ, List, [], ◌∷◌, length, map, reverse, IsTrue, IsFalse, IfSome, IfNone, true};
 ghost use Rattle.sdd_table.specs.State.{is_used, mark_of, named_by, behind_at, status_at, participant_at, local_at, weight};
-ghost use Rattle.sdd_table.specs.Steps.{released, disowned, owned_ended, shared_ended, given, given_all, participant_rotated, guard_opened, guard_closed, scanned, IsNext, Swept, AllSwept, purged, left_waiting, enqueued, followed, set_aside, handed_over, overdue, IsTimely, LeavesOverdue, HandsFirst, closings_after, scans as scans_at};
+ghost use Rattle.sdd_table.specs.Steps.{released, disowned, owned_ended, shared_ended, given, given_all, group_given, released_each, participant_rotated, guard_opened, guard_closed, scanned, IsNext, Swept, AllSwept, purged, left_waiting, enqueued, followed, set_aside, handed_over, overdue, IsTimely, LeavesOverdue, HandsFirst, closings_after, scans as scans_at};
 ghost use Rattle.sdd_table.specs.Dropping.{undone, Dropped};
 ghost use Rattle.sdd_table.specs.Place.{Sound, IsPlace, IsOwned, IsShared, SaysLast};
 ghost use Rattle.sdd_table.specs.Frame.{OnlyParticipant};
-ghost use Rattle.sdd_table.specs.Tokens.{hold_of};
+ghost use Rattle.sdd_table.specs.Groups.{name_of};
+ghost use Rattle.sdd_table.specs.Tokens.{hold_of, kept_slot};
 
 use crate::cell::{AtomicOwned, AtomicShared};
+use crate::groups::Group;
 use crate::holds::{Held, Holds};
 use crate::job::Deferred;
-use crate::owner::{Owned, Shared};
+use crate::owner::{Kept, Owned, Shared};
 use crate::private_bag::PrivateBag;
 use crate::status::{Cell, LocalState, Status};
 use crate::table::{Due, Table};
@@ -48,6 +50,7 @@ fn give<T, J: Deferred>(table: &mut Table<T, J>, p: usize, held: Held<T>)
         Held::Shared(Shared { slot, of: _ }) => give_shared(table, p, slot),
         Held::OwnedCell(AtomicOwned { cell, of: _ }) => end_owned(table, p, cell),
         Held::SharedCell(AtomicShared { cell, of: _ }) => end_shared(table, p, cell),
+        Held::Group(group) => give_group(table, p, group),
     }
 }
 
@@ -108,6 +111,28 @@ pub fn end_shared<T, J: Deferred>(table: &mut Table<T, J>, p: usize, cell: usize
             give_shared(table, p, slot);
         }
     }
+}
+
+/// An owner of a group is given back; the last one ends it, and gives back what its row names, from the end.
+pub fn give_group<T, J: Deferred>(table: &mut Table<T, J>, p: usize, group: Group)
+    requires { p < length table.old.participants }
+    ensures { table.new ≡ group_given p (name_of group) table.old }
+{
+    if let Some(row) = table.lower_group(group) {
+        give_row(table, p, row);
+    }
+}
+
+/// One owner of each item that a row names is given back, from the end of the row.
+fn give_row<T, J: Deferred>(table: &mut Table<T, J>, p: usize, mut row: Vec<Kept>)
+    requires { p < length table.old.participants }
+    ensures { table.new ≡ released_each p (reverse (map kept_slot row.items)) table.old }
+{
+    while let Some(kept) = row.pop() {
+        let Kept { slot } = kept;
+        give_shared(table, p, slot);
+    }
+    row.destroy_empty();
 }
 
 /// Everything that `value` holds is given back by `p`, and the value ends.

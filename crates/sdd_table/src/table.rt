@@ -6,12 +6,14 @@ ghost use Rattle.std.specs.Borrow.{sem};
 ghost use Rattle.std.specs.Option.Follows.{option_follows_value};
 ghost use Rattle.sdd_table.specs.State.{changing, recalled, concluded_with, hastened, IsIdle, NoneIdle, with_status, with_local, IsFree, NoneFree, IsFreeCell, NoCellFree, in_use, IsUnused, waiting_as, status_at, participant_at, local_at, value_at, cell_at, rotated_bags, placed, raised, nobody, TakesDue, with_cell, is_present, is_used, weight, idleness, vacancy, emptiness, fresh, slot_freed, usage};
 ghost use Rattle.std.specs.List.{list_all};
+ghost use Rattle.sdd_table.specs.Groups.{NoneOut};
 ghost use Rattle.sdd_table.specs.View.{Lists, IsFreeList};
 ghost use Rattle.sdd_table.specs.Steps.{bags_empty, NoneOpen, count_published, settled};
 ghost use Rattle.sdd_table.specs.Place.{ClaimsCell, HasItem, PlacesItem, IsOpen, AddsOwner, AddsOwners, HasOtherOwners, LosesOwner, TakeOwners, TakesOwner, kept_at, kept_between};
 ghost use Rattle.sdd_table.specs.Tokens.{kept_slot};
 
 use crate::bags::Participants;
+use crate::groups::Groups;
 use crate::holds::KeepsRow;
 use crate::job::Deferred;
 use crate::keeping;
@@ -23,6 +25,8 @@ use std::alloc::{AllocError, Global};
 use std::marker::Model;
 use std::mem;
 
+mod grouping;
+
 /// What was in a place that was due: an item, or a job.
 pub(crate) struct Due<T, J> {
     pub(crate) value: Option<T>,
@@ -30,7 +34,6 @@ pub(crate) struct Due<T, J> {
 }
 
 /// Numbered slots, cells and participants, with room for what waits.
-#[derive(Drop)]
 pub struct Table<T, J: Deferred> {
     count: u64,
     /// How many slots have an item.
@@ -46,6 +49,7 @@ pub struct Table<T, J: Deferred> {
     free: Vec<usize>,
     idle: Vec<usize>,
     free_cells: Vec<usize>,
+    groups: Groups,
 }
 
 /// Invariant: specs/View.antt, IsTable: a value is in each slot that is used, the stacks of free places name those that
@@ -382,11 +386,17 @@ impl<T, J: Deferred> Table<T, J> {
         self.participants.any_open()
     }
 
-    /// Whether no slot has an item, and every cell is free.
+    /// Whether no slot has an item, every cell is free, and no group has an owner.
     pub fn is_unused(&self) -> bool
         ensures { IsTrue result ↔ IsUnused self.now }
     {
-        self.used == 0 && self.free_cells.len() == self.cells.len()
+        if self.used != 0 {
+            return false;
+        }
+        if self.free_cells.len() != self.cells.len() {
+            return false;
+        }
+        self.groups.is_unused()
     }
 
     /// How many participants there are.
@@ -513,12 +523,14 @@ impl<T, J: Deferred> Table<T, J> {
             free,
             idle,
             free_cells,
+            groups: Groups::new(alloc),
         })
     }
 
-    /// Gives the room back, where no slot has an item.
+    /// Gives the room back, where no slot has an item and no group an owner.
     pub fn end(self)
-        requires { in_use self ≡ 0 }
+        requires items { in_use self ≡ 0 }
+        requires groups { NoneOut self.groups }
     {
         let Table {
             count: _,
@@ -532,6 +544,7 @@ impl<T, J: Deferred> Table<T, J> {
             free: _,
             idle: _,
             free_cells: _,
+            groups,
         } = self;
         while let Some(value) = values.pop() {
             match value {
@@ -540,6 +553,7 @@ impl<T, J: Deferred> Table<T, J> {
             }
         }
         values.destroy_empty();
+        groups.end();
     }
 }
 

@@ -1,9 +1,10 @@
 -- what an opening leaves of a cell whose owner is in hand
 use Rattle.std.proofs.Common.{◌≡◌, ◌≢◌, ℕ, zero, suc, ◌+◌, ◌-◌, ◌<◌, ◌≤◌, ◌==◌, true, false, Option, None, Some, List, [], ◌∷◌, ◌++◌, length, get_or, refl, sym, ap, ◌∙◌, arith, length-set, subst, cond, reverse, get_or-set_other, get_or-set_same, leb}
 use Rattle.std.proofs.lemmas.List.{length-reverse}
-use Rattle.sdd_table.specs.Holding.{Hold, OwnedItem, SharedItem, OwnedIn, SharedIn}
-use Rattle.sdd_table.specs.State.{State, ParticipantState, status_at, value_at, cell_at, participant_at, local_at, with_status, with_cell, with_local, retired, taken, rotated_bags, bags_moved_on, nobody, with_local_state, left_due, weight}
-use Rattle.sdd_table.specs.Steps.{hit, times, held_in, given, given_all, released_as, disowned_as, owned_ended_as, shared_ended_as, due_reclaimed, due_reclaimed_as, reclaimed, participant_rotated, count_published, guard_opened}
+use Rattle.sdd_table.specs.Groups.{less_owned, row_ended}
+use Rattle.sdd_table.specs.Holding.{Hold, OwnedItem, SharedItem, OwnedIn, SharedIn, OwnerGroup}
+use Rattle.sdd_table.specs.State.{State, ParticipantState, status_at, value_at, cell_at, participant_at, local_at, with_status, with_cell, with_groups, with_local, retired, taken, rotated_bags, bags_moved_on, nobody, with_local_state, left_due, weight}
+use Rattle.sdd_table.specs.Steps.{hit, times, held_in, given, given_all, released, released_each, released_as, disowned_as, owned_ended_as, shared_ended_as, due_reclaimed, due_reclaimed_as, reclaimed, participant_rotated, count_published, guard_opened}
 use Rattle.sdd_table.specs.Place.{Sound, IsPlace}
 use Rattle.sdd_world.specs.Counting.{tally, same_hold, keeps_shared, Counted, HeldCellsStay}
 use Rattle.sdd_table.specs.declared.status.Status.{Status}
@@ -34,6 +35,10 @@ module _ {T : Type 0} where
   cells_released_as status.Retired p i w = refl
   cells_released_as status.Idle p i w = refl
   cells_released_as status.Deferred p i w = refl
+
+  cells_released_each : (is : List ℕ) (p : ℕ) (w : State T) → (released_each p is w).cells ≡ w.cells
+  cells_released_each [] p w = refl
+  cells_released_each (i ∷ is) p w = cells_released_each is p (released p i w) ∙ cells_released_as (status_at w i) p i w
 
   cells_disowned_as : (s : Status) (p i : ℕ) (w : State T) → (disowned_as s p i w).cells ≡ w.cells
   cells_disowned_as status.Free p i w = refl
@@ -92,6 +97,7 @@ module _ {T : Type 0} (holds : T → List Hold) (c i : ℕ) where
   cell_given p (SharedIn d) w a =
       let far : c ≢ d = λ q. let P : ℕ → Type 0 = λ j. hit j c ≡ 0 in let z : P d = a.other in let y : P c = subst P (sym q) z in absurd (omega (arith, hit-same c, y)) in
       cell_shared_ended_as c d p (cell_at w d) w far
+  cell_given p (OwnerGroup g) w a = ap (λ (cs : List Cell). get_or cs c cell.Free) (cells_released_each (reverse (row_ended g w.groups)) p (with_groups (less_owned g w.groups) w))
 
   -- the owners are counted, cell c is as it was, and so is the item in slot i
   record Leaves (hand : List Hold) (w w' : State T) : Type 0 where
@@ -142,7 +148,7 @@ module _ {T : Type 0} (holds : T → List Hold) (c i : ℕ) where
       let at : participant_at u p ≡ bags_moved_on m = get_or-set_same w.participants p (bags_moved_on m) nobody known in
       let due : (participant_at u p).due ≡ reverse m.oldest = ap (λ (m : ParticipantState). m.due) at in
       let out : times i (participant_at u p).due ≡ 0 = omega (arith, ap (times i) due, times_reversed i m.oldest, bag_waits w p i place.sound known, light) in
-      let x = leaves_reclaimed p (length m.oldest) hand u (participant_at u p).due refl (ap length due ∙ length-reverse m.oldest) (sound_turned w p place.sound known (place.idle p)) (omega (arith, known, length-set w.participants p (bags_moved_on m))) out some (counted_same holds hand w u refl refl refl h) in
+      let x = leaves_reclaimed p (length m.oldest) hand u (participant_at u p).due refl (ap length due ∙ length-reverse m.oldest) (sound_turned w p place.sound known (place.idle p)) (omega (arith, known, length-set w.participants p (bags_moved_on m))) out some (counted_same holds hand w u refl refl refl refl h) in
       x.same
 
   pub cell_opened : (p : ℕ) (hand : List Hold) (w : State T) → IsPlace w → p < length w.participants → weight (status_at w i) ≡ 0 → Elsewhere hand w → Counted holds hand w → cell_at (guard_opened holds p w) c ≡ cell_at w c
@@ -151,7 +157,7 @@ module _ {T : Type 0} (holds : T → List Hold) (c i : ℕ) where
       let b : State T = count_published p w in
       let n : State T = with_local p (record m { nesting = m.nesting + 1 }) w in
       let kb : p < length b.participants = omega (arith, known, length-set w.participants p (with_local_state (record m { nesting = 1; published = w.count; previous = w.count; accelerated = false }) (participant_at w p))) in
-      let turns : cell_at (participant_rotated holds p b) c ≡ cell_at w c = cell_rotated p hand b (place_begun w p place known) kb light some (counted_same holds hand w b refl refl refl h) in
+      let turns : cell_at (participant_rotated holds p b) c ≡ cell_at w c = cell_rotated p hand b (place_begun w p place known) kb light some (counted_same holds hand w b refl refl refl refl h) in
       let outer : cell_at (cond (m.previous == w.count) b (participant_rotated holds p b)) c ≡ cell_at w c = elim (m.previous == w.count) as (λ k. cell_at (cond k b (participant_rotated holds p b)) c ≡ cell_at w c) [ true ↦ refl | false ↦ turns ] in
       elim (m.nesting == 0) as (λ k. cell_at (cond k (cond (m.previous == w.count) b (participant_rotated holds p b)) n) c ≡ cell_at w c) [ true ↦ outer | false ↦ refl ]
 

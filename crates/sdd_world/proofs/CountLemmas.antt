@@ -1,15 +1,18 @@
 -- owners stay counted over every call
-use Rattle.std.proofs.Common.{◌≡◌, ◌≢◌, ℕ, zero, suc, ◌+◌, ◌-◌, ◌<◌, ◌≤◌, ◌==◌, true, false, Option, None, Some, List, [], ◌∷◌, ◌++◌, length, get_or, set, refl, sym, ap, ◌∙◌, arith, length-set, subst, cond, get_or-set_other, get_or-set_same, leb, inl, inr, is_some, reverse, ltb, ◌&&◌, replicate}
+use Rattle.std.proofs.Common.{◌≡◌, ◌≢◌, ℕ, zero, suc, ◌+◌, ◌-◌, ◌<◌, ◌≤◌, ◌==◌, true, false, Option, None, Some, List, [], ◌∷◌, ◌++◌, length, map, get_or, set, refl, sym, ap, ◌∙◌, arith, length-set, subst, cond, get_or-set_other, get_or-set_same, leb, inl, inr, is_some, reverse, ltb, ◌&&◌, replicate}
 use Rattle.std.specs.List.{sum_by}
 use Rattle.std.proofs.lemmas.List.Sums.{sum_by-set, sum_by-cons, sum_by-append}
 use Rattle.std.proofs.lemmas.Bool.{false≢true}
 use Rattle.std.proofs.lemmas.Bool.Decides.{nat_tests, eqb_tells}
-use Rattle.sdd_table.specs.Holding.{Hold, OwnedItem, SharedItem, OwnedIn, SharedIn}
-use Rattle.sdd_table.specs.State.{State, behind_at, mark_of, ParticipantState, status_at, value_at, cell_at, participant_at, local_at, placed, with_value, changing, recalled, slot_freed, waiting_as, IsIdle, with_status, with_cell, with_local, retired, taken, vacated, weight, is_used, IsFree, IsFreeCell, rotated_bags, bags_moved_on, raised, is_present, nobody, with_local_state, fresh}
-use Rattle.sdd_table.specs.Steps.{overdue, noted_reclaimed, left_behind, purged, purged_within, followed, followed_as, set_aside, handed_over, handed_over_as, handed_within, hit, held_in, given, given_all, released_as, disowned_as, owned_ended_as, shared_ended_as, due_reclaimed, due_reclaimed_as, reclaimed, participant_rotated, count_published, guard_opened, guard_closed, scanned, scans, closings_after}
+use Rattle.sdd_table.specs.Groups.{GroupState, IsFreeName, IsOut, count_at, less_owned, more_owned, no_group, row_at, row_ended, with_row}
+use Rattle.sdd_table.specs.Holding.{Hold, OwnedItem, SharedItem, OwnedIn, SharedIn, OwnerGroup}
+use Rattle.sdd_table.specs.State.{State, behind_at, mark_of, ParticipantState, status_at, value_at, cell_at, participant_at, local_at, placed, with_value, changing, recalled, slot_freed, waiting_as, IsIdle, with_status, with_cell, with_groups, with_local, retired, taken, vacated, weight, is_used, IsFree, IsFreeCell, rotated_bags, bags_moved_on, raised, is_present, nobody, with_local_state, fresh}
+use Rattle.sdd_table.specs.Steps.{overdue, noted_reclaimed, left_behind, purged, purged_within, followed, followed_as, set_aside, handed_over, handed_over_as, handed_within, hit, held_in, given, given_all, released, released_each, times, released_as, disowned_as, owned_ended_as, shared_ended_as, due_reclaimed, due_reclaimed_as, reclaimed, participant_rotated, count_published, guard_opened, guard_closed, scanned, scans, closings_after}
+use Rattle.sdd_table.proofs.ArenaLemmas.{ends_last, one_or_more, out_inside, stays_out}
+use Rattle.sdd_world.proofs.RowLemmas.{row_counted, rows_given, rows_grown, rows_made, rows_raised, tally_reversed}
 use Rattle.sdd_table.proofs.SlotLemmas.{at_most}
 use Rattle.sdd_table.specs.Place.{Sound, IsPlace, IsShared, IsOwned, IsSharedCell}
-use Rattle.sdd_world.specs.Counting.{same_hold, tally, kept_by, single_owner, shared_owners, keeps_owned, keeps_shared, owners_of, Counted, OwnersAreCounted}
+use Rattle.sdd_world.specs.Counting.{same_hold, tally, kept_by, single_owner, shared_owners, keeps_owned, keeps_shared, owners_of, rows_held, Counted, OwnersAreCounted}
 use Rattle.sdd_table.specs.declared.status.Status.{Status}
 use Rattle.sdd_table.specs.declared.status.Status.TheVariants as status
 use Rattle.sdd_table.specs.declared.status.Cell.{Cell}
@@ -71,6 +74,7 @@ module _ {T : Type 0} where
   pub record Uses (w w' : State T) (i : ℕ) (s : Status) : Type 0 where
     pub states : w'.states ≡ set w.states i s
     pub cells : w'.cells ≡ w.cells
+    pub groups : w'.groups ≡ w.groups
     pub inside : i < length w.states
 
   pub uses_same : (h : Hold) (w w' : State T) (i : ℕ) (s : Status) → Uses w w' i s → single_owner s ≡ single_owner (status_at w i) → shared_owners s ≡ shared_owners (status_at w i) → owners_of h w' ≡ owners_of h w
@@ -78,35 +82,41 @@ module _ {T : Type 0} where
   uses_same (SharedItem j) w w' i s u a b = ap (λ (ss : List Status). shared_owners (get_or ss j status.Free)) u.states ∙ weigh_same shared_owners w.states i j s status.Free u.inside b
   uses_same (OwnedIn c) w w' i s u a b = ap (λ (cs : List Cell). keeps_owned (get_or cs c cell.Free)) u.cells
   uses_same (SharedIn c) w w' i s u a b = ap (λ (cs : List Cell). keeps_shared (get_or cs c cell.Free)) u.cells
+  uses_same (OwnerGroup g) w w' i s u a b = ap (λ (gs : List GroupState). count_at gs g) u.groups
 
   pub uses_single_more : (h : Hold) (w w' : State T) (i : ℕ) (s : Status) → Uses w w' i s → single_owner s ≡ single_owner (status_at w i) + 1 → shared_owners s ≡ shared_owners (status_at w i) → owners_of h w' ≡ owners_of h w + same_hold h (OwnedItem i)
   uses_single_more (OwnedItem j) w w' i s u a b = omega (arith, ap (λ (xs : List Status). single_owner (get_or xs j status.Free)) u.states, weigh_more single_owner w.states i j s status.Free u.inside a)
   uses_single_more (SharedItem j) w w' i s u a b = omega (arith, ap (λ (xs : List Status). shared_owners (get_or xs j status.Free)) u.states, weigh_same shared_owners w.states i j s status.Free u.inside b)
   uses_single_more (OwnedIn c) w w' i s u a b = omega (arith, ap (λ (xs : List Cell). keeps_owned (get_or xs c cell.Free)) u.cells)
   uses_single_more (SharedIn c) w w' i s u a b = omega (arith, ap (λ (xs : List Cell). keeps_shared (get_or xs c cell.Free)) u.cells)
+  uses_single_more (OwnerGroup g) w w' i s u a b = omega (arith, ap (λ (gs : List GroupState). count_at gs g) u.groups)
 
   pub uses_single_less : (h : Hold) (w w' : State T) (i : ℕ) (s : Status) → Uses w w' i s → single_owner s + 1 ≡ single_owner (status_at w i) → shared_owners s ≡ shared_owners (status_at w i) → owners_of h w' + same_hold h (OwnedItem i) ≡ owners_of h w
   uses_single_less (OwnedItem j) w w' i s u a b = omega (arith, ap (λ (xs : List Status). single_owner (get_or xs j status.Free)) u.states, weigh_less single_owner w.states i j s status.Free u.inside a)
   uses_single_less (SharedItem j) w w' i s u a b = omega (arith, ap (λ (xs : List Status). shared_owners (get_or xs j status.Free)) u.states, weigh_same shared_owners w.states i j s status.Free u.inside b)
   uses_single_less (OwnedIn c) w w' i s u a b = omega (arith, ap (λ (xs : List Cell). keeps_owned (get_or xs c cell.Free)) u.cells)
   uses_single_less (SharedIn c) w w' i s u a b = omega (arith, ap (λ (xs : List Cell). keeps_shared (get_or xs c cell.Free)) u.cells)
+  uses_single_less (OwnerGroup g) w w' i s u a b = omega (arith, ap (λ (gs : List GroupState). count_at gs g) u.groups)
 
   pub uses_shared_more : (h : Hold) (w w' : State T) (i : ℕ) (s : Status) → Uses w w' i s → shared_owners s ≡ shared_owners (status_at w i) + 1 → single_owner s ≡ single_owner (status_at w i) → owners_of h w' ≡ owners_of h w + same_hold h (SharedItem i)
   uses_shared_more (OwnedItem j) w w' i s u a b = omega (arith, ap (λ (xs : List Status). single_owner (get_or xs j status.Free)) u.states, weigh_same single_owner w.states i j s status.Free u.inside b)
   uses_shared_more (SharedItem j) w w' i s u a b = omega (arith, ap (λ (xs : List Status). shared_owners (get_or xs j status.Free)) u.states, weigh_more shared_owners w.states i j s status.Free u.inside a)
   uses_shared_more (OwnedIn c) w w' i s u a b = omega (arith, ap (λ (xs : List Cell). keeps_owned (get_or xs c cell.Free)) u.cells)
   uses_shared_more (SharedIn c) w w' i s u a b = omega (arith, ap (λ (xs : List Cell). keeps_shared (get_or xs c cell.Free)) u.cells)
+  uses_shared_more (OwnerGroup g) w w' i s u a b = omega (arith, ap (λ (gs : List GroupState). count_at gs g) u.groups)
 
   pub uses_shared_less : (h : Hold) (w w' : State T) (i : ℕ) (s : Status) → Uses w w' i s → shared_owners s + 1 ≡ shared_owners (status_at w i) → single_owner s ≡ single_owner (status_at w i) → owners_of h w' + same_hold h (SharedItem i) ≡ owners_of h w
   uses_shared_less (OwnedItem j) w w' i s u a b = omega (arith, ap (λ (xs : List Status). single_owner (get_or xs j status.Free)) u.states, weigh_same single_owner w.states i j s status.Free u.inside b)
   uses_shared_less (SharedItem j) w w' i s u a b = omega (arith, ap (λ (xs : List Status). shared_owners (get_or xs j status.Free)) u.states, weigh_less shared_owners w.states i j s status.Free u.inside a)
   uses_shared_less (OwnedIn c) w w' i s u a b = omega (arith, ap (λ (xs : List Cell). keeps_owned (get_or xs c cell.Free)) u.cells)
   uses_shared_less (SharedIn c) w w' i s u a b = omega (arith, ap (λ (xs : List Cell). keeps_shared (get_or xs c cell.Free)) u.cells)
+  uses_shared_less (OwnerGroup g) w w' i s u a b = omega (arith, ap (λ (gs : List GroupState). count_at gs g) u.groups)
 
   -- the use of one cell changes
   pub record Turns (w w' : State T) (c : ℕ) (k : Cell) : Type 0 where
     pub states : w'.states ≡ w.states
     pub cells : w'.cells ≡ set w.cells c k
+    pub groups : w'.groups ≡ w.groups
     pub values : w'.values ≡ w.values
     pub inside : c < length w.cells
 
@@ -118,30 +128,35 @@ module _ {T : Type 0} where
   turns_same (SharedItem j) w w' c k u a b = omega (arith, ap (λ (xs : List Status). shared_owners (get_or xs j status.Free)) u.states)
   turns_same (OwnedIn j) w w' c k u a b = omega (arith, ap (λ (xs : List Cell). keeps_owned (get_or xs j cell.Free)) u.cells, weigh_same keeps_owned w.cells c j k cell.Free u.inside b)
   turns_same (SharedIn j) w w' c k u a b = omega (arith, ap (λ (xs : List Cell). keeps_shared (get_or xs j cell.Free)) u.cells, weigh_same keeps_shared w.cells c j k cell.Free u.inside a)
+  turns_same (OwnerGroup g) w w' c k u a b = omega (arith, ap (λ (gs : List GroupState). count_at gs g) u.groups)
 
   pub turns_owned_more : (h : Hold) (w w' : State T) (c : ℕ) (k : Cell) → Turns w w' c k → keeps_owned k ≡ keeps_owned (cell_at w c) + 1 → keeps_shared k ≡ keeps_shared (cell_at w c) → owners_of h w' ≡ owners_of h w + same_hold h (OwnedIn c)
   turns_owned_more (OwnedItem j) w w' c k u a b = omega (arith, ap (λ (xs : List Status). single_owner (get_or xs j status.Free)) u.states)
   turns_owned_more (SharedItem j) w w' c k u a b = omega (arith, ap (λ (xs : List Status). shared_owners (get_or xs j status.Free)) u.states)
   turns_owned_more (OwnedIn j) w w' c k u a b = omega (arith, ap (λ (xs : List Cell). keeps_owned (get_or xs j cell.Free)) u.cells, weigh_more keeps_owned w.cells c j k cell.Free u.inside a)
   turns_owned_more (SharedIn j) w w' c k u a b = omega (arith, ap (λ (xs : List Cell). keeps_shared (get_or xs j cell.Free)) u.cells, weigh_same keeps_shared w.cells c j k cell.Free u.inside b)
+  turns_owned_more (OwnerGroup g) w w' c k u a b = omega (arith, ap (λ (gs : List GroupState). count_at gs g) u.groups)
 
   pub turns_owned_less : (h : Hold) (w w' : State T) (c : ℕ) (k : Cell) → Turns w w' c k → keeps_owned k + 1 ≡ keeps_owned (cell_at w c) → keeps_shared k ≡ keeps_shared (cell_at w c) → owners_of h w' + same_hold h (OwnedIn c) ≡ owners_of h w
   turns_owned_less (OwnedItem j) w w' c k u a b = omega (arith, ap (λ (xs : List Status). single_owner (get_or xs j status.Free)) u.states)
   turns_owned_less (SharedItem j) w w' c k u a b = omega (arith, ap (λ (xs : List Status). shared_owners (get_or xs j status.Free)) u.states)
   turns_owned_less (OwnedIn j) w w' c k u a b = omega (arith, ap (λ (xs : List Cell). keeps_owned (get_or xs j cell.Free)) u.cells, weigh_less keeps_owned w.cells c j k cell.Free u.inside a)
   turns_owned_less (SharedIn j) w w' c k u a b = omega (arith, ap (λ (xs : List Cell). keeps_shared (get_or xs j cell.Free)) u.cells, weigh_same keeps_shared w.cells c j k cell.Free u.inside b)
+  turns_owned_less (OwnerGroup g) w w' c k u a b = omega (arith, ap (λ (gs : List GroupState). count_at gs g) u.groups)
 
   pub turns_shared_more : (h : Hold) (w w' : State T) (c : ℕ) (k : Cell) → Turns w w' c k → keeps_shared k ≡ keeps_shared (cell_at w c) + 1 → keeps_owned k ≡ keeps_owned (cell_at w c) → owners_of h w' ≡ owners_of h w + same_hold h (SharedIn c)
   turns_shared_more (OwnedItem j) w w' c k u a b = omega (arith, ap (λ (xs : List Status). single_owner (get_or xs j status.Free)) u.states)
   turns_shared_more (SharedItem j) w w' c k u a b = omega (arith, ap (λ (xs : List Status). shared_owners (get_or xs j status.Free)) u.states)
   turns_shared_more (OwnedIn j) w w' c k u a b = omega (arith, ap (λ (xs : List Cell). keeps_owned (get_or xs j cell.Free)) u.cells, weigh_same keeps_owned w.cells c j k cell.Free u.inside b)
   turns_shared_more (SharedIn j) w w' c k u a b = omega (arith, ap (λ (xs : List Cell). keeps_shared (get_or xs j cell.Free)) u.cells, weigh_more keeps_shared w.cells c j k cell.Free u.inside a)
+  turns_shared_more (OwnerGroup g) w w' c k u a b = omega (arith, ap (λ (gs : List GroupState). count_at gs g) u.groups)
 
   pub turns_shared_less : (h : Hold) (w w' : State T) (c : ℕ) (k : Cell) → Turns w w' c k → keeps_shared k + 1 ≡ keeps_shared (cell_at w c) → keeps_owned k ≡ keeps_owned (cell_at w c) → owners_of h w' + same_hold h (SharedIn c) ≡ owners_of h w
   turns_shared_less (OwnedItem j) w w' c k u a b = omega (arith, ap (λ (xs : List Status). single_owner (get_or xs j status.Free)) u.states)
   turns_shared_less (SharedItem j) w w' c k u a b = omega (arith, ap (λ (xs : List Status). shared_owners (get_or xs j status.Free)) u.states)
   turns_shared_less (OwnedIn j) w w' c k u a b = omega (arith, ap (λ (xs : List Cell). keeps_owned (get_or xs j cell.Free)) u.cells, weigh_same keeps_owned w.cells c j k cell.Free u.inside b)
   turns_shared_less (SharedIn j) w w' c k u a b = omega (arith, ap (λ (xs : List Cell). keeps_shared (get_or xs j cell.Free)) u.cells, weigh_less keeps_shared w.cells c j k cell.Free u.inside a)
+  turns_shared_less (OwnerGroup g) w w' c k u a b = omega (arith, ap (λ (gs : List GroupState). count_at gs g) u.groups)
 
 last_one : (n : ℕ) → leb n 1 ≡ true → 1 ≤ n → n ≡ 1
 last_one n t h = grind (arith, nat_tests)
@@ -215,18 +230,20 @@ module _ {T : Type 0} (holds : T → List Hold) where
   pub tally-append : (h : Hold) (ks ls : List Hold) → tally h (ks ++ ls) ≡ tally h ks + tally h ls
   tally-append h ks ls = sum_by-append (λ k. same_hold h k) ks ls
 
-  same_owners : (k : Hold) (w w' : State T) → w'.states ≡ w.states → w'.cells ≡ w.cells → owners_of k w' ≡ owners_of k w
-  same_owners (OwnedItem j) w w' b c = ap (λ (ss : List Status). single_owner (get_or ss j status.Free)) b
-  same_owners (SharedItem j) w w' b c = ap (λ (ss : List Status). shared_owners (get_or ss j status.Free)) b
-  same_owners (OwnedIn j) w w' b c = ap (λ (cs : List Cell). keeps_owned (get_or cs j cell.Free)) c
-  same_owners (SharedIn j) w w' b c = ap (λ (cs : List Cell). keeps_shared (get_or cs j cell.Free)) c
+  same_owners : (k : Hold) (w w' : State T) → w'.states ≡ w.states → w'.cells ≡ w.cells → w'.groups ≡ w.groups → owners_of k w' ≡ owners_of k w
+  same_owners (OwnedItem j) w w' b c d = ap (λ (ss : List Status). single_owner (get_or ss j status.Free)) b
+  same_owners (SharedItem j) w w' b c d = ap (λ (ss : List Status). shared_owners (get_or ss j status.Free)) b
+  same_owners (OwnedIn j) w w' b c d = ap (λ (cs : List Cell). keeps_owned (get_or cs j cell.Free)) c
+  same_owners (SharedIn j) w w' b c d = ap (λ (cs : List Cell). keeps_shared (get_or cs j cell.Free)) c
+  same_owners (OwnerGroup g) w w' b c d = ap (λ (gs : List GroupState). count_at gs g) d
 
-  pub counted_same : (hand : List Hold) (w w' : State T) → w'.values ≡ w.values → w'.states ≡ w.states → w'.cells ≡ w.cells → Counted holds hand w → Counted holds hand w'
-  counted_same hand w w' a b c h = record {
+  pub counted_same : (hand : List Hold) (w w' : State T) → w'.values ≡ w.values → w'.states ≡ w.states → w'.cells ≡ w.cells → w'.groups ≡ w.groups → Counted holds hand w → Counted holds hand w'
+  counted_same hand w w' a b c d h = record {
     each = λ k.
         let v = ap (sum_by (λ v. tally k (held_in holds v))) a in
         let e = ap (sum_by (λ c. tally k (kept_by c))) c in
-        omega (arith, v, e, h.each k, same_owners k w w' b c);
+        let r = ap (λ (gs : List GroupState). tally k (rows_held gs)) d in
+        omega (arith, v, e, r, h.each k, same_owners k w w' b c d);
   }
 
   has_one_single : (i : ℕ) (hand : List Hold) (w : State T) → Counted holds (OwnedItem i ∷ hand) w → 1 ≤ single_owner (status_at w i)
@@ -241,13 +258,51 @@ module _ {T : Type 0} (holds : T → List Hold) where
   has_shared_cell : (c : ℕ) (hand : List Hold) (w : State T) → Counted holds (SharedIn c ∷ hand) w → 1 ≤ keeps_shared (cell_at w c)
   has_shared_cell c hand w h = let e = h.each (SharedIn c) in omega (arith, e, tally-cons (SharedIn c) (SharedIn c) hand, hit-same c)
 
+  -- a group that is owned has a count, which changes by one
+  group_out : (g : ℕ) (hand : List Hold) (w : State T) → Counted holds (OwnerGroup g ∷ hand) w → IsOut w.groups g
+  group_out g hand w h = let e = h.each (OwnerGroup g) in omega (arith, e, tally-cons (OwnerGroup g) (OwnerGroup g) hand, hit-same g)
+
+  owned_less : (k : Hold) (g : ℕ) (w : State T) → IsOut w.groups g → owners_of k (with_groups (less_owned g w.groups) w) + same_hold k (OwnerGroup g) ≡ owners_of k w
+  owned_less (OwnedItem j) g w out = omega arith
+  owned_less (SharedItem j) g w out = omega arith
+  owned_less (OwnedIn c) g w out = omega arith
+  owned_less (SharedIn c) g w out = omega arith
+  owned_less (OwnerGroup j) g w out =
+      let gs = w.groups in
+      let inside = out_inside gs g out in
+      elim (one_or_more (count_at gs g)) [
+        | inl few ↦ omega (arith, ap (λ (x : List GroupState). count_at x j) (ends_last gs g few), weigh_less (λ x. x.count) gs g j no_group no_group inside (omega (arith, few, out)))
+        | inr more ↦ omega (arith, ap (λ (x : List GroupState). count_at x j) (stays_out gs g more), weigh_less (λ x. x.count) gs g j (record { count = count_at gs g - 1; row = row_at gs g }) no_group inside (omega (arith, more)))
+      ]
+
+  owned_more : (k : Hold) (g : ℕ) (s : GroupState) (w : State T) → g < length w.groups → s.count ≡ count_at w.groups g + 1 → owners_of k (with_groups (set w.groups g s) w) ≡ owners_of k w + same_hold k (OwnerGroup g)
+  owned_more (OwnedItem j) g s w inside one = omega arith
+  owned_more (SharedItem j) g s w inside one = omega arith
+  owned_more (OwnedIn c) g s w inside one = omega arith
+  owned_more (SharedIn c) g s w inside one = omega arith
+  owned_more (OwnerGroup j) g s w inside one = weigh_more (λ x. x.count) w.groups g j s no_group inside one
+
+  count_grown : (gs : List GroupState) (j : ℕ) → count_at (gs ++ no_group ∷ []) j ≡ count_at gs j
+  count_grown [] zero = refl
+  count_grown [] (suc j) = refl
+  count_grown (x ∷ gs) zero = refl
+  count_grown (x ∷ gs) (suc j) = count_grown gs j
+
+  owned_grown : (k : Hold) (w : State T) → owners_of k (with_groups (w.groups ++ no_group ∷ []) w) ≡ owners_of k w
+  owned_grown (OwnedItem j) w = refl
+  owned_grown (SharedItem j) w = refl
+  owned_grown (OwnedIn c) w = refl
+  owned_grown (SharedIn c) w = refl
+  owned_grown (OwnerGroup j) w = count_grown w.groups j
+
   -- one owner fewer
   drop_shared : (i : ℕ) (s : Status) (hand : List Hold) (w w' : State T) → Uses w w' i s → w'.values ≡ w.values → shared_owners s + 1 ≡ shared_owners (status_at w i) → single_owner s ≡ single_owner (status_at w i) → Counted holds (SharedItem i ∷ hand) w → Counted holds hand w'
   drop_shared i s hand w w' u v less same h = record {
     each = λ k.
         let a = ap (sum_by (λ v. tally k (held_in holds v))) v in
         let c = ap (sum_by (λ c. tally k (kept_by c))) u.cells in
-        omega (arith, a, c, h.each k, tally-cons k (SharedItem i) hand, uses_shared_less k w w' i s u less same);
+        let r = ap (λ (gs : List GroupState). tally k (rows_held gs)) u.groups in
+        omega (arith, a, c, r, h.each k, tally-cons k (SharedItem i) hand, uses_shared_less k w w' i s u less same);
   }
 
   drop_owned : (i : ℕ) (s : Status) (hand : List Hold) (w w' : State T) → Uses w w' i s → w'.values ≡ w.values → single_owner s + 1 ≡ single_owner (status_at w i) → shared_owners s ≡ shared_owners (status_at w i) → Counted holds (OwnedItem i ∷ hand) w → Counted holds hand w'
@@ -255,7 +310,8 @@ module _ {T : Type 0} (holds : T → List Hold) where
     each = λ k.
         let a = ap (sum_by (λ v. tally k (held_in holds v))) v in
         let c = ap (sum_by (λ c. tally k (kept_by c))) u.cells in
-        omega (arith, a, c, h.each k, tally-cons k (OwnedItem i) hand, uses_single_less k w w' i s u less same);
+        let r = ap (λ (gs : List GroupState). tally k (rows_held gs)) u.groups in
+        omega (arith, a, c, r, h.each k, tally-cons k (OwnedItem i) hand, uses_single_less k w w' i s u less same);
   }
 
   pub given_shared : (s : Status) (p i : ℕ) (hand : List Hold) (w : State T) → s ≡ status_at w i → Counted holds (SharedItem i ∷ hand) w → Counted holds hand (released_as s p i w)
@@ -267,8 +323,8 @@ module _ {T : Type 0} (holds : T → List Hold) where
       let is : shared_owners (status_at w i) ≡ n = ap shared_owners (sym e) in
       let none : single_owner (status_at w i) ≡ 0 = ap single_owner (sym e) in
       (elim (leb n 1) as (λ b. leb n 1 ≡ b → Counted holds hand (cond b (retired p i w) (with_status i (status.Shared (n - 1)) w))) [
-        | true ↦ λ t. let last : n ≡ 1 = last_one n t (omega (arith, one, is)) in drop_shared i status.Retired hand w (retired p i w) (record { states = refl; cells = refl; inside = inside }) refl (omega (arith, is, last)) (sym none) h
-        | false ↦ λ t. drop_shared i (status.Shared (n - 1)) hand w (with_status i (status.Shared (n - 1)) w) (record { states = refl; cells = refl; inside = inside }) refl (omega (arith, is, one)) (sym none) h
+        | true ↦ λ t. let last : n ≡ 1 = last_one n t (omega (arith, one, is)) in drop_shared i status.Retired hand w (retired p i w) (record { states = refl; cells = refl; groups = refl; inside = inside }) refl (omega (arith, is, last)) (sym none) h
+        | false ↦ λ t. drop_shared i (status.Shared (n - 1)) hand w (with_status i (status.Shared (n - 1)) w) (record { states = refl; cells = refl; groups = refl; inside = inside }) refl (omega (arith, is, one)) (sym none) h
       ]) refl
   given_shared status.Raw p i hand w e h = let one = has_one_shared i hand w h in let none = ap shared_owners e in absurd (omega (arith, one, none))
   given_shared (status.Collected n b) p i hand w e h = let one = has_one_shared i hand w h in let none = ap shared_owners e in absurd (omega (arith, one, none))
@@ -282,7 +338,7 @@ module _ {T : Type 0} (holds : T → List Hold) where
       let inside = inside_by w.states i status.Owned e (λ f. cc) in
       let is : single_owner (status_at w i) ≡ 1 = ap single_owner (sym e) in
       let none : shared_owners (status_at w i) ≡ 0 = ap shared_owners (sym e) in
-      drop_owned i status.Retired hand w (retired p i w) (record { states = refl; cells = refl; inside = inside }) refl (sym is) (sym none) h
+      drop_owned i status.Retired hand w (retired p i w) (record { states = refl; cells = refl; groups = refl; inside = inside }) refl (sym is) (sym none) h
   given_owned (status.Shared n) p i hand w e h = let one = has_one_single i hand w h in let none = ap single_owner e in absurd (omega (arith, one, none))
   given_owned status.Raw p i hand w e h = let one = has_one_single i hand w h in let none = ap single_owner e in absurd (omega (arith, one, none))
   given_owned (status.Collected n b) p i hand w e h = let one = has_one_single i hand w h in let none = ap single_owner e in absurd (omega (arith, one, none))
@@ -294,7 +350,7 @@ module _ {T : Type 0} (holds : T → List Hold) where
   pub end_shared : (c : ℕ) (o : Option ℕ) (t : Tag) (hand : List Hold) (w : State T) → c < length w.cells → cell_at w c ≡ cell.OfShared o t → Counted holds (SharedIn c ∷ hand) w → Counted holds (kept_by (cell.OfShared o t) ++ hand) (with_cell c cell.Free w)
   end_shared c o t hand w inside is h = record {
     each = λ k.
-        let u : Turns w (with_cell c cell.Free w) c cell.Free = record { states = refl; cells = refl; values = refl; inside = inside } in
+        let u : Turns w (with_cell c cell.Free w) c cell.Free = record { states = refl; cells = refl; groups = refl; values = refl; inside = inside } in
         let was : tally k (kept_by (cell_at w c)) ≡ tally k (kept_by (cell.OfShared o t)) = ap (λ (x : Cell). tally k (kept_by x)) is in
         omega (arith, h.each k, was, cells_sum k w (with_cell c cell.Free w) c cell.Free u, tally-cons k (SharedIn c) hand, tally-append k (kept_by (cell.OfShared o t)) hand, turns_shared_less k w (with_cell c cell.Free w) c cell.Free u (sym (ap keeps_shared is)) (sym (ap keeps_owned is)));
   }
@@ -302,7 +358,7 @@ module _ {T : Type 0} (holds : T → List Hold) where
   pub end_owned : (c : ℕ) (o : Option ℕ) (t : Tag) (hand : List Hold) (w : State T) → c < length w.cells → cell_at w c ≡ cell.OfOwned o t → Counted holds (OwnedIn c ∷ hand) w → Counted holds (kept_by (cell.OfOwned o t) ++ hand) (with_cell c cell.Free w)
   end_owned c o t hand w inside is h = record {
     each = λ k.
-        let u : Turns w (with_cell c cell.Free w) c cell.Free = record { states = refl; cells = refl; values = refl; inside = inside } in
+        let u : Turns w (with_cell c cell.Free w) c cell.Free = record { states = refl; cells = refl; groups = refl; values = refl; inside = inside } in
         let was : tally k (kept_by (cell_at w c)) ≡ tally k (kept_by (cell.OfOwned o t)) = ap (λ (x : Cell). tally k (kept_by x)) is in
         omega (arith, h.each k, was, cells_sum k w (with_cell c cell.Free w) c cell.Free u, tally-cons k (OwnedIn c) hand, tally-append k (kept_by (cell.OfOwned o t)) hand, turns_owned_less k w (with_cell c cell.Free w) c cell.Free u (sym (ap keeps_owned is)) (sym (ap keeps_shared is)));
   }
@@ -323,11 +379,32 @@ module _ {T : Type 0} (holds : T → List Hold) where
   given_owned_cell (cell.OfShared o t) p c hand w e h = let one = has_owned_cell c hand w h in let none = ap keeps_owned e in absurd (omega (arith, one, none))
   given_owned_cell (cell.OfRaw o t) p c hand w e h = let one = has_owned_cell c hand w h in let none = ap keeps_owned e in absurd (omega (arith, one, none))
 
+  -- a group is given back: what its last owner gives up is in hand first
+  group_lowered : (g : ℕ) (hand : List Hold) (w : State T) → Counted holds (OwnerGroup g ∷ hand) w → Counted holds (map SharedItem (reverse (row_ended g w.groups)) ++ hand) (with_groups (less_owned g w.groups) w)
+  group_lowered g hand w h = record {
+    each = λ k.
+        let out : IsOut w.groups g = group_out g hand w h in
+        omega (
+          arith,
+          h.each k,
+          tally-cons k (OwnerGroup g) hand,
+          tally-append k (map SharedItem (reverse (row_ended g w.groups))) hand,
+          tally_reversed k (row_ended g w.groups),
+          rows_given w.groups g k out,
+          owned_less k g w out,
+        );
+  }
+
+  given_each : (p : ℕ) (is : List ℕ) (hand : List Hold) (w : State T) → Counted holds (map SharedItem is ++ hand) w → Counted holds hand (released_each p is w)
+  given_each p [] hand w h = h
+  given_each p (i ∷ is) hand w h = given_each p is hand (released p i w) (given_shared _ p i (map SharedItem is ++ hand) w refl h)
+
   pub counted_given : (p : ℕ) (h : Hold) (hand : List Hold) (w : State T) → Counted holds (h ∷ hand) w → Counted holds hand (given p h w)
   counted_given p (OwnedItem i) hand w h = given_owned _ p i hand w refl h
   counted_given p (SharedItem i) hand w h = given_shared _ p i hand w refl h
   counted_given p (OwnedIn c) hand w h = given_owned_cell _ p c hand w refl h
   counted_given p (SharedIn c) hand w h = given_shared_cell _ p c hand w refl h
+  counted_given p (OwnerGroup g) hand w h = given_each p (reverse (row_ended g w.groups)) hand (with_groups (less_owned g w.groups) w) (group_lowered g hand w h)
 
   counted_all : (p : ℕ) (hs hand : List Hold) (w : State T) → Counted holds (hs ++ hand) w → Counted holds hand (given_all p hs w)
   counted_all p [] hand w h = h
@@ -347,21 +424,21 @@ module _ {T : Type 0} (holds : T → List Hold) where
   pub counted_placed_shared : (i : ℕ) (v : T) (hand : List Hold) (w : State T) → IsPlace w → IsFree w i → Counted holds (holds v ++ hand) w → Counted holds (SharedItem i ∷ hand) (placed i v (status.Shared 1) w)
   counted_placed_shared i v hand w place free h = record {
     each = λ k.
-        let u : Uses w (placed i v (status.Shared 1) w) i (status.Shared 1) = record { states = refl; cells = refl; inside = free.0 } in
+        let u : Uses w (placed i v (status.Shared 1) w) i (status.Shared 1) = record { states = refl; cells = refl; groups = refl; inside = free.0 } in
         omega (arith, h.each k, tally-append k (holds v) hand, tally-cons k (SharedItem i) hand, fill i v hand w k place free, uses_shared_more k w (placed i v (status.Shared 1) w) i (status.Shared 1) u (omega (arith, ap shared_owners free.1)) (sym (ap single_owner free.1)));
   }
 
   pub counted_placed_owned : (i : ℕ) (v : T) (hand : List Hold) (w : State T) → IsPlace w → IsFree w i → Counted holds (holds v ++ hand) w → Counted holds (OwnedItem i ∷ hand) (placed i v status.Owned w)
   counted_placed_owned i v hand w place free h = record {
     each = λ k.
-        let u : Uses w (placed i v status.Owned w) i status.Owned = record { states = refl; cells = refl; inside = free.0 } in
+        let u : Uses w (placed i v status.Owned w) i status.Owned = record { states = refl; cells = refl; groups = refl; inside = free.0 } in
         omega (arith, h.each k, tally-append k (holds v) hand, tally-cons k (OwnedItem i) hand, fill i v hand w k place free, uses_single_more k w (placed i v status.Owned w) i status.Owned u (omega (arith, ap single_owner free.1)) (sym (ap shared_owners free.1)));
   }
 
   pub counted_cloned : (i n : ℕ) (hand : List Hold) (w : State T) → status_at w i ≡ status.Shared n → i < length w.states → Counted holds hand w → Counted holds (SharedItem i ∷ hand) (with_status i (status.Shared (n + 1)) w)
   counted_cloned i n hand w is inside h = record {
     each = λ k.
-        let u : Uses w (with_status i (status.Shared (n + 1)) w) i (status.Shared (n + 1)) = record { states = refl; cells = refl; inside = inside } in
+        let u : Uses w (with_status i (status.Shared (n + 1)) w) i (status.Shared (n + 1)) = record { states = refl; cells = refl; groups = refl; inside = inside } in
         omega (arith, h.each k, tally-cons k (SharedItem i) hand, uses_shared_more k w (with_status i (status.Shared (n + 1)) w) i (status.Shared (n + 1)) u (omega (arith, ap shared_owners is)) (sym (ap single_owner is)));
   }
 
@@ -369,7 +446,7 @@ module _ {T : Type 0} (holds : T → List Hold) where
   cell_made_shared c o t hand w free h = record {
     each = λ k.
         let x : Cell = cell.OfShared o t in
-        let u : Turns w (with_cell c x w) c x = record { states = refl; cells = refl; values = refl; inside = free.0 } in
+        let u : Turns w (with_cell c x w) c x = record { states = refl; cells = refl; groups = refl; values = refl; inside = free.0 } in
         let was : tally k (kept_by (cell_at w c)) ≡ 0 = ap (λ (y : Cell). tally k (kept_by y)) free.1 in
         omega (arith, h.each k, was, cells_sum k w (with_cell c x w) c x u, tally-cons k (SharedIn c) hand, tally-append k (kept_by x) hand, turns_shared_more k w (with_cell c x w) c x u (omega (arith, ap keeps_shared free.1)) (sym (ap keeps_owned free.1)));
   }
@@ -378,7 +455,7 @@ module _ {T : Type 0} (holds : T → List Hold) where
   cell_made_owned c o t hand w free h = record {
     each = λ k.
         let x : Cell = cell.OfOwned o t in
-        let u : Turns w (with_cell c x w) c x = record { states = refl; cells = refl; values = refl; inside = free.0 } in
+        let u : Turns w (with_cell c x w) c x = record { states = refl; cells = refl; groups = refl; values = refl; inside = free.0 } in
         let was : tally k (kept_by (cell_at w c)) ≡ 0 = ap (λ (y : Cell). tally k (kept_by y)) free.1 in
         omega (arith, h.each k, was, cells_sum k w (with_cell c x w) c x u, tally-cons k (OwnedIn c) hand, tally-append k (kept_by x) hand, turns_owned_more k w (with_cell c x w) c x u (omega (arith, ap keeps_owned free.1)) (sym (ap keeps_shared free.1)));
   }
@@ -387,7 +464,7 @@ module _ {T : Type 0} (holds : T → List Hold) where
   pub cell_changed : (c : ℕ) (old new : Cell) (hand : List Hold) (w : State T) → c < length w.cells → cell_at w c ≡ old → keeps_shared new ≡ keeps_shared old → keeps_owned new ≡ keeps_owned old → Counted holds (kept_by new ++ hand) w → Counted holds (kept_by old ++ hand) (with_cell c new w)
   cell_changed c old new hand w inside is a b h = record {
     each = λ k.
-        let u : Turns w (with_cell c new w) c new = record { states = refl; cells = refl; values = refl; inside = inside } in
+        let u : Turns w (with_cell c new w) c new = record { states = refl; cells = refl; groups = refl; values = refl; inside = inside } in
         let was : tally k (kept_by (cell_at w c)) ≡ tally k (kept_by old) = ap (λ (y : Cell). tally k (kept_by y)) is in
         omega (arith, h.each k, was, cells_sum k w (with_cell c new w) c new u, tally-append k (kept_by old) hand, tally-append k (kept_by new) hand, turns_same k w (with_cell c new w) c new u (a ∙ sym (ap keeps_shared is)) (b ∙ sym (ap keeps_owned is)));
   }
@@ -396,7 +473,7 @@ module _ {T : Type 0} (holds : T → List Hold) where
   pub counted_taken : (p i : ℕ) (is : List ℕ) (hand : List Hold) (w : State T) → Sound w → i < length w.states → weight (status_at w i) ≡ 1 → Counted holds hand w → Counted holds (held_in holds (value_at w i) ++ hand) (taken p i is w)
   counted_taken p i is hand w sound inside heavy h = record {
     each = λ k.
-        let u : Uses w (taken p i is w) i (vacated (status_at w i)) = record { states = refl; cells = refl; inside = inside } in
+        let u : Uses w (taken p i is w) i (vacated (status_at w i)) = record { states = refl; cells = refl; groups = refl; inside = inside } in
         omega (arith, h.each k, tally-append k (held_in holds (value_at w i)) hand, sum_by-set (λ v. tally k (held_in holds v)) w.values i None None (omega (arith, sound.sizes, inside)), uses_same k w (taken p i is w) i (vacated (status_at w i)) u (waits_single (status_at w i) heavy) (waits_shared (status_at w i) heavy));
   }
 
@@ -420,8 +497,8 @@ module _ {T : Type 0} (holds : T → List Hold) where
       let at : participant_at u p ≡ bags_moved_on m = get_or-set_same w.participants p (bags_moved_on m) nobody known in
       let due : (participant_at u p).due ≡ reverse m.oldest = ap (λ (m : ParticipantState). m.due) at in
       let r : State T = reclaimed holds p (length m.oldest) u in
-      let hr : Counted holds hand r = counted_reclaimed p (length m.oldest) hand u (participant_at u p).due refl (ap length due ∙ length-reverse m.oldest) (sound_turned w p place.sound known (place.idle p)) (omega (arith, length-set w.participants p (bags_moved_on m))) (counted_same hand w u refl refl refl h) in
-      counted_same hand r _ refl refl refl hr
+      let hr : Counted holds hand r = counted_reclaimed p (length m.oldest) hand u (participant_at u p).due refl (ap length due ∙ length-reverse m.oldest) (sound_turned w p place.sound known (place.idle p)) (omega (arith, length-set w.participants p (bags_moved_on m))) (counted_same hand w u refl refl refl refl h) in
+      counted_same hand r _ refl refl refl refl hr
 
   -- what dropping goes through
   record Dropping (p : ℕ) (hand : List Hold) (w : State T) : Type 0 where
@@ -434,7 +511,7 @@ module _ {T : Type 0} (holds : T → List Hold) where
   dropping_next p hand w d =
       let r : State T = changing p recalled w in
       let c = calls_recalled w p d.sound d.known d.idle in
-      let h : Counted holds hand r = counted_same hand w r refl refl refl d.counted in
+      let h : Counted holds hand r = counted_same hand w r refl refl refl refl d.counted in
       elim c.due [
         | inl e ↦
             let same : Dropping p hand r = record { known = c.known; sound = c.sound; idle = e; counted = h } in
@@ -453,14 +530,14 @@ module _ {T : Type 0} (holds : T → List Hold) where
       let g = gives_given w 0 h place.sound place.some in
       let start : Dropping 0 hand (given 0 h w) = record { known = omega (arith, g.known, place.some); sound = g.sound; idle = g.due ∙ place.idle 0; counted = counted_given 0 h hand w c } in
       let v : State T = undone_times holds 0 d.turns (given 0 h w) in
-      let end : Counted holds hand (with_local 0 (local_at w 0) v) = counted_same hand v _ refl refl refl (dropping_all d.turns 0 hand (given 0 h w) start).counted in
+      let end : Counted holds hand (with_local 0 (local_at w 0) v) = counted_same hand v _ refl refl refl refl (dropping_all d.turns 0 hand (given 0 h w) start).counted in
       subst (λ (s : State T). Counted holds hand s) (sym d.now) end
 
   counted_written : (i : ℕ) (u v : T) (hand : List Hold) (w : State T) → i < length w.values → value_at w i ≡ Some u → Counted holds (holds v ++ hand) w → Counted holds (holds u ++ hand) (with_value i v w)
   counted_written i u v hand w inside was h = record {
     each = λ k.
         let old = ap (λ (o : Option T). tally k (held_in holds o)) was in
-        omega (arith, h.each k, old, same_owners k w (with_value i v w) refl refl, tally-append k (holds v) hand, tally-append k (holds u) hand, sum_by-set (λ o. tally k (held_in holds o)) w.values i (Some v) None inside);
+        omega (arith, h.each k, old, same_owners k w (with_value i v w) refl refl refl, tally-append k (holds v) hand, tally-append k (holds u) hand, sum_by-set (λ o. tally k (held_in holds o)) w.values i (Some v) None inside);
   }
 
   pub counted_opened : (p : ℕ) (hand : List Hold) (w : State T) → IsPlace w → p < length w.participants → Counted holds hand w → Counted holds hand (guard_opened holds p w)
@@ -468,11 +545,11 @@ module _ {T : Type 0} (holds : T → List Hold) where
       let m = local_at w p in
       let b : State T = count_published p w in
       let n : State T = with_local p (record m { nesting = m.nesting + 1 }) w in
-      let first : Counted holds hand b = counted_same hand w b refl refl refl h in
+      let first : Counted holds hand b = counted_same hand w b refl refl refl refl h in
       let kb : p < length b.participants = omega (arith, length-set w.participants p (with_local_state (record m { nesting = 1; published = w.count; previous = w.count; accelerated = false }) (participant_at w p))) in
       let third : Counted holds hand (participant_rotated holds p b) = counted_rotated p hand b (place_begun w p place known) kb first in
       let outer : Counted holds hand (cond (m.previous == w.count) b (participant_rotated holds p b)) = elim (m.previous == w.count) as (λ c. Counted holds hand (cond c b (participant_rotated holds p b))) [ true ↦ first | false ↦ third ] in
-      elim (m.nesting == 0) as (λ c. Counted holds hand (cond c (cond (m.previous == w.count) b (participant_rotated holds p b)) n)) [ true ↦ outer | false ↦ counted_same hand w n refl refl refl h ]
+      elim (m.nesting == 0) as (λ c. Counted holds hand (cond c (cond (m.previous == w.count) b (participant_rotated holds p b)) n)) [ true ↦ outer | false ↦ counted_same hand w n refl refl refl refl h ]
 
   pub counted_closed : (p : ℕ) (hand : List Hold) (w : State T) → Counted holds hand w → Counted holds hand (guard_closed p w)
   counted_closed p hand w h =
@@ -480,9 +557,9 @@ module _ {T : Type 0} (holds : T → List Hold) where
       let k1 : LocalState = record m { nesting = 0; closings = 0 } in
       let k2 : LocalState = record m { nesting = 0; closings = closings_after m } in
       let k3 : LocalState = record m { nesting = m.nesting - 1 } in
-      let yes : Counted holds hand (with_local p k1 (scanned w)) = elim (list_all (is_present w.count) w.participants && ltb w.count 18446744073709551615) as (λ c. Counted holds hand (with_local p k1 (cond c (raised w) w))) [ true ↦ counted_same hand w _ refl refl refl h | false ↦ counted_same hand w _ refl refl refl h ] in
-      let outer : Counted holds hand (cond (scans m) (with_local p k1 (scanned w)) (with_local p k2 w)) = elim (scans m) as (λ c. Counted holds hand (cond c (with_local p k1 (scanned w)) (with_local p k2 w))) [ true ↦ yes | false ↦ counted_same hand w _ refl refl refl h ] in
-      elim (m.nesting == 1) as (λ c. Counted holds hand (cond c (cond (scans m) (with_local p k1 (scanned w)) (with_local p k2 w)) (with_local p k3 w))) [ true ↦ outer | false ↦ counted_same hand w _ refl refl refl h ]
+      let yes : Counted holds hand (with_local p k1 (scanned w)) = elim (list_all (is_present w.count) w.participants && ltb w.count 18446744073709551615) as (λ c. Counted holds hand (with_local p k1 (cond c (raised w) w))) [ true ↦ counted_same hand w _ refl refl refl refl h | false ↦ counted_same hand w _ refl refl refl refl h ] in
+      let outer : Counted holds hand (cond (scans m) (with_local p k1 (scanned w)) (with_local p k2 w)) = elim (scans m) as (λ c. Counted holds hand (cond c (with_local p k1 (scanned w)) (with_local p k2 w))) [ true ↦ yes | false ↦ counted_same hand w _ refl refl refl refl h ] in
+      elim (m.nesting == 1) as (λ c. Counted holds hand (cond c (cond (scans m) (with_local p k1 (scanned w)) (with_local p k2 w)) (with_local p k3 w))) [ true ↦ outer | false ↦ counted_same hand w _ refl refl refl refl h ]
 
   pub names_shared : (i : ℕ) (hand : List Hold) (w : State T) → Counted holds (SharedItem i ∷ hand) w → IsShared w i
   names_shared i hand w h = shared_there w i (status_at w i) refl (has_one_shared i hand w h)
@@ -530,6 +607,7 @@ module _ {T : Type 0} (holds : T → List Hold) where
       fresh_owners (SharedItem j) n = unowned_shared n.slots n.jobs j
       fresh_owners (OwnedIn j) n = ap keeps_owned (get_or-replicate_default n.cells j cell.Free)
       fresh_owners (SharedIn j) n = ap keeps_shared (get_or-replicate_default n.cells j cell.Free)
+      fresh_owners (OwnerGroup g) n = refl
 
   -- the use of one item changes, and its owners don't
   use_changed : (i : ℕ) (s : Status) (hand : List Hold) (w w' : State T) → Uses w w' i s → w'.values ≡ w.values → single_owner s ≡ single_owner (status_at w i) → shared_owners s ≡ shared_owners (status_at w i) → Counted holds hand w → Counted holds hand w'
@@ -537,18 +615,19 @@ module _ {T : Type 0} (holds : T → List Hold) where
     each = λ k.
         let x = ap (sum_by (λ v. tally k (held_in holds v))) v in
         let y = ap (sum_by (λ c. tally k (kept_by c))) u.cells in
-        omega (arith, x, y, h.each k, uses_same k w w' i s u a b);
+        let r = ap (λ (gs : List GroupState). tally k (rows_held gs)) u.groups in
+        omega (arith, x, y, r, h.each k, uses_same k w w' i s u a b);
   }
 
   out_raw : (i : ℕ) (hand : List Hold) (w : State T) → Counted holds (OwnedItem i ∷ hand) w → Counted holds hand (with_status i status.Raw w)
   out_raw i hand w h =
       let o = names_owned i hand w h in
-      drop_owned i status.Raw hand w (with_status i status.Raw w) (record { states = refl; cells = refl; inside = o.inside }) refl (sym (ap single_owner o.is)) (sym (ap shared_owners o.is)) h
+      drop_owned i status.Raw hand w (with_status i status.Raw w) (record { states = refl; cells = refl; groups = refl; inside = o.inside }) refl (sym (ap single_owner o.is)) (sym (ap shared_owners o.is)) h
 
   back_raw : (i : ℕ) (hand : List Hold) (w : State T) → status_at w i ≡ status.Raw → Counted holds hand w → Counted holds (OwnedItem i ∷ hand) (with_status i status.Owned w)
   back_raw i hand w is h = record {
     each = λ k.
-        let u : Uses w (with_status i status.Owned w) i status.Owned = record { states = refl; cells = refl; inside = inside_by w.states i status.Raw (sym is) (λ f. cc) } in
+        let u : Uses w (with_status i status.Owned w) i status.Owned = record { states = refl; cells = refl; groups = refl; inside = inside_by w.states i status.Raw (sym is) (λ f. cc) } in
         omega (arith, h.each k, tally-cons k (OwnedItem i) hand, uses_single_more k w (with_status i status.Owned w) i status.Owned u (omega (arith, ap single_owner is)) (sym (ap shared_owners is)));
   }
 
@@ -560,7 +639,7 @@ module _ {T : Type 0} (holds : T → List Hold) where
   counted_followed_as status.Raw j i hand w e h = h
   counted_followed_as (status.Collected n b) j i hand w e h =
       let s = status.Collected n i in
-      use_changed j s hand w (with_status j s w) (record { states = refl; cells = refl; inside = inside_by w.states j (status.Collected n b) e (λ f. cc) }) refl (ap single_owner e) (ap shared_owners e) h
+      use_changed j s hand w (with_status j s w) (record { states = refl; cells = refl; groups = refl; inside = inside_by w.states j (status.Collected n b) e (λ f. cc) }) refl (ap single_owner e) (ap shared_owners e) h
   counted_followed_as status.Retired j i hand w e h = h
   counted_followed_as status.Idle j i hand w e h = h
   counted_followed_as status.Deferred j i hand w e h = h
@@ -577,8 +656,8 @@ module _ {T : Type 0} (holds : T → List Hold) where
       let hv = counted_followed is i (OwnedItem i ∷ hand) w h in
       let ov = names_owned i hand v hv in
       let s = status.Collected w.count 0 in
-      let put : Counted holds hand (with_status i s v) = drop_owned i s hand v (with_status i s v) (record { states = refl; cells = refl; inside = ov.inside }) refl (sym (ap single_owner ov.is)) (sym (ap shared_owners ov.is)) hv in
-      let out : Counted holds hand (retired p i w) = drop_owned i status.Retired hand w (retired p i w) (record { states = refl; cells = refl; inside = o.inside }) refl (sym (ap single_owner o.is)) (sym (ap shared_owners o.is)) h in
+      let put : Counted holds hand (with_status i s v) = drop_owned i s hand v (with_status i s v) (record { states = refl; cells = refl; groups = refl; inside = ov.inside }) refl (sym (ap single_owner ov.is)) (sym (ap shared_owners ov.is)) hv in
+      let out : Counted holds hand (retired p i w) = drop_owned i status.Retired hand w (retired p i w) (record { states = refl; cells = refl; groups = refl; inside = o.inside }) refl (sym (ap single_owner o.is)) (sym (ap shared_owners o.is)) h in
       elim (ltb (length is) n) as (λ b. Counted holds hand (cond b (with_status i s v) (retired p i w))) [ true ↦ put | false ↦ out ]
 
   collects_shared : (p n i : ℕ) (is : List ℕ) (hand : List Hold) (w : State T) → status_at w i ≡ status.Shared 1 → Counted holds (SharedItem i ∷ hand) w → Counted holds hand (set_aside p n is i w)
@@ -589,8 +668,8 @@ module _ {T : Type 0} (holds : T → List Hold) where
       let still : status_at v i ≡ status.Shared 1 = unnamed_stays is i w i (ap mark_of one) ∙ one in
       let there = inside_by v.states i (status.Shared 1) (sym still) (λ f. cc) in
       let s = status.Collected w.count 0 in
-      let put : Counted holds hand (with_status i s v) = drop_shared i s hand v (with_status i s v) (record { states = refl; cells = refl; inside = there }) refl (sym (ap shared_owners still)) (sym (ap single_owner still)) hv in
-      let out : Counted holds hand (retired p i w) = drop_shared i status.Retired hand w (retired p i w) (record { states = refl; cells = refl; inside = inside }) refl (sym (ap shared_owners one)) (sym (ap single_owner one)) h in
+      let put : Counted holds hand (with_status i s v) = drop_shared i s hand v (with_status i s v) (record { states = refl; cells = refl; groups = refl; inside = there }) refl (sym (ap shared_owners still)) (sym (ap single_owner still)) hv in
+      let out : Counted holds hand (retired p i w) = drop_shared i status.Retired hand w (retired p i w) (record { states = refl; cells = refl; groups = refl; inside = inside }) refl (sym (ap shared_owners one)) (sym (ap single_owner one)) h in
       elim (ltb (length is) n) as (λ b. Counted holds hand (cond b (with_status i s v) (retired p i w))) [ true ↦ put | false ↦ out ]
 
   -- what was collected is taken: what it held is in hand
@@ -598,7 +677,7 @@ module _ {T : Type 0} (holds : T → List Hold) where
   counted_removed i n b hand w is h = record {
     each = λ k.
         let inside = inside_by w.states i (status.Collected n b) (sym is) (λ f. cc) in
-        let u : Uses w (slot_freed i w) i status.Free = record { states = refl; cells = refl; inside = inside } in
+        let u : Uses w (slot_freed i w) i status.Free = record { states = refl; cells = refl; groups = refl; inside = inside } in
         omega (arith, h.each k, tally-append k (held_in holds (value_at w i)) hand, sum_without (λ v. tally k (held_in holds v)) refl w.values i, uses_same k w (slot_freed i w) i status.Free u (sym (ap single_owner is)) (sym (ap shared_owners is)));
   }
 
@@ -621,7 +700,7 @@ module _ {T : Type 0} (holds : T → List Hold) where
   counted_handed_as status.Owned p i hand w e h = h
   counted_handed_as (status.Shared n) p i hand w e h = h
   counted_handed_as status.Raw p i hand w e h = h
-  counted_handed_as (status.Collected n b) p i hand w e h = use_changed i status.Retired hand w (retired p i w) (record { states = refl; cells = refl; inside = inside_by w.states i (status.Collected n b) e (λ f. cc) }) refl (ap single_owner e) (ap shared_owners e) h
+  counted_handed_as (status.Collected n b) p i hand w e h = use_changed i status.Retired hand w (retired p i w) (record { states = refl; cells = refl; groups = refl; inside = inside_by w.states i (status.Collected n b) e (λ f. cc) }) refl (ap single_owner e) (ap shared_owners e) h
   counted_handed_as status.Retired p i hand w e h = h
   counted_handed_as status.Idle p i hand w e h = h
   counted_handed_as status.Deferred p i hand w e h = h
@@ -635,7 +714,36 @@ module _ {T : Type 0} (holds : T → List Hold) where
   counted_handed p is hand w h = handed_counted p (length is) is hand w h
 
   counted_deferred : (p i : ℕ) (hand : List Hold) (w : State T) → IsIdle w i → Counted holds hand w → Counted holds hand (waiting_as status.Deferred p i w)
-  counted_deferred p i hand w idle h = use_changed i status.Deferred hand w (waiting_as status.Deferred p i w) (record { states = refl; cells = refl; inside = idle.0 }) refl (sym (ap single_owner idle.1)) (sym (ap shared_owners idle.1)) h
+  counted_deferred p i hand w idle h = use_changed i status.Deferred hand w (waiting_as status.Deferred p i w) (record { states = refl; cells = refl; groups = refl; inside = idle.0 }) refl (sym (ap single_owner idle.1)) (sym (ap shared_owners idle.1)) h
+
+  made_group : (g : ℕ) (row : List ℕ) (hand : List Hold) (w : State T) → IsFreeName w.groups g → Counted holds (map SharedItem row ++ hand) w → Counted holds (OwnerGroup g ∷ hand) (with_groups (with_row g row w.groups) w)
+  made_group g row hand w free h = record {
+    each = λ k.
+        let more = owned_more k g (record { count = 1; row = row }) w free.0 (omega (arith, free.1)) in
+        omega (arith, h.each k, more, rows_made w.groups g k row free, tally-append k (map SharedItem row) hand, tally-cons k (OwnerGroup g) hand);
+  }
+
+  raised_group : (g : ℕ) (hand : List Hold) (w : State T) → IsOut w.groups g → Counted holds hand w → Counted holds (OwnerGroup g ∷ hand) (with_groups (more_owned g w.groups) w)
+  raised_group g hand w out h = record {
+    each = λ k.
+        let more = owned_more k g (record { count = count_at w.groups g + 1; row = row_at w.groups g }) w (out_inside w.groups g out) refl in
+        omega (arith, h.each k, more, rows_raised w.groups g k out, tally-cons k (OwnerGroup g) hand);
+  }
+
+  grown_groups : (hand : List Hold) (w : State T) → Counted holds hand w → Counted holds hand (with_groups (w.groups ++ no_group ∷ []) w)
+  grown_groups hand w h = record { each = λ k. omega (arith, h.each k, owned_grown k w, rows_grown w.groups k) }
+
+  group_held : (g j : ℕ) (v : T) (hand : List Hold) (w : State T) → value_at w j ≡ Some v → 1 ≤ tally (OwnerGroup g) (holds v) → Counted holds hand w → IsOut w.groups g
+  group_held g j v hand w was some h =
+      let m = at_most (λ o. tally (OwnerGroup g) (held_in holds o)) w.values j None refl in
+      let is = ap (λ (o : Option T). tally (OwnerGroup g) (held_in holds o)) was in
+      let e = h.each (OwnerGroup g) in
+      omega (arith, m, is, e, some)
+
+  in_row_there : (i g : ℕ) (hand : List Hold) (w : State T) → IsOut w.groups g → 1 ≤ times i (row_at w.groups g) → Counted holds hand w → IsShared w i
+  in_row_there i g hand w out some h =
+      let e = h.each (SharedItem i) in
+      shared_there w i (status_at w i) refl (omega (arith, row_counted w.groups g i out, e, some))
 
   pub owners_are_counted : OwnersAreCounted holds
   owners_are_counted = record {
@@ -645,6 +753,12 @@ module _ {T : Type 0} (holds : T → List Hold) where
     held = held_there;
     cell_in_hand = λ c hand w h. shared_cell_there w c (cell_at w c) refl (has_shared_cell c hand w h);
     cell_in_item = cell_there;
+    group_in_hand = group_out;
+    group_in_item = group_held;
+    in_row = in_row_there;
+    groups_grown = grown_groups;
+    group_made = made_group;
+    group_raised = raised_group;
     placed_shared = counted_placed_shared;
     placed_owned = counted_placed_owned;
     cloned = counted_cloned;

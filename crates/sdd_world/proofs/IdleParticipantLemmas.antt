@@ -58,7 +58,7 @@ module _ {T : Type 0} (holds : T → List Hold) where
   begun_quiet : (p : ℕ) (w : State T) → p < length w.participants → IsQuiet w p → OnlyParticipantsChange w (count_published p w) × IsQuiet (count_published p w) p
   begun_quiet p w known q =
       let at : participant_at (count_published p w) p ≡ with_local_state (record (local_at w p) { nesting = 1; published = w.count; previous = w.count; accelerated = false }) (participant_at w p) = local_set p (record (local_at w p) { nesting = 1; published = w.count; previous = w.count; accelerated = false }) w known in (
-        record { count = refl; values = refl; states = refl; cells = refl },
+        record { count = refl; values = refl; states = refl; cells = refl; groups = refl },
         record { empty = ap bags_empty at ∙ q.empty; clean = ap (λ (m : ParticipantState). m.local.garbage) at ∙ q.clean; slow = ap (λ (m : ParticipantState). m.local.accelerated) at },
       )
 
@@ -79,7 +79,7 @@ module _ {T : Type 0} (holds : T → List Hold) where
       let clean : (local_at u p).garbage ≡ false = ap (λ (x : ParticipantState). x.local.garbage) atu ∙ q.clean in
       let bags : bags_empty (participant_at u p) ≡ true = ap bags_empty atu ∙ ap (λ (b : Bool). is_nil [] && (b && is_nil m.prior)) three.0 ∙ two.0 in
       let all : OnlyParticipantsChange w s × IsQuiet s p = (
-        record { count = refl; values = refl; states = refl; cells = refl },
+        record { count = refl; values = refl; states = refl; cells = refl; groups = refl },
         record {
           empty = ap bags_empty ats ∙ bags;
           clean = ap (λ (x : ParticipantState). x.local.garbage) ats ∙ ap (λ (b : Bool). b && not (bags_empty (participant_at u p))) clean;
@@ -89,7 +89,7 @@ module _ {T : Type 0} (holds : T → List Hold) where
       subst (λ (x : State T). OnlyParticipantsChange w x × IsQuiet x p) (sym is) all
 
   stands_then : (u v w : State T) → OnlyParticipantsChange u v → OnlyParticipantsChange v w → OnlyParticipantsChange u w
-  stands_then u v w a b = record { count = b.count ∙ a.count; values = b.values ∙ a.values; states = b.states ∙ a.states; cells = b.cells ∙ a.cells }
+  stands_then u v w a b = record { count = b.count ∙ a.count; values = b.values ∙ a.values; states = b.states ∙ a.states; cells = b.cells ∙ a.cells; groups = b.groups ∙ a.groups }
 
   opened_quiet : (p : ℕ) (w : State T) → IsPlace w → p < length w.participants → IsQuiet w p → OnlyParticipantsChange w (guard_opened holds p w) × IsQuiet (guard_opened holds p w) p
   opened_quiet p w h known q =
@@ -100,7 +100,7 @@ module _ {T : Type 0} (holds : T → List Hold) where
       let r = rotated_quiet p (count_published p w) (omega (arith, size, known)) b.1 in
       let at : participant_at (with_local p more w) p ≡ with_local_state more (participant_at w p) = local_set p more w known in
       let nested : P (with_local p more w) = (
-        record { count = refl; values = refl; states = refl; cells = refl },
+        record { count = refl; values = refl; states = refl; cells = refl; groups = refl },
         record { empty = ap bags_empty at ∙ q.empty; clean = ap (λ (m : ParticipantState). m.local.garbage) at ∙ q.clean; slow = ap (λ (m : ParticipantState). m.local.accelerated) at ∙ q.slow },
       ) in
       let first : P (cond ((local_at w p).previous == w.count) (count_published p w) (participant_rotated holds p (count_published p w))) = elim ((local_at w p).previous == w.count) as (λ c. P (cond c (count_published p w) (participant_rotated holds p (count_published p w)))) [ true ↦ b | false ↦ (stands_then w (count_published p w) _ b.0 r.0, r.1) ] in
@@ -112,7 +112,7 @@ module _ {T : Type 0} (holds : T → List Hold) where
       let m = local_at w p in
       let local : (k : LocalState) → k.garbage ≡ m.garbage → k.accelerated ≡ m.accelerated → P (with_local p k w) = λ k g a.
       let at = local_set p k w known in (
-        record { count = refl; values = refl; states = refl; cells = refl },
+        record { count = refl; values = refl; states = refl; cells = refl; groups = refl },
         record { empty = ap bags_empty at ∙ q.empty; clean = ap (λ (x : ParticipantState). x.local.garbage) at ∙ g ∙ q.clean; slow = ap (λ (x : ParticipantState). x.local.accelerated) at ∙ a ∙ q.slow },
       ) in
       let scan : State T = with_local p (record m { nesting = 0; closings = 0 }) (scanned w) in
@@ -133,13 +133,13 @@ module _ {T : Type 0} (holds : T → List Hold) where
             let x : State T = with_local p more w in
             let first : State T = cond ((local_at w p).previous == w.count) (count_published p w) (participant_rotated holds p (count_published p w)) in
             let is : o ≡ x = ap (λ (b : Bool). cond b first x) t.0 in
-            let S : Shrinks w x = record { values = λ j u e. e; cells = λ c j e. e; jobs = λ j e. e; plain = λ j e. e } in
+            let S : Shrinks w x = record { values = λ j u e. e; cells = λ c j e. e; rows = λ g j e. e; jobs = λ j e. e; plain = λ j e. e } in
             let all : Shrinks w x × (in_use x ≤ in_use w) × ((local_at x p).nesting ≡ (local_at w p).nesting + 1) = (S, omega arith, ap (λ (m : ParticipantState). m.local.nesting) (local_set p more w known)) in
             subst (λ (y : State T). Shrinks w y × (in_use y ≤ in_use w) × ((local_at y p).nesting ≡ (local_at w p).nesting + 1)) (sym is) all
       ]
 
   abbrev LeavesItems : ℕ → State T → State T → Type 0
-  LeavesItems p w x = (x.values ≡ w.values) × (x.states ≡ w.states) × (x.cells ≡ w.cells) × ((local_at x p).nesting ≡ (local_at w p).nesting - 1)
+  LeavesItems p w x = (x.values ≡ w.values) × (x.states ≡ w.states) × (x.cells ≡ w.cells) × (x.groups ≡ w.groups) × ((local_at x p).nesting ≡ (local_at w p).nesting - 1)
 
   closed_only : (p : ℕ) (w : State T) → p < length w.participants → LeavesItems p w (guard_closed p w)
   closed_only p w known =
@@ -152,16 +152,16 @@ module _ {T : Type 0} (holds : T → List Hold) where
             let none : 0 ≡ m.nesting - 1 = (let one = t.1 in omega (arith, one)) in
             let scanned-known : (c : Bool) → p < length (cond c (raised w) w).participants = λ c. elim c as (λ b. p < length (cond b (raised w) w).participants) [ true ↦ known | false ↦ known ] in
             let scans-all : (c : Bool) → LeavesItems p w (with_local p (record m { nesting = 0; closings = 0 }) (cond c (raised w) w)) = λ c. elim c as (λ b. LeavesItems p w (with_local p (record m { nesting = 0; closings = 0 }) (cond b (raised w) w))) [
-              | true ↦ (refl, refl, refl, ap (λ (x : ParticipantState). x.local.nesting) (local_set p (record m { nesting = 0; closings = 0 }) (raised w) known) ∙ none)
-              | false ↦ (refl, refl, refl, ap (λ (x : ParticipantState). x.local.nesting) (local_set p (record m { nesting = 0; closings = 0 }) w known) ∙ none)
+              | true ↦ (refl, refl, refl, refl, ap (λ (x : ParticipantState). x.local.nesting) (local_set p (record m { nesting = 0; closings = 0 }) (raised w) known) ∙ none)
+              | false ↦ (refl, refl, refl, refl, ap (λ (x : ParticipantState). x.local.nesting) (local_set p (record m { nesting = 0; closings = 0 }) w known) ∙ none)
             ] in
             let a : LeavesItems p w scan = scans-all (list_all (is_present w.count) w.participants && ltb w.count 18446744073709551615) in
-            let b : LeavesItems p w last = (refl, refl, refl, ap (λ (x : ParticipantState). x.local.nesting) (local_set p (record m { nesting = 0; closings = closings_after m }) w known) ∙ none) in
+            let b : LeavesItems p w last = (refl, refl, refl, refl, ap (λ (x : ParticipantState). x.local.nesting) (local_set p (record m { nesting = 0; closings = closings_after m }) w known) ∙ none) in
             let is : guard_closed p w ≡ cond (scans m) scan last = ap (λ (c : Bool). cond c (cond (scans m) scan last) inner) t.0 in
             subst (λ (x : State T). LeavesItems p w x) (sym is) (elim (scans m) as (λ c. LeavesItems p w (cond c scan last)) [ true ↦ a | false ↦ b ])
         | inr t ↦
             let is : guard_closed p w ≡ inner = ap (λ (c : Bool). cond c (cond (scans m) scan last) inner) t.0 in
-            let b : LeavesItems p w inner = (refl, refl, refl, ap (λ (x : ParticipantState). x.local.nesting) (local_set p (record m { nesting = m.nesting - 1 }) w known)) in
+            let b : LeavesItems p w inner = (refl, refl, refl, refl, ap (λ (x : ParticipantState). x.local.nesting) (local_set p (record m { nesting = m.nesting - 1 }) w known)) in
             subst (λ (x : State T). LeavesItems p w x) (sym is) b
       ]
 

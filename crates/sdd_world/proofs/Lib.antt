@@ -4,6 +4,7 @@ pub use Rattle.sdd_table.proofs.BagInvariantLemmas
 pub use Rattle.sdd_table.proofs.PlaceLemmas
 pub use Rattle.sdd_table.proofs.KeepingLemmas
 pub mod FrameLemmas
+pub mod RowLemmas
 pub mod CountLemmas
 pub mod PrivateCollectorLemmas
 pub mod PassLemmas

@@ -4,9 +4,10 @@ use Rattle.std.specs.List.{sum_by, list_all}
 use Rattle.std.proofs.lemmas.Bool.Decides.{nat_tests, eqb_tells}
 use Rattle.std.proofs.lemmas.List.{length-append, length-reverse}
 use Rattle.std.proofs.lemmas.List.Sums.{sum_by-set, sum_by-cons, sum_by-append}
-use Rattle.sdd_table.specs.Holding.{Hold, OwnedItem, SharedItem, OwnedIn, SharedIn}
-use Rattle.sdd_table.specs.State.{State, ParticipantState, mark_of, named_by, behind_at, placed, status_at, value_at, cell_at, participant_at, local_at, with_status, with_cell, with_local, waiting_as, retired, taken, vacated, weight, rotated_bags, bags_moved_on, raised, is_present, nobody, with_local_state, slot_freed, changing, recalled}
-use Rattle.sdd_table.specs.Steps.{times, hit, given, given_all, released_as, disowned_as, owned_ended_as, shared_ended_as, due_reclaimed, due_reclaimed_as, held_in, reclaimed, participant_rotated, count_published, guard_opened, guard_closed, scanned, scans, closings_after, overdue, noted_reclaimed, left_behind, followed, followed_as, set_aside, enqueued, purged, purged_within, left_waiting, left_within, handed_over, handed_over_as, handed_within, IsTimely}
+use Rattle.sdd_table.specs.Groups.{less_owned, row_ended}
+use Rattle.sdd_table.specs.Holding.{Hold, OwnedItem, SharedItem, OwnedIn, SharedIn, OwnerGroup}
+use Rattle.sdd_table.specs.State.{State, ParticipantState, mark_of, named_by, behind_at, placed, status_at, value_at, cell_at, participant_at, local_at, with_status, with_cell, with_groups, with_local, waiting_as, retired, taken, vacated, weight, rotated_bags, bags_moved_on, raised, is_present, nobody, with_local_state, slot_freed, changing, recalled}
+use Rattle.sdd_table.specs.Steps.{times, hit, given, given_all, released, released_each, released_as, disowned_as, owned_ended_as, shared_ended_as, due_reclaimed, due_reclaimed_as, held_in, reclaimed, participant_rotated, count_published, guard_opened, guard_closed, scanned, scans, closings_after, overdue, noted_reclaimed, left_behind, followed, followed_as, set_aside, enqueued, purged, purged_within, left_waiting, left_within, handed_over, handed_over_as, handed_within, IsTimely}
 use Rattle.sdd_table.specs.Place.{Sound, IsPlace}
 use Rattle.sdd_table.proofs.PrivateBagLemmas.{told_set, names, named_apart}
 use Rattle.sdd_world.specs.Notes.{IsLinked, note_of, note_at, note_count, AreCollected, NotesRise, SameNotes, IsInOrder, NoneOverdue, CollectorsAreInOrder}
@@ -220,11 +221,18 @@ module _ {T : Type 0} where
   same_shared_ended_as w p c (cell.OfShared (Some i) t) = let u : State T = with_cell c cell.Free w in same_then w u (released_as (status_at u i) p i u) (same_cell c cell.Free w) (same_released_as u p i (status_at u i) refl)
   same_shared_ended_as w p c (cell.OfRaw o t) = same_refl w
 
+  same_each : (p : ℕ) (is : List ℕ) (w : State T) → Quiet w (released_each p is w)
+  same_each p [] w = same_refl w
+  same_each p (i ∷ is) w = same_then w (released p i w) _ (same_released_as w p i (status_at w i) refl) (same_each p is (released p i w))
+
   same_given : (p : ℕ) (h : Hold) (w : State T) → Quiet w (given p h w)
   same_given p (OwnedItem i) w = same_disowned_as w p i (status_at w i) refl
   same_given p (SharedItem i) w = same_released_as w p i (status_at w i) refl
   same_given p (OwnedIn c) w = same_owned_ended_as w p c (cell_at w c)
   same_given p (SharedIn c) w = same_shared_ended_as w p c (cell_at w c)
+  same_given p (OwnerGroup g) w =
+      let u : State T = with_groups (less_owned g w.groups) w in
+      same_then w u _ (record { count = refl; marks = λ i. refl }) (same_each p (reverse (row_ended g w.groups)) u)
 
   same_all : (p : ℕ) (hs : List Hold) (w : State T) → Quiet w (given_all p hs w)
   same_all p [] w = same_refl w

@@ -5,20 +5,21 @@ use Rattle.std.proofs.lemmas.Bool.{false≢true}
 use Rattle.std.proofs.lemmas.Bool.Decides.{eqb_tells, nat_tests}
 use Rattle.std.proofs.lemmas.List.{length-reverse}
 use Rattle.std.proofs.lemmas.List.Sums.{sum_by-cons}
-use Rattle.sdd_table.specs.Holding.{Hold, OwnedItem, SharedItem, OwnedIn, SharedIn}
-use Rattle.sdd_table.specs.State.{State, ParticipantState, nobody, status_at, value_at, cell_at, participant_at, local_at, with_local, with_local_state, with_status, with_cell, retired, put_participant, taken, left_due, vacated, rotated_bags, bags_moved_on, raised, is_present, is_used, weight}
-use Rattle.sdd_table.specs.Steps.{hit, times, released_as, disowned_as, owned_ended_as, shared_ended_as, given, given_all, held_in, due_reclaimed, due_reclaimed_as, reclaimed, participant_rotated, count_published, guard_opened, guard_closed, scanned, scans, closings_after, bags_empty, is_nil}
+use Rattle.sdd_table.specs.Groups.{GroupState, count_at, less_owned, no_group, row_at, row_ended, with_count, without}
+use Rattle.sdd_table.specs.Holding.{Hold, OwnedItem, SharedItem, OwnedIn, SharedIn, OwnerGroup}
+use Rattle.sdd_table.specs.State.{State, ParticipantState, nobody, status_at, value_at, cell_at, participant_at, local_at, with_local, with_local_state, with_status, with_cell, with_groups, retired, put_participant, taken, left_due, vacated, rotated_bags, bags_moved_on, raised, is_present, is_used, weight}
+use Rattle.sdd_table.specs.Steps.{hit, times, released_as, disowned_as, owned_ended_as, shared_ended_as, given, given_all, group_given, released, released_each, held_in, due_reclaimed, due_reclaimed_as, reclaimed, participant_rotated, count_published, guard_opened, guard_closed, scanned, scans, closings_after, bags_empty, is_nil}
 use Rattle.sdd_table.specs.Place.{Sound, IsPlace, IsOpen, held_times}
 use Rattle.sdd_table.specs.Frame.{OnlyParticipant}
 use Rattle.sdd_world.specs.Counting.{tally, same_hold}
-use Rattle.sdd_world.specs.Passing.{accelerated, passed, passed_times, CanPass, slot_kept, slot_held, IsLayered, WaitsBelow, NoJobWaits, PassesReclaim, is_plain, Shrinks}
+use Rattle.sdd_world.specs.Passing.{accelerated, passed, passed_times, CanPass, slot_kept, Reaches, IsLayered, WaitsBelow, NoJobWaits, PassesReclaim, is_plain, Shrinks}
 use Rattle.sdd_table.specs.declared.status.Status.{Status}
 use Rattle.sdd_table.specs.declared.status.Status.TheVariants as status
 use Rattle.sdd_table.specs.declared.status.Cell.{Cell}
 use Rattle.sdd_table.specs.declared.status.Cell.TheVariants as cell
 use Rattle.sdd_table.specs.declared.status.LocalState.{LocalState}
 use Rattle.sdd_table.proofs.ListLemmas.{hit-same, hit-other, times-append}
-use Rattle.sdd_table.proofs.BagInvariantLemmas.{reclaims_next, sound_turned, sound_taken, due_waiting, times_reversed, bag_waits, gives_given}
+use Rattle.sdd_table.proofs.BagInvariantLemmas.{reclaims_next, sound_turned, sound_taken, due_waiting, times_reversed, bag_waits, gives_given, released_known}
 use Rattle.sdd_table.proofs.PlaceLemmas.{rotates, place_local, place_closed, place_begun}
 
 -- what is set in a list of statuses or cells was there, or is what is set
@@ -72,16 +73,17 @@ plain_vacated status.Idle e = absurd (false≢true e)
 plain_vacated status.Deferred e = absurd (false≢true e)
 
 pub shrinks_refl : {T : Type 0} (w : State T) → Shrinks w w
-shrinks_refl w = record { values = λ j u e. e; cells = λ c j e. e; jobs = λ j e. e; plain = λ j e. e }
+shrinks_refl w = record { values = λ j u e. e; cells = λ c j e. e; rows = λ g j e. e; jobs = λ j e. e; plain = λ j e. e }
 
 pub shrinks_then : {T : Type 0} (u v w : State T) → Shrinks u v → Shrinks v w → Shrinks u w
-shrinks_then u v w a b = record { values = λ j x e. a.values j x (b.values j x e); cells = λ c j e. a.cells c j (b.cells c j e); jobs = λ j e. a.jobs j (b.jobs j e); plain = λ j e. b.plain j (a.plain j e) }
+shrinks_then u v w a b = record { values = λ j x e. a.values j x (b.values j x e); cells = λ c j e. a.cells c j (b.cells c j e); rows = λ g j e. a.rows g j (b.rows g j e); jobs = λ j e. a.jobs j (b.jobs j e); plain = λ j e. b.plain j (a.plain j e) }
 
-held_before : {T : Type 0} (w w' : State T) → Shrinks w w' → (h : Hold) (j : ℕ) → slot_held w' h ≡ Some j → slot_held w h ≡ Some j
+held_before : {T : Type 0} (w w' : State T) → Shrinks w w' → (h : Hold) (j : ℕ) → Reaches w' h j → Reaches w h j
 held_before w w' s (OwnedItem i) j e = e
 held_before w w' s (SharedItem i) j e = e
 held_before w w' s (OwnedIn c) j e = s.cells c j e
 held_before w w' s (SharedIn c) j e = s.cells c j e
+held_before w w' s (OwnerGroup g) j e = s.rows g j e
 
 layered_after : {T : Type 0} (holds : T → List Hold) (level : T → ℕ) (w w' : State T) → Shrinks w w' → IsLayered holds level w → IsLayered holds level w'
 layered_after holds level w w' s l i j v u h a b c d = l i j v u h (s.values i v a) b (held_before w w' s h j c) (s.values j u d)
@@ -98,7 +100,7 @@ adds_retired : {T : Type 0} (w : State T) (p i : ℕ) → p < length w.participa
 adds_retired w p i known =
     let at : participant_at (retired p i w) p ≡ put_participant i (participant_at w p) = get_or-set_same w.participants p (put_participant i (participant_at w p)) nobody known in
     record {
-      shrinks = record { values = λ j u e. e; cells = λ c j e. e; jobs = λ j e. status_before w.states i j status.Retired (λ f. cc) e; plain = λ j e. plain_after w.states i j status.Retired (λ f. refl) e };
+      shrinks = record { values = λ j u e. e; cells = λ c j e. e; rows = λ g j e. e; jobs = λ j e. status_before w.states i j status.Retired (λ f. cc) e; plain = λ j e. plain_after w.states i j status.Retired (λ f. refl) e };
       added = λ j s. elim (eqb_tells j i) [
         | inl t ↦ inr (ap (λ (k : ℕ). Some k) (sym t.1))
         | inr t ↦ let bag = ap (λ (m : ParticipantState). times j m.current) at in let more = times-append j (participant_at w p).current i in let none = hit-other i j t.1 in inl (omega (arith, s, bag, more, none))
@@ -106,7 +108,7 @@ adds_retired w p i known =
     }
 
 adds_status : {T : Type 0} (w : State T) (p i n : ℕ) (o : Option ℕ) → ltb 0 n ≡ true → Adds p o w (with_status i (status.Shared n) w)
-adds_status w p i n o some = record { shrinks = record { values = λ j u e. e; cells = λ c j e. e; jobs = λ j e. status_before w.states i j (status.Shared n) (λ f. cc) e; plain = λ j e. plain_after w.states i j (status.Shared n) (λ f. some) e }; added = λ j s. inl s }
+adds_status w p i n o some = record { shrinks = record { values = λ j u e. e; cells = λ c j e. e; rows = λ g j e. e; jobs = λ j e. status_before w.states i j (status.Shared n) (λ f. cc) e; plain = λ j e. plain_after w.states i j (status.Shared n) (λ f. some) e }; added = λ j s. inl s }
 
 left_some : (n : ℕ) → leb n 1 ≡ false → ltb 0 (n - 1) ≡ true
 left_some zero e = absurd (false≢true (sym e))
@@ -134,7 +136,7 @@ adds_disowned w p i status.Idle known = adds_refl p (Some i) w
 adds_disowned w p i status.Deferred known = adds_refl p (Some i) w
 
 adds_cell : {T : Type 0} (w : State T) (p c : ℕ) (o : Option ℕ) → Adds p o w (with_cell c cell.Free w)
-adds_cell w p c o = record { shrinks = record { values = λ j u e. e; cells = λ d j e. cell_before w.cells c d j e; jobs = λ j e. e; plain = λ j e. e }; added = λ j s. inl s }
+adds_cell w p c o = record { shrinks = record { values = λ j u e. e; cells = λ d j e. cell_before w.cells c d j e; rows = λ g j e. e; jobs = λ j e. e; plain = λ j e. e }; added = λ j s. inl s }
 
 -- a cell ends first
 adds_after : {T : Type 0} (w w' : State T) (p c : ℕ) (o : Option ℕ) → Adds p o (with_cell c cell.Free w) w' → Adds p o w w'
@@ -154,22 +156,83 @@ adds_shared_ended w p c (cell.OfShared None t) known = adds_cell w p c None
 adds_shared_ended w p c (cell.OfShared (Some i) t) known = adds_after w _ p c (Some i) (adds_released (with_cell c cell.Free w) p i (status_at (with_cell c cell.Free w) i) known)
 adds_shared_ended w p c (cell.OfRaw o t) known = adds_refl p o w
 
-adds_given : {T : Type 0} (w : State T) (p : ℕ) (h : Hold) → p < length w.participants → Adds p (slot_held w h) w (given p h w)
-adds_given w p (OwnedItem i) known = adds_disowned w p i (status_at w i) known
-adds_given w p (SharedItem i) known = adds_released w p i (status_at w i) known
-adds_given w p (OwnedIn c) known = adds_owned_ended w p c (cell_at w c) known
-adds_given w p (SharedIn c) known = adds_shared_ended w p c (cell_at w c) known
+-- the same, by a property of the places that come
+record AddsTo {T : Type 0} (p : ℕ) (P : ℕ → Type 0) (w w' : State T) : Type 0 where
+  pub shrinks : Shrinks w w'
+  pub added : (j : ℕ) → 1 ≤ times j (participant_at w' p).current → (1 ≤ times j (participant_at w p).current) ⊎ P j
+
+adds_to : {T : Type 0} (p : ℕ) (o : Option ℕ) (P : ℕ → Type 0) (w w' : State T) → ((j : ℕ) → o ≡ Some j → P j) → Adds p o w w' → AddsTo p P w w'
+adds_to p o P w w' f a = record { shrinks = a.shrinks; added = λ j s. elim (a.added j s) [ inl t ↦ inl t | inr t ↦ inr (f j t) ] }
+
+some_same : (i j : ℕ) → Some i ≡ Some j → i ≡ j
+some_same i j e = cc
+
+-- giving back one owner of each of several items adds these at most
+adds_each : {T : Type 0} (w : State T) (p : ℕ) (is : List ℕ) → p < length w.participants → AddsTo p (λ j. 1 ≤ times j is) w (released_each p is w)
+adds_each w p [] known = record { shrinks = shrinks_refl w; added = λ j s. inl s }
+adds_each w p (i ∷ is) known =
+    let v = released p i w in
+    let a = adds_released w p i (status_at w i) known in
+    let r = adds_each v p is (omega (arith, known, released_known w p i)) in
+    record {
+      shrinks = shrinks_then w v _ a.shrinks r.shrinks;
+      added = λ j s. elim (r.added j s) [
+        | inl t ↦ elim (a.added j t) [
+          | inl y ↦ inl y
+          | inr y ↦
+              let here : 1 ≤ times i (i ∷ is) = omega (arith, sum_by-cons (λ k. hit k i) i is, hit-same i) in
+              inr (subst (λ k. 1 ≤ times k (i ∷ is)) (some_same i j y) here)
+        ]
+        | inr t ↦ inr (omega (arith, t, sum_by-cons (λ k. hit k j) i is))
+      ];
+    }
+
+-- a group with an owner less names nothing new
+row_before : (gs : List GroupState) (g k j : ℕ) (s : GroupState) → (1 ≤ times j s.row → 1 ≤ times j (row_at gs g)) → 1 ≤ times j (row_at (set gs g s) k) → 1 ≤ times j (row_at gs k)
+row_before [] g k j s old e = e
+row_before (x ∷ gs) zero zero j s old e = old e
+row_before (x ∷ gs) zero (suc k) j s old e = e
+row_before (x ∷ gs) (suc g) zero j s old e = e
+row_before (x ∷ gs) (suc g) (suc k) j s old e = row_before gs g k j s old e
+
+less_before : (gs : List GroupState) (g k j : ℕ) → 1 ≤ times j (row_at (less_owned g gs) k) → 1 ≤ times j (row_at gs k)
+less_before gs g k j =
+    elim (leb (count_at gs g) 1) as (λ b. 1 ≤ times j (row_at (cond b (without g gs) (with_count g (count_at gs g - 1) gs)) k) → 1 ≤ times j (row_at gs k)) [
+      | true ↦ row_before gs g k j no_group (λ e. absurd (omega (arith, e)))
+      | false ↦ row_before gs g k j (record { count = count_at gs g - 1; row = row_at gs g }) (λ e. e)
+    ]
+
+ended_before : (gs : List GroupState) (g j : ℕ) → 1 ≤ times j (row_ended g gs) → 1 ≤ times j (row_at gs g)
+ended_before gs g j =
+    elim (leb (count_at gs g) 1) as (λ b. 1 ≤ times j (cond b (row_at gs g) []) → 1 ≤ times j (row_at gs g)) [ true ↦ λ e. e | false ↦ λ e. absurd (omega (arith, e)) ]
+
+adds_group : {T : Type 0} (w : State T) (p g : ℕ) → p < length w.participants → AddsTo p (λ j. 1 ≤ times j (row_at w.groups g)) w (group_given p g w)
+adds_group w p g known =
+    let u = with_groups (less_owned g w.groups) w in
+    let a = adds_each u p (reverse (row_ended g w.groups)) known in
+    record {
+      shrinks = shrinks_then w u _ (record { values = λ j v e. e; cells = λ c j e. e; rows = λ k j e. less_before w.groups g k j e; jobs = λ j e. e; plain = λ j e. e }) a.shrinks;
+      added = λ j s. elim (a.added j s) [ inl t ↦ inl t | inr t ↦ inr (ended_before w.groups g j (omega (arith, t, times_reversed j (row_ended g w.groups)))) ];
+    }
+
+adds_given : {T : Type 0} (w : State T) (p : ℕ) (h : Hold) → p < length w.participants → AddsTo p (λ j. Reaches w h j) w (given p h w)
+adds_given w p (OwnedItem i) known = adds_to p (Some i) (λ j. i ≡ j) w _ (some_same i) (adds_disowned w p i (status_at w i) known)
+adds_given w p (SharedItem i) known = adds_to p (Some i) (λ j. i ≡ j) w _ (some_same i) (adds_released w p i (status_at w i) known)
+adds_given w p (OwnedIn c) known = adds_to p (slot_kept (cell_at w c)) (λ j. slot_kept (cell_at w c) ≡ Some j) w _ (λ j e. e) (adds_owned_ended w p c (cell_at w c) known)
+adds_given w p (SharedIn c) known = adds_to p (slot_kept (cell_at w c)) (λ j. slot_kept (cell_at w c) ≡ Some j) w _ (λ j e. e) (adds_shared_ended w p c (cell_at w c) known)
+adds_given w p (OwnerGroup g) known = adds_group w p g known
 
 same_self : (h : Hold) → same_hold h h ≡ 1
 same_self (OwnedItem i) = hit-same i
 same_self (SharedItem i) = hit-same i
 same_self (OwnedIn c) = hit-same c
 same_self (SharedIn c) = hit-same c
+same_self (OwnerGroup g) = hit-same g
 
 -- what giving all back adds
 record AddsAll {T : Type 0} (p : ℕ) (hs : List Hold) (w w' : State T) : Type 0 where
   pub shrinks : Shrinks w w'
-  pub added : (j : ℕ) → 1 ≤ times j (participant_at w' p).current → (1 ≤ times j (participant_at w p).current) ⊎ ((h : Hold) × (1 ≤ tally h hs) × (slot_held w h ≡ Some j))
+  pub added : (j : ℕ) → 1 ≤ times j (participant_at w' p).current → (1 ≤ times j (participant_at w p).current) ⊎ ((h : Hold) × (1 ≤ tally h hs) × Reaches w h j)
 
 adds_all : {T : Type 0} (w : State T) (p : ℕ) (hs : List Hold) → Sound w → p < length w.participants → AddsAll p hs w (given_all p hs w)
 adds_all w p [] sound known = record { shrinks = shrinks_refl w; added = λ j s. inl s }
@@ -196,7 +259,7 @@ holder holds (Some v) h s = (v, refl, s)
 
 module _ {T : Type 0} (holds : T → List Hold) where
   shrinks_taken : (p i : ℕ) (is : List ℕ) (w : State T) → Shrinks w (taken p i is w)
-  shrinks_taken p i is w = record { values = λ j u e. value_before w.values i j u e; cells = λ c j e. e; jobs = λ j e. status_before w.states i j (vacated (status_at w i)) (vacated_idle (status_at w i)) e; plain = λ j e. plain_after w.states i j (vacated (status_at w i)) (plain_vacated (status_at w i)) e }
+  shrinks_taken p i is w = record { values = λ j u e. value_before w.values i j u e; cells = λ c j e. e; rows = λ g j e. e; jobs = λ j e. status_before w.states i j (vacated (status_at w i)) (vacated_idle (status_at w i)) e; plain = λ j e. plain_after w.states i j (vacated (status_at w i)) (plain_vacated (status_at w i)) e }
 
   adds_due : (p i : ℕ) (is : List ℕ) (w : State T) → Sound w → p < length w.participants → (participant_at w p).due ≡ i ∷ is → AddsAll p (held_in holds (value_at w i)) (taken p i is w) (due_reclaimed holds p w)
   adds_due p i is w h known was =
@@ -225,7 +288,7 @@ module _ {T : Type 0} (holds : T → List Hold) where
       let size : length u.participants ≡ length w.participants = length-set w.participants p (bags_moved_on (participant_at w p)) in
       let due = due_turned w p known in
       let s = shrinks_runs p (length (participant_at w p).oldest) u (participant_at u p).due refl (ap length due ∙ length-reverse (participant_at w p).oldest) (sound_turned w p h.sound known (h.idle p)) (omega (arith, size, known)) in
-      record { values = s.values; cells = s.cells; jobs = s.jobs; plain = s.plain }
+      record { values = s.values; cells = s.cells; rows = s.rows; jobs = s.jobs; plain = s.plain }
 
 module _ {T : Type 0} (holds : T → List Hold) (level : T → ℕ) where
   -- what is in a list of places has a level below n
@@ -319,7 +382,7 @@ module _ {T : Type 0} (holds : T → List Hold) (w : State T) (p : ℕ) (h : IsP
     others = λ k n. get_or-set_other w.participants p k (with_local_state begin_local (participant_at w p)) nobody n;
     participants = length-set w.participants p (with_local_state begin_local (participant_at w p));
     place = place_begun w p h known;
-    shrinks = record { values = λ j u e. e; cells = λ c j e. e; jobs = λ j e. e; plain = λ j e. e };
+    shrinks = record { values = λ j u e. e; cells = λ c j e. e; rows = λ g j e. e; jobs = λ j e. e; plain = λ j e. e };
   }
 
   opens_turned : Opens p w (participant_rotated holds p (count_published p w))
@@ -335,7 +398,7 @@ module _ {T : Type 0} (holds : T → List Hold) (w : State T) (p : ℕ) (h : IsP
         others = λ k n. r.others k n ∙ b.others k n;
         participants = r.known ∙ b.participants;
         place = r.place;
-        shrinks = record { values = s.values; cells = s.cells; jobs = s.jobs; plain = s.plain };
+        shrinks = record { values = s.values; cells = s.cells; rows = s.rows; jobs = s.jobs; plain = s.plain };
       }
 
   pub opens : Opens p w (guard_opened holds p w)
@@ -443,7 +506,7 @@ module _ {T : Type 0} (holds : T → List Hold) where
         prior = ap (λ (m : ParticipantState). m.prior) atx ∙ ap (λ (m : ParticipantState). m.prior) ata;
         oldest = ap (λ (m : ParticipantState). m.oldest) atx ∙ ap (λ (m : ParticipantState). m.oldest) ata;
         values = refl;
-        shrinks = record { values = O.shrinks.values; cells = O.shrinks.cells; jobs = O.shrinks.jobs; plain = O.shrinks.plain };
+        shrinks = record { values = O.shrinks.values; cells = O.shrinks.cells; rows = O.shrinks.rows; jobs = O.shrinks.jobs; plain = O.shrinks.plain };
         place = placex;
       } in
       subst (λ (s : State T). IsPassed p w o s) (sym is) whole

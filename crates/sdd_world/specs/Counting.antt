@@ -1,9 +1,10 @@
 -- owners and cells, counted over all that hold them
-use Rattle.std.specs.Prelude.{◌≡◌, ℕ, ◌+◌, ◌<◌, ◌≤◌, Option, None, Some, List, [], ◌∷◌, ◌++◌, length}
+use Rattle.std.specs.Prelude.{◌≡◌, ℕ, ◌+◌, ◌<◌, ◌≤◌, Option, None, Some, List, [], ◌∷◌, ◌++◌, length, map}
 use Rattle.std.specs.List.{sum_by}
-use Rattle.sdd_table.specs.Holding.{Hold, OwnedItem, SharedItem, OwnedIn, SharedIn}
-use Rattle.sdd_table.specs.State.{State, status_at, value_at, cell_at, placed, with_value, with_status, with_cell, waiting_as, IsFree, IsFreeCell, IsIdle, fresh}
-use Rattle.sdd_table.specs.Steps.{hit, held_in, given, guard_opened, guard_closed, set_aside, purged, handed_over}
+use Rattle.sdd_table.specs.Groups.{GroupState, IsFreeName, IsOut, count_at, more_owned, no_group, row_at, rows_of, with_row}
+use Rattle.sdd_table.specs.Holding.{Hold, OwnedItem, SharedItem, OwnedIn, SharedIn, OwnerGroup}
+use Rattle.sdd_table.specs.State.{State, status_at, value_at, cell_at, placed, with_value, with_status, with_cell, with_groups, waiting_as, IsFree, IsFreeCell, IsIdle, fresh}
+use Rattle.sdd_table.specs.Steps.{hit, times, held_in, given, guard_opened, guard_closed, set_aside, purged, handed_over}
 use Rattle.sdd_table.specs.Dropping.{Dropped}
 use Rattle.sdd_table.specs.Frame.{IsLive}
 use Rattle.sdd_table.specs.Place.{IsPlace, IsShared, IsOwned, IsSharedCell}
@@ -14,24 +15,33 @@ use Rattle.sdd_table.specs.declared.status.Status.TheVariants as status
 use Rattle.sdd_table.specs.declared.status.Cell.{Cell}
 use Rattle.sdd_table.specs.declared.status.Cell.TheVariants as cell
 
--- 1 where k is an owner of the kind and item, or the cell, of h
+-- 1 where k is an owner of the kind and item, the cell, or an owner of the group, of h
 abbrev pub same_hold : Hold → Hold → ℕ
 same_hold (OwnedItem i) (OwnedItem j) = hit j i
 same_hold (OwnedItem i) (SharedItem j) = 0
 same_hold (OwnedItem i) (OwnedIn j) = 0
 same_hold (OwnedItem i) (SharedIn j) = 0
+same_hold (OwnedItem i) (OwnerGroup j) = 0
 same_hold (SharedItem i) (OwnedItem j) = 0
 same_hold (SharedItem i) (SharedItem j) = hit j i
 same_hold (SharedItem i) (OwnedIn j) = 0
 same_hold (SharedItem i) (SharedIn j) = 0
+same_hold (SharedItem i) (OwnerGroup j) = 0
 same_hold (OwnedIn i) (OwnedItem j) = 0
 same_hold (OwnedIn i) (SharedItem j) = 0
 same_hold (OwnedIn i) (OwnedIn j) = hit j i
 same_hold (OwnedIn i) (SharedIn j) = 0
+same_hold (OwnedIn i) (OwnerGroup j) = 0
 same_hold (SharedIn i) (OwnedItem j) = 0
 same_hold (SharedIn i) (SharedItem j) = 0
 same_hold (SharedIn i) (OwnedIn j) = 0
 same_hold (SharedIn i) (SharedIn j) = hit j i
+same_hold (SharedIn i) (OwnerGroup j) = 0
+same_hold (OwnerGroup i) (OwnedItem j) = 0
+same_hold (OwnerGroup i) (SharedItem j) = 0
+same_hold (OwnerGroup i) (OwnedIn j) = 0
+same_hold (OwnerGroup i) (SharedIn j) = 0
+same_hold (OwnerGroup i) (OwnerGroup j) = hit j i
 
 -- how often h is among what is held
 abbrev pub tally : Hold → List Hold → ℕ
@@ -80,16 +90,21 @@ keeps_shared (cell.OfOwned o t) = 0
 keeps_shared (cell.OfShared o t) = 1
 keeps_shared (cell.OfRaw o t) = 0
 
--- how many owners the item of h has, or whether the cell of h is in use
+-- how many owners the item or the group of h has, or whether the cell of h is in use
 abbrev pub owners_of : {T : Type 0} → Hold → State T → ℕ
 owners_of (OwnedItem i) w = single_owner (status_at w i)
 owners_of (SharedItem i) w = shared_owners (status_at w i)
 owners_of (OwnedIn c) w = keeps_owned (cell_at w c)
 owners_of (SharedIn c) w = keeps_shared (cell_at w c)
+owners_of (OwnerGroup g) w = count_at w.groups g
 
--- what is in hand, in items and in cells adds up to each item's owners, and each cell has one owner
+-- the owners that stand in rows of groups
+abbrev pub rows_held : List GroupState → List Hold
+rows_held gs = map SharedItem (rows_of gs)
+
+-- what is in hand, in items, in cells and in rows adds up to the owners of each item and group, and each cell has one owner
 pub record Counted {T : Type 0} (holds : T → List Hold) (hand : List Hold) (w : State T) : Type 0 where
-  pub each : (h : Hold) → tally h hand + sum_by (λ v. tally h (held_in holds v)) w.values + sum_by (λ c. tally h (kept_by c)) w.cells ≡ owners_of h w
+  pub each : (h : Hold) → tally h hand + sum_by (λ v. tally h (held_in holds v)) w.values + sum_by (λ c. tally h (kept_by c)) w.cells + tally h (rows_held w.groups) ≡ owners_of h w
 
 -- the owners that are out, whoever has them, stay counted over every call
 pub record OwnersAreCounted {T : Type 0} (holds : T → List Hold) : Type 0 where
@@ -104,17 +119,25 @@ pub record OwnersAreCounted {T : Type 0} (holds : T → List Hold) : Type 0 wher
   -- a cell in hand, or in an item, is in use
   pub cell_in_hand : (c : ℕ) (hand : List Hold) (w : State T) → Counted holds (SharedIn c ∷ hand) w → IsSharedCell w c
   pub cell_in_item : (c j : ℕ) (v : T) (hand : List Hold) (w : State T) → value_at w j ≡ Some v → 1 ≤ tally (SharedIn c) (holds v) → Counted holds hand w → IsSharedCell w c
+  -- a group in hand, or in an item, has owners; and each item that the row of such a group names is there
+  pub group_in_hand : (g : ℕ) (hand : List Hold) (w : State T) → Counted holds (OwnerGroup g ∷ hand) w → IsOut w.groups g
+  pub group_in_item : (g j : ℕ) (v : T) (hand : List Hold) (w : State T) → value_at w j ≡ Some v → 1 ≤ tally (OwnerGroup g) (holds v) → Counted holds hand w → IsOut w.groups g
+  pub in_row : (i g : ℕ) (hand : List Hold) (w : State T) → IsOut w.groups g → 1 ≤ times i (row_at w.groups g) → Counted holds hand w → IsShared w i
   -- an item is made of what it will hold
   pub placed_shared : (i : ℕ) (v : T) (hand : List Hold) (w : State T) → IsPlace w → IsFree w i → Counted holds (holds v ++ hand) w → Counted holds (SharedItem i ∷ hand) (placed i v (status.Shared 1) w)
   pub placed_owned : (i : ℕ) (v : T) (hand : List Hold) (w : State T) → IsPlace w → IsFree w i → Counted holds (holds v ++ hand) w → Counted holds (OwnedItem i ∷ hand) (placed i v status.Owned w)
   -- one owner more
   pub cloned : (i n : ℕ) (hand : List Hold) (w : State T) → status_at w i ≡ status.Shared n → i < length w.states → Counted holds hand w → Counted holds (SharedItem i ∷ hand) (with_status i (status.Shared (n + 1)) w)
-  -- an owner, or a cell with what it keeps, is given back
+  -- an owner, a cell with what it keeps, or an owner of a group is given back
   pub given : (p : ℕ) (h : Hold) (hand : List Hold) (w : State T) → Counted holds (h ∷ hand) w → Counted holds hand (given p h w)
   -- an owner is given back at once, with all that only it held
   pub dropped : (h : Hold) (hand : List Hold) (w w' : State T) → IsPlace w → Counted holds (h ∷ hand) w → Dropped holds h w w' → Counted holds hand w'
   -- an item is written: what it will hold is taken from the hand, and what it held is put there
   pub written : (i : ℕ) (u v : T) (hand : List Hold) (w : State T) → i < length w.values → value_at w i ≡ Some u → Counted holds (holds v ++ hand) w → Counted holds (holds u ++ hand) (with_value i v w)
+  -- a name for a group comes, a group is made of what its row will keep, and gets one owner more
+  pub groups_grown : (hand : List Hold) (w : State T) → Counted holds hand w → Counted holds hand (with_groups (w.groups ++ no_group ∷ []) w)
+  pub group_made : (g : ℕ) (row : List ℕ) (hand : List Hold) (w : State T) → IsFreeName w.groups g → Counted holds (map SharedItem row ++ hand) w → Counted holds (OwnerGroup g ∷ hand) (with_groups (with_row g row w.groups) w)
+  pub group_raised : (g : ℕ) (hand : List Hold) (w : State T) → IsOut w.groups g → Counted holds hand w → Counted holds (OwnerGroup g ∷ hand) (with_groups (more_owned g w.groups) w)
   -- guards open and close
   pub opened : (p : ℕ) (hand : List Hold) (w : State T) → IsPlace w → p < length w.participants → Counted holds hand w → Counted holds hand (guard_opened holds p w)
   pub closed : (p : ℕ) (hand : List Hold) (w : State T) → Counted holds hand w → Counted holds hand (guard_closed p w)

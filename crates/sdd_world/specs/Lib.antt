@@ -1,4 +1,5 @@
 pub use Rattle.sdd_table.specs.Epochs
+pub use Rattle.sdd_table.specs.Groups
 pub use Rattle.sdd_table.specs.Holding
 pub use Rattle.sdd_table.specs.State
 pub use Rattle.sdd_table.specs.Steps

@@ -1,8 +1,9 @@
 -- what accelerated guards, opened and closed one by one, make of what waits
 use Rattle.std.specs.Prelude.{◌≡◌, ◌≢◌, ℕ, zero, suc, ◌+◌, ◌-◌, ◌<◌, ◌≤◌, Bool, true, false, ltb, Option, None, Some, List, length}
-use Rattle.sdd_table.specs.Holding.{Hold, OwnedItem, SharedItem, OwnedIn, SharedIn}
+use Rattle.sdd_table.specs.Groups.{row_at}
+use Rattle.sdd_table.specs.Holding.{Hold, OwnedItem, SharedItem, OwnedIn, SharedIn, OwnerGroup}
 use Rattle.sdd_table.specs.State.{State, participant_at, local_at, status_at, value_at, cell_at, with_local, in_use}
-use Rattle.sdd_table.specs.Steps.{guard_opened, guard_closed, released, bags_empty, NoneOpen}
+use Rattle.sdd_table.specs.Steps.{times, guard_opened, guard_closed, released, bags_empty, NoneOpen}
 use Rattle.sdd_table.specs.Place.{IsPlace, held_times}
 use Rattle.sdd_table.specs.Frame.{OnlyParticipant}
 use Rattle.sdd_world.specs.Counting.{tally}
@@ -33,10 +34,11 @@ is_plain status.Deferred = false
 abbrev pub IsPlain : {T : Type 0} → State T → Type 0
 IsPlain w = (j : ℕ) → is_plain (status_at w j) ≡ true
 
--- values, what cells name, and jobs only go; a plain place stays plain
+-- values, what cells and rows name, and jobs only go; a plain place stays plain
 pub record Shrinks {T : Type 0} (w w' : State T) : Type 0 where
   pub values : (j : ℕ) (u : T) → value_at w' j ≡ Some u → value_at w j ≡ Some u
   pub cells : (c j : ℕ) → slot_kept (cell_at w' c) ≡ Some j → slot_kept (cell_at w c) ≡ Some j
+  pub rows : (g j : ℕ) → 1 ≤ times j (row_at w'.groups g) → 1 ≤ times j (row_at w.groups g)
   pub jobs : (j : ℕ) → status_at w' j ≡ status.Deferred → status_at w j ≡ status.Deferred
   pub plain : (j : ℕ) → is_plain (status_at w j) ≡ true → is_plain (status_at w' j) ≡ true
 
@@ -52,13 +54,14 @@ pub record OnlyParticipantsChange {T : Type 0} (w w' : State T) : Type 0 where
   pub values : w'.values ≡ w.values
   pub states : w'.states ≡ w.states
   pub cells : w'.cells ≡ w.cells
+  pub groups : w'.groups ≡ w.groups
 
 -- what guards and owners that are given back leave
 pub record GivesOnly {T : Type 0} (holds : T → List Hold) : Type 0 where
   -- a guard that opens only takes away; it counts
   pub opening : (p : ℕ) (w : State T) → IsPlace w → p < length w.participants → Shrinks w (guard_opened holds p w) × (in_use (guard_opened holds p w) ≤ in_use w) × ((local_at (guard_opened holds p w) p).nesting ≡ (local_at w p).nesting + 1)
-  -- one that closes leaves all items and cells
-  pub closing : (p : ℕ) (w : State T) → p < length w.participants → ((guard_closed p w).values ≡ w.values) × ((guard_closed p w).states ≡ w.states) × ((guard_closed p w).cells ≡ w.cells) × ((local_at (guard_closed p w) p).nesting ≡ (local_at w p).nesting - 1)
+  -- one that closes leaves all items, cells and groups
+  pub closing : (p : ℕ) (w : State T) → p < length w.participants → ((guard_closed p w).values ≡ w.values) × ((guard_closed p w).states ≡ w.states) × ((guard_closed p w).cells ≡ w.cells) × ((guard_closed p w).groups ≡ w.groups) × ((local_at (guard_closed p w) p).nesting ≡ (local_at w p).nesting - 1)
   -- where nothing waits for p, its guards leave the count too, and nothing waits for it
   pub quiet_opening : (p : ℕ) (w : State T) → IsPlace w → p < length w.participants → IsQuiet w p → OnlyParticipantsChange w (guard_opened holds p w) × IsQuiet (guard_opened holds p w) p
   pub quiet_closing : (p : ℕ) (w : State T) → p < length w.participants → IsQuiet w p → OnlyParticipantsChange w (guard_closed p w) × IsQuiet (guard_closed p w) p
@@ -85,16 +88,17 @@ pub record CanPass {T : Type 0} (n p : ℕ) (w : State T) : Type 0 where
   pub none_open : NoneOpen w
   pub room : w.count + n ≤ 18446744073709551615
 
--- the slot of an owner, or of what a cell keeps
-abbrev pub slot_held : {T : Type 0} → State T → Hold → Option ℕ
-slot_held w (OwnedItem i) = Some i
-slot_held w (SharedItem i) = Some i
-slot_held w (OwnedIn c) = slot_kept (cell_at w c)
-slot_held w (SharedIn c) = slot_kept (cell_at w c)
+-- an owner of the item in slot j, a cell that keeps one, or a group whose row does
+abbrev pub Reaches : {T : Type 0} → State T → Hold → ℕ → Type 0
+Reaches w (OwnedItem i) j = i ≡ j
+Reaches w (SharedItem i) j = i ≡ j
+Reaches w (OwnedIn c) j = slot_kept (cell_at w c) ≡ Some j
+Reaches w (SharedIn c) j = slot_kept (cell_at w c) ≡ Some j
+Reaches w (OwnerGroup g) j = 1 ≤ times j (row_at w.groups g)
 
 -- what an item holds has a lower level than it
 abbrev pub IsLayered : {T : Type 0} → (T → List Hold) → (T → ℕ) → State T → Type 0
-IsLayered {T} holds level w = (i j : ℕ) (v u : T) (h : Hold) → value_at w i ≡ Some v → 1 ≤ tally h (holds v) → slot_held w h ≡ Some j → value_at w j ≡ Some u → level u < level v
+IsLayered {T} holds level w = (i j : ℕ) (v u : T) (h : Hold) → value_at w i ≡ Some v → 1 ≤ tally h (holds v) → Reaches w h j → value_at w j ≡ Some u → level u < level v
 
 -- what waits in the bags of p has a level below n
 abbrev pub WaitsBelow : {T : Type 0} → (T → ℕ) → ℕ → ℕ → State T → Type 0

@@ -28,6 +28,7 @@ pub mod atomic_owned;
 pub mod atomic_raw;
 pub mod atomic_shared;
 mod cells;
+pub mod group;
 pub mod guard;
 pub mod owned;
 pub mod private_collector;
@@ -57,7 +58,7 @@ impl<T, J: Deferred> Model for World<T, J> {
 
 impl<T, J: Deferred> World<T, J> {
     /// A place without items, whose participants are named by 0, 1, .. . It takes all the memory that the place will
-    /// ever use; without memory nothing is kept.
+    /// ever use, but that of groups; without memory nothing is kept.
     pub fn new(alloc: Global, sizes: Sizes) -> Result<World<T, J>, AllocError>
         requires { IsSized sizes }
         ensures { IfOk result (λ w. w ≡ fresh sizes) }

@@ -1,12 +1,13 @@
 -- Places in which versions are placed one by one, where owners can't run out.
-use Rattle.std.proofs.Common.{◌≡◌, ℕ, ◌+◌, ◌<◌, ◌≤◌, Some, None, List, [], ◌∷◌, ◌++◌, length, replicate, sym, ap, ◌∙◌, arith, subst, Option}
+use Rattle.std.proofs.Common.{◌≡◌, ℕ, ◌+◌, ◌<◌, ◌≤◌, Some, None, List, [], ◌∷◌, ◌++◌, length, replicate, refl, sym, ap, ◌∙◌, arith, subst, Option}
 use Rattle.std.proofs.lemmas.List.{length-append, length-replicate}
 use Rattle.std.proofs.lemmas.List.Sums.{sum_by-append, sum_by-cons}
 use Rattle.std.specs.declared.cmp.Ordering.{Ordering}
 use Rattle.std.specs.List.{All}
-use Rattle.sdd_world.specs.Counting.{Counted, same_hold}
-use Rattle.sdd_world.specs.Holding.{Hold, SharedItem}
-use Rattle.sdd_world.specs.Place.{IsPlace}
+use Rattle.sdd_world.specs.Counting.{Counted, OwnersAreCounted, same_hold, tally}
+use Rattle.sdd_world.specs.Holding.{Hold, SharedItem, OwnerGroup}
+use Rattle.sdd_world.specs.Place.{IsPlace, IsShared}
+use Rattle.sdd_world.specs.Steps.{released}
 use Rattle.sdd_world.specs.State.{State, fresh, value_at, with_cell}
 use Rattle.sdd_world.specs.declared.owner.Kept.{Kept}
 use Rattle.sdd_world.specs.declared.sizes.Sizes.{Sizes}
@@ -28,6 +29,7 @@ module _ {K V : Type 0} {s : ℕ} where
     pub counted : Counted held_by hand w
     pub levelled : IsLevelled w
     pub few : length w.states + length w.cells ≤ n
+    pub ungrouped : (g : ℕ) → tally (OwnerGroup g) hand ≡ 0
 
   pub settled_fresh : (n : Sizes) → Settled [] (n.slots + n.jobs + n.cells) (fresh n)
   settled_fresh n = record {
@@ -42,10 +44,14 @@ module _ {K V : Type 0} {s : ℕ} where
         let jobs = length-replicate n.jobs status.Idle in
         let cells = length-replicate n.cells cell.Free in
         omega (arith, split, slots, jobs, cells);
+    ungrouped = λ g. refl;
   }
     where
       none_some : {y : Item K V s} → None ≡ Some y → ⊥
       none_some e = cc
+
+  pub settled_new : (n : Sizes) (w : State (Item K V s)) → w ≡ fresh n → Settled [] (n.slots + n.jobs + n.cells) w
+  settled_new n w is = subst (λ (u : State (Item K V s)). Settled [] (n.slots + n.jobs + n.cells) u) (sym is) (settled_fresh n)
 
   -- a version is placed
   pub settled_placed : (cmp : K → K → Ordering) (hand : List Hold) (n : ℕ) {older : Option ℕ} (plan : Plan K V s) (slot : ℕ) (w w' : State (Item K V s)) → Settled hand n w → Places cmp older plan slot w w' → Settled (SharedItem slot ∷ hand) n w'
@@ -57,13 +63,18 @@ module _ {K V : Type 0} {s : ℕ} where
         let cells = ap length made.adds.cells in
         let few = settled.few in
         omega (arith, slots, cells, few);
+    ungrouped = λ g.
+        let sum = sum_by-cons (λ k. same_hold (OwnerGroup g) k) (SharedItem slot) hand in
+        let other : same_hold (OwnerGroup g) (SharedItem slot) ≡ 0 = refl in
+        let rest = settled.ungrouped g in
+        omega (arith, sum, other, rest);
   }
 
   -- the segments of a version that is there may be taken over
   pub settled_shared : (cmp : K → K → Ordering) (hand : List Hold) (n : ℕ) (w : State (Item K V s)) → Settled hand n w → IsPlace w → length hand + n < 4294967295 → (i : ℕ) (d : Directory K Kept) → value_at w i ≡ Some (items.Directory d) → All (CanBeShared w) (slots_of d)
   settled_shared cmp hand n w settled place few i d is =
       let long = settled.few in
-      segments_can_be_shared cmp hand w settled.counted place settled.levelled (omega (arith, long, few)) i d is
+      segments_can_be_shared cmp hand w settled.ungrouped settled.counted place settled.levelled (omega (arith, long, few)) i d is
 
   -- a version stays where a cell changes
   pub version_with_cell : (cmp : K → K → Ordering) (c : ℕ) (kept : Cell) (slot number : ℕ) (pairs : List (K × V)) (w w' : State (Item K V s)) → w' ≡ with_cell c kept w → HasVersion cmp w slot number pairs → HasVersion cmp w' slot number pairs
@@ -81,3 +92,15 @@ module _ {K V : Type 0} {s : ℕ} where
         let each = counted.each h in
         omega (arith, whole, more, turned, split, each);
   }
+
+  -- an owner in hand is there
+  pub in_hand : (slot : ℕ) (rest : List Hold) (w : State (Item K V s)) → Counted held_by (SharedItem slot ∷ rest) w → IsShared w slot
+  in_hand slot rest w counted =
+      let owners : OwnersAreCounted {T = Item K V s} held_by = owners_are_counted held_by in
+      owners.shared slot rest w counted
+
+  -- one is given back, and the others stay counted
+  pub given_back : (p slot : ℕ) (rest : List Hold) (w w' : State (Item K V s)) → Counted held_by (SharedItem slot ∷ rest) w → w' ≡ released p slot w → Counted held_by rest w'
+  given_back p slot rest w w' counted is =
+      let owners : OwnersAreCounted {T = Item K V s} held_by = owners_are_counted held_by in
+      subst (λ (u : State (Item K V s)). Counted held_by rest u) (sym is) (owners.given p (SharedItem slot) rest w counted)

@@ -1,10 +1,11 @@
 -- lists in a place while a guard opens or closes
-use Rattle.std.proofs.Common.{◌≡◌, ◌≢◌, ◌⊎◌, ◌==◌, ◌++◌, ℕ, zero, suc, ◌+◌, ◌-◌, ◌<◌, ◌≤◌, true, false, Option, None, Some, List, [], ◌∷◌, length, get_or, set, refl, sym, ap, ◌∙◌, arith, subst, cond, inl, inr, leb, ltb, ◌&&◌, get_or-set_other}
+use Rattle.std.proofs.Common.{◌≡◌, ◌≢◌, ◌⊎◌, ◌==◌, ◌++◌, ℕ, zero, suc, ◌+◌, ◌-◌, ◌<◌, ◌≤◌, true, false, Option, None, Some, List, [], ◌∷◌, length, get_or, set, refl, sym, ap, ◌∙◌, arith, subst, cond, inl, inr, leb, ltb, ◌&&◌, get_or-set_other, reverse}
 use Rattle.std.specs.List.{list_all}
 use Rattle.std.proofs.lemmas.List.Sums.{sum_by-set}
-use Rattle.sdd_world.specs.Holding.{Hold, OwnedItem, SharedItem, OwnedIn, SharedIn}
-use Rattle.sdd_world.specs.State.{State, status_at, value_at, cell_at, participant_at, local_at, with_local, with_status, with_cell, retired, taken, vacated, raised, is_present, rotated_bags}
-use Rattle.sdd_world.specs.Steps.{given, given_all, held_in, released_as, disowned_as, owned_ended_as, shared_ended_as, due_reclaimed, due_reclaimed_as, reclaimed, participant_rotated, count_published, guard_opened, guard_closed, scanned, scans, closings_after}
+use Rattle.sdd_world.specs.Groups.{less_owned, row_ended}
+use Rattle.sdd_world.specs.Holding.{Hold, OwnedItem, SharedItem, OwnedIn, SharedIn, OwnerGroup}
+use Rattle.sdd_world.specs.State.{State, status_at, value_at, cell_at, participant_at, local_at, with_local, with_status, with_cell, with_groups, retired, taken, vacated, raised, is_present, rotated_bags}
+use Rattle.sdd_world.specs.Steps.{given, given_all, released, released_each, held_in, released_as, disowned_as, owned_ended_as, shared_ended_as, due_reclaimed, due_reclaimed_as, reclaimed, participant_rotated, count_published, guard_opened, guard_closed, scanned, scans, closings_after}
 use Rattle.sdd_world.specs.Place.{IsPlace}
 use Rattle.sdd_world.specs.Frame.{has_owner}
 use Rattle.sdd_world.specs.Counting.{Counted, kept_by, shared_owners, tally}
@@ -107,11 +108,16 @@ module _ {T : Type 0} (i : ℕ) where
   fewer_shared_ended (cell.OfShared (Some j) t) p c w = fewer_released (status_at w j) p j (with_cell c cell.Free w) refl
   fewer_shared_ended (cell.OfRaw o t) p c w = omega arith
 
+  fewer_each : (p : ℕ) (is : List ℕ) (w : State T) → owners (released_each p is w) ≤ owners w
+  fewer_each p [] w = omega arith
+  fewer_each p (j ∷ is) w = let a = fewer_released (status_at w j) p j w refl in let b = fewer_each p is (released p j w) in omega (arith, a, b)
+
   fewer_given : (p : ℕ) (h : Hold) (w : State T) → owners (given p h w) ≤ owners w
   fewer_given p (OwnedItem j) w = fewer_disowned (status_at w j) p j w
   fewer_given p (SharedItem j) w = fewer_released (status_at w j) p j w refl
   fewer_given p (OwnedIn c) w = fewer_owned_ended (cell_at w c) p c w
   fewer_given p (SharedIn c) w = fewer_shared_ended (cell_at w c) p c w
+  fewer_given p (OwnerGroup g) w = fewer_each p (reverse (row_ended g w.groups)) (with_groups (less_owned g w.groups) w)
 
   fewer_given_all : (p : ℕ) (hs : List Hold) (w : State T) → owners (given_all p hs w) ≤ owners w
   fewer_given_all p [] w = omega arith

@@ -1,6 +1,0 @@
-pub mod Groups
-pub mod Arena
-pub mod Versions
-pub mod Grown
-pub mod Tiered
-pub mod Counted
