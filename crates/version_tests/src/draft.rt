@@ -6,6 +6,9 @@ ghost use Rattle.version_views.specs.Cuts.{IsCut, pairs_in};
 ghost use Rattle.version_drafts.specs.Parts.{blocks_of_parts, part_blocks};
 ghost use Rattle.version_tests.specs.Alone.{IsAlone, blocks_alone, pairs_alone};
 
+use crate::plain::following;
+use local_versions::Reply::{Absent, Cleared, Duplicate, Inserted, RangeRemoved, Upserted};
+use local_versions::Write::{Clear, Insert, Remove, RemoveRange, Upsert};
 use local_versions::draft::{Part, Segments, drafted};
 use local_versions::{Directory, Reply, Segment, Trees, VersionView, Write, plain};
 use std::alloc::{AllocError, Global};
@@ -153,11 +156,6 @@ fn is_cut(kept: &Alone, size: usize) -> bool {
     true
 }
 
-fn following(seed: u64) -> u64 {
-    seed.wrapping_mul(6364136223846793005)
-        .wrapping_add(1442695040888963407)
-}
-
 // A bound at a key, by the bits of a number.
 fn bound_by(bits: u64, key: u64) -> Bound<u64> {
     match bits % 4 {
@@ -171,18 +169,18 @@ fn bound_by(bits: u64, key: u64) -> Bound<u64> {
 fn write_by(seed: u64, mask: u64) -> Write<u64, u64> {
     let key = (seed >> 33) & mask;
     match (seed >> 59) % 32 {
-        0..=11 => Write::Insert(key, seed >> 40),
-        12..=20 => Write::Upsert(key, seed >> 40),
-        21..=28 => Write::Remove(key),
-        29 | 30 => Write::RemoveRange(
+        0..=11 => Insert(key, seed >> 40),
+        12..=20 => Upsert(key, seed >> 40),
+        21..=28 => Remove(key),
+        29 | 30 => RemoveRange(
             bound_by(seed >> 20, key),
             bound_by(
                 seed >> 24,
                 (key.saturating_add((seed >> 28) & (mask >> 2))).saturating_sub(1),
             ),
         ),
-        _ if (seed >> 20) % 4 == 0 => Write::Clear,
-        _ => Write::Remove(key),
+        _ if (seed >> 20) % 4 == 0 => Clear,
+        _ => Remove(key),
     }
 }
 
@@ -283,90 +281,46 @@ fn does(alloc: Global, before: &[Write<u64, u64>], row: Row) -> Result<bool, All
     Ok(left.as_slice() == pairs && replies.as_slice() == told && fresh == count)
 }
 
-const BEFORE: &[Write<u64, u64>] = &[
-    Write::Insert(1, 1),
-    Write::Insert(3, 3),
-    Write::Insert(5, 5),
-    Write::Insert(7, 7),
-];
+const BEFORE: &[Write<u64, u64>] = &[Insert(1, 1), Insert(3, 3), Insert(5, 5), Insert(7, 7)];
 
 const NONE: Row = (&[], &[], &[(1, 1), (3, 3), (5, 5), (7, 7)], 0);
 
 // The change at 5 isn't above 7, so it reaches that segment: both pairs are made anew, each in a tree of its own.
 const INNER: Row = (
     &[
-        Write::Insert(4, 4),
-        Write::Insert(3, 9),
-        Write::RemoveRange(Bound::Included(3), Bound::Excluded(7)),
-        Write::Insert(5, 50),
-        Write::Remove(3),
+        Insert(4, 4),
+        Insert(3, 9),
+        RemoveRange(Bound::Included(3), Bound::Excluded(7)),
+        Insert(5, 50),
+        Remove(3),
     ],
-    &[
-        Reply::Inserted,
-        Reply::Duplicate,
-        Reply::RangeRemoved,
-        Reply::Inserted,
-        Reply::Absent,
-    ],
+    &[Inserted, Duplicate, RangeRemoved, Inserted, Absent],
     &[(1, 1), (5, 50), (7, 7)],
     2,
 );
 
 const CLEARING: Row = (
-    &[
-        Write::Upsert(9, 9),
-        Write::Clear,
-        Write::Insert(2, 20),
-        Write::Remove(3),
-    ],
-    &[
-        Reply::Upserted,
-        Reply::Cleared,
-        Reply::Inserted,
-        Reply::Absent,
-    ],
+    &[Upsert(9, 9), Clear, Insert(2, 20), Remove(3)],
+    &[Upserted, Cleared, Inserted, Absent],
     &[(2, 20)],
     1,
 );
 
 #[test]
 fn writes_make_what_they_touch(rt: HostRuntime) -> Result<(), Fail> {
-    let none = does(rt.alloc(), BEFORE, NONE)?;
-    let inner = does(rt.alloc(), BEFORE, INNER)?;
-    let clearing = does(rt.alloc(), BEFORE, CLEARING)?;
-    assert_eq!(rt; [none, inner, clearing], [true; 3]);
+    for (name, row) in [("none", NONE), ("inner", INNER), ("clearing", CLEARING)] {
+        assert!(rt; does(rt.alloc(), BEFORE, row)?, "{name}");
+    }
     Ok(())
 }
 
-// Whether memory was refused while drafts and a plain list were made of writes, and whether they were as wanted, by a second
-// try then.
-fn does_again(alloc: Global) -> (bool, bool) {
-    let (mut met, first) = match does(alloc, BEFORE, INNER) {
-        Ok(right) => (false, right),
-        Err(AllocError) => (true, does(alloc, BEFORE, INNER) == Ok(true)),
-    };
-    let pairs = &[(1, 1), (3, 3), (5, 5), (7, 7)];
-    let made = match plain::applied(alloc, pairs, INNER.0) {
-        Ok(made) => Ok(made),
-        Err(AllocError) => {
-            met = true;
-            plain::applied(alloc, pairs, INNER.0)
-        }
-    };
-    let second = match made {
-        Ok((list, told)) => list.as_slice() == INNER.2 && told.as_slice() == INNER.1,
-        Err(AllocError) => false,
-    };
-    (met, first && second)
+// Whether the writes of a row make the draft that is wanted.
+pub(crate) fn makes_a_draft(alloc: Global) -> Result<bool, AllocError> {
+    does(alloc, BEFORE, INNER)
 }
 
-// Any one allocation may be refused: a script has each refused in turn.
-#[test]
-fn a_refusal_of_memory_makes_no_draft(rt: HostRuntime) {
-    assert!(rt; does_again(rt.alloc()).1);
-}
-
-#[test]
-fn no_memory_is_refused_to_a_draft(rt: HostRuntime) {
-    assert!(rt; does_again(rt.alloc()) == (false, true));
+// The same of a plain list.
+pub(crate) fn makes_a_plain_list(alloc: Global) -> Result<bool, AllocError> {
+    let (list, told) = plain::applied(alloc, NONE.2, INNER.0)?;
+    Ok(list.as_slice() == INNER.2 && told.as_slice() == INNER.1)
 }

@@ -85,13 +85,8 @@ fn make(map: &mut BTreeMap<u64, u64>, write: &Write<u64, u64>) -> Result<Reply, 
 fn shows(version: &LocalView<'_, u64, u64, 3>, map: &BTreeMap<u64, u64>) -> bool {
     let mut walk = version.walk(Bound::Unbounded, Bound::Unbounded);
     for (key, value) in map.iter() {
-        match walk.next() {
-            Some((k, v)) => {
-                if k != key || v != value {
-                    return false;
-                }
-            },
-            None => return false,
+        if walk.next() != Some((key, value)) {
+            return false;
         }
     }
     walk.next().is_none()

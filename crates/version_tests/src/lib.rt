@@ -10,7 +10,15 @@ mod listed;
 #[cfg(test)]
 mod look_up;
 #[cfg(test)]
+mod places;
+#[cfg(test)]
 mod placing;
+#[cfg(test)]
+mod plain;
+#[cfg(test)]
+mod refusals;
+#[cfg(test)]
+mod schedule;
 #[cfg(test)]
 mod single_steps;
 #[cfg(test)]

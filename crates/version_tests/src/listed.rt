@@ -92,12 +92,17 @@ fn is_cut<const S: usize>(
     }
 }
 
+// The same of five pairs.
+pub(crate) fn cuts_five(alloc: Global) -> Result<bool, AllocError> {
+    is_cut::<2>(alloc, FIVE, &[2, 2, 1], &[2, 4])
+}
+
 #[test]
 fn a_list_is_cut_into_full_segments_and_what_is_left(rt: HostRuntime) -> Result<(), Fail> {
     let alloc = rt.alloc();
     let none = is_cut::<2>(alloc, &[], &[], &[])?;
     let ones = is_cut::<1>(alloc, FIVE, &[1, 1, 1, 1, 1], &[1, 2, 3, 4])?;
-    let twos = is_cut::<2>(alloc, FIVE, &[2, 2, 1], &[2, 4])?;
+    let twos = cuts_five(alloc)?;
     let threes = is_cut::<3>(alloc, FIVE, &[3, 2], &[3])?;
     let wide = is_cut::<225>(alloc, FIVE, &[5], &[])?;
     let full = is_cut::<225>(alloc, &numbers(alloc, 225)?, &[225], &[])?;
@@ -107,7 +112,7 @@ fn a_list_is_cut_into_full_segments_and_what_is_left(rt: HostRuntime) -> Result<
 }
 
 // How many slots the version of five pairs takes.
-fn slots(alloc: Global) -> Result<usize, AllocError> {
+pub(crate) fn slots(alloc: Global) -> Result<usize, AllocError> {
     if !rise(FIVE) {
         return Ok(0);
     }
@@ -116,13 +121,8 @@ fn slots(alloc: Global) -> Result<usize, AllocError> {
 }
 
 // How many pairs a segment with room for three has, and one that is copied from a tree of five.
-fn segments(alloc: Global) -> Result<(usize, usize), AllocError> {
-    let mut tree: TreeIndex<u64, u64> = TreeIndex::new(alloc);
-    for (key, value) in FIVE {
-        if tree.upsert_sync(*key, *value).is_err() {
-            return Err(AllocError);
-        }
-    }
+pub(crate) fn segments(alloc: Global) -> Result<(usize, usize), AllocError> {
+    let tree = tree_up_to(alloc, 5)?;
     if tree.len() > 225 {
         return Ok((0, tree.len()));
     }
@@ -168,7 +168,7 @@ fn push_run(
 
 // Whether memory was refused to an empty segment that takes the pairs of a tree as a run, and whether it has them then: where
 // it was refused, no pair was left in it, the cursor was at the first one, and a second try took all.
-fn runs(alloc: Global) -> Result<(bool, bool), AllocError> {
+pub(crate) fn runs(alloc: Global) -> Result<(bool, bool), AllocError> {
     let tree = tree_up_to(alloc, 100)?;
     if tree.len() > 225 {
         return Ok((false, false));
@@ -181,67 +181,4 @@ fn runs(alloc: Global) -> Result<(bool, bool), AllocError> {
     let left = segment.is_empty() && cursor.get().map(|pair| *pair.0) == Some(1);
     let again = push_run(&mut segment, &mut cursor, &tree);
     Ok((true, left && again && segment.len() == 100))
-}
-
-// Whether memory was refused while a version was built of a list, and whether it takes four slots, by a second try then.
-fn builds_again(alloc: Global) -> (bool, bool) {
-    match slots(alloc) {
-        Ok(found) => (false, found == 4),
-        Err(AllocError) => (true, slots(alloc) == Ok(4)),
-    }
-}
-
-// The same as `runs`, again where memory was refused to the tree or to the room of the segment.
-fn runs_again(alloc: Global) -> (bool, bool) {
-    match runs(alloc) {
-        Ok(found) => found,
-        Err(AllocError) => (true, runs(alloc) == Ok((false, true))),
-    }
-}
-
-// Whether memory was refused while a list was cut and segments were made, and whether they were as wanted, by a second try
-// then.
-fn cut_again(alloc: Global) -> (bool, bool) {
-    let (met, first) = match is_cut::<2>(alloc, FIVE, &[2, 2, 1], &[2, 4]) {
-        Ok(right) => (false, right),
-        Err(AllocError) => (
-            true,
-            is_cut::<2>(alloc, FIVE, &[2, 2, 1], &[2, 4]) == Ok(true),
-        ),
-    };
-    match segments(alloc) {
-        Ok(found) => (met, first && found == (0, 5)),
-        Err(AllocError) => (true, first && segments(alloc) == Ok((0, 5))),
-    }
-}
-
-// Any one allocation may be refused: a script has each refused in turn.
-#[test]
-fn a_refusal_of_memory_cuts_no_list(rt: HostRuntime) {
-    assert!(rt; cut_again(rt.alloc()).1);
-}
-
-#[test]
-fn no_memory_is_refused_to_a_list_that_is_cut(rt: HostRuntime) {
-    assert!(rt; cut_again(rt.alloc()) == (false, true));
-}
-
-#[test]
-fn a_refusal_of_memory_builds_no_version(rt: HostRuntime) {
-    assert!(rt; builds_again(rt.alloc()).1);
-}
-
-#[test]
-fn no_memory_is_refused_to_a_version(rt: HostRuntime) {
-    assert!(rt; builds_again(rt.alloc()) == (false, true));
-}
-
-#[test]
-fn a_refusal_of_memory_leaves_no_run(rt: HostRuntime) {
-    assert!(rt; runs_again(rt.alloc()).1);
-}
-
-#[test]
-fn no_memory_is_refused_to_a_run(rt: HostRuntime) {
-    assert!(rt; runs_again(rt.alloc()) == (false, true));
 }

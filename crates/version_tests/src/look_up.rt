@@ -1,23 +1,15 @@
 //! Look-ups that count their comparisons, by keys that count them too.
 
-ghost use Rattle.std.specs.Prelude.{◌≡◌, ◌<◌, ◌≤◌, ◌∷◌, [], ℕ, List, length};
+ghost use Rattle.std.specs.Prelude.{◌≡◌, ◌≤◌};
 ghost use Rattle.std.specs.Ordering.{nat_cmp};
-ghost use Rattle.sdd_world.specs.Counting.{Counted};
-ghost use Rattle.sdd_world.specs.Holding.{SharedItem};
-ghost use Rattle.sdd_world.specs.Place.{IsShared};
 ghost use Rattle.sdd_world.specs.State.{value_at};
-ghost use Rattle.sdd_world.specs.Tokens.{shared_slot};
-ghost use Rattle.version_views.specs.Items.{held_by};
-ghost use Rattle.local_versions.specs.Placing.{HasVersion};
 ghost use Rattle.version_views.specs.Versions.{IsVersion};
 
-use local_versions::{
-    Built, Directory, Item, Write, build, look_up, look_up_counted, place, version,
-};
+use crate::places::{end, prepared};
+use local_versions::{Directory, Item, Write, look_up, look_up_counted, version};
 use sdd_world::job::NoJob;
-use sdd_world::owner::{Kept, Shared};
-use sdd_world::sizes::Sizes;
-use sdd_world::world::{World, shared};
+use sdd_world::owner::Kept;
+use sdd_world::world::World;
 use std::alloc::{AllocError, Global};
 use std::cell::Cell;
 use std::cmp::Ordering;
@@ -118,49 +110,6 @@ impl Ord for CountedKey {
     }
 }
 
-// A place with a version of this many pairs, and the empty one.
-struct Held<const S: usize> {
-    w: World<Item<CountedKey, u64, S>, NoJob>,
-    none: Shared<Item<CountedKey, u64, S>>,
-    root: Shared<Item<CountedKey, u64, S>>,
-}
-
-// A version of the keys from 1 to a number, each with a hundred more as its value. In the empty one no look-up compares.
-fn prepared<R: Abort, const S: usize>(rt: &R, alloc: Global, last: u64) -> Held<S>
-    requires { (1 ≤ S) × (S ≤ 225) }
-    ensures participants { 0 < length result.w.participants }
-    ensures shared { IsShared result.w (shared_slot result.root) }
-    ensures version { (n : ℕ) × (ps : List (ℕ × ℕ)) × HasVersion nat_cmp result.w (shared_slot result.root) n ps }
-    ensures counted { Counted held_by (SharedItem (shared_slot result.root) ∷ SharedItem (shared_slot result.none) ∷ []) result.w }
-{
-    let sizes = Sizes {
-        participants: 1,
-        slots: 1000,
-        cells: 0,
-        jobs: 0,
-    };
-    let mut w: World<Item<CountedKey, u64, S>, NoJob> = match World::new(alloc, sizes) {
-        Ok(w) => w,
-        Err(_) => panic!(rt; "no room for a place"),
-    };
-    let none = match place(&mut w, Built::empty(alloc), None) {
-        Ok(none) => none,
-        Err(_) => panic!(rt; "no slot for the empty version"),
-    };
-    let writes = upserts(rt, alloc, last);
-    w.laws();
-    look_up_all::<R, S>(rt, &w, version(&w, &none), 0, 0);
-    let (built, _) = match build(alloc, &w, version(&w, &none), writes.as_slice()) {
-        Ok(made) => made,
-        Err(_) => panic!(rt; "no room for a version"),
-    };
-    let root = match place(&mut w, built, Some(shared::owned_at(&none))) {
-        Ok(root) => root,
-        Err(_) => panic!(rt; "no slots for a version"),
-    };
-    Held { w, none, root }
-}
-
 // Upserts of the keys from 1 to a number.
 fn upserts<R: Abort>(rt: &R, alloc: Global, last: u64) -> Vec<Write<CountedKey, u64>> {
     let mut writes = Vec::new(alloc);
@@ -223,24 +172,13 @@ fn look_up_all<R: Abort, const S: usize>(
     );
 }
 
-// Gives both versions back, and ends the place.
-fn end<R: Abort, const S: usize>(rt: &R, held: Held<S>)
-    requires participants { 0 < length held.w.participants }
-    requires counted { Counted held_by (SharedItem (shared_slot held.root) ∷ SharedItem (shared_slot held.none) ∷ []) held.w }
-{
-    let Held { mut w, none, root } = held;
-    let _ = shared::release(&mut w, root, 0);
-    let _ = shared::release(&mut w, none, 0);
-    match w.close() {
-        Ok(()) => {}
-        Err(_) => panic!(rt; "something is left"),
-    }
-}
-
+// Versions of the keys from 1 to the last, each with a hundred more as its value. In the empty one no look-up compares.
 fn look_up_among<R: Abort, const S: usize>(rt: &R, alloc: Global, last: u64, most: u64)
     requires { (1 ≤ S) × (S ≤ 225) }
 {
-    let held = prepared::<R, S>(rt, alloc, last);
+    let writes = upserts(rt, alloc, last);
+    let held = prepared::<R, CountedKey, S>(rt, alloc, writes.as_slice());
+    look_up_all::<R, S>(rt, &held.w, version(&held.w, &held.none), 0, 0);
     look_up_all::<R, S>(rt, &held.w, version(&held.w, &held.root), last, most);
     end(rt, held);
 }

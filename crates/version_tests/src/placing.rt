@@ -11,18 +11,14 @@ ghost use Rattle.local_versions.specs.Placing.{IsPlaceable};
 ghost use Rattle.version_views.specs.Items.{held_by};
 ghost use Rattle.version_views.specs.Versions.{IsVersion};
 
-use local_versions::{
-    Built, Directory, Item, Reply, Write, build, len, look_up, place, publish, version,
-};
+use crate::places::{Two, close, placed, upserts};
+use local_versions::{Built, Directory, Reply, build, len, look_up, place, publish, version};
 use sdd_world::job::NoJob;
 use sdd_world::owner::{Kept, Shared};
 use sdd_world::sizes::Sizes;
 use sdd_world::world::{World, atomic_shared, guard, shared};
-use std::alloc::{AllocError, Global};
+use std::alloc::Global;
 use std::process::Abort;
-
-// Items of versions with two pairs in a segment.
-type Two = Item<u64, u64, 2>;
 
 // A place for one participant and one root, with this many slots.
 fn sizes(slots: usize) -> Sizes
@@ -34,15 +30,6 @@ fn sizes(slots: usize) -> Sizes
         cells: 1,
         jobs: 0,
     }
-}
-
-// Upserts of these keys, each with its key and a hundred as its value.
-fn upserts(alloc: Global, keys: &[u64]) -> Result<Vec<Write<u64, u64>>, AllocError> {
-    let mut writes = Vec::new(alloc);
-    for key in keys {
-        writes.push(Write::Upsert(*key, key.wrapping_add(100)))?;
-    }
-    Ok(writes)
 }
 
 // Accelerated guards of participant 0, one by one. Owners stay counted.
@@ -60,24 +47,6 @@ fn passes(w: &mut World<Two, NoJob>, n: usize)
     }
 }
 
-// The owner of a version that was placed.
-fn placed<R: Abort>(rt: &R, made: Result<Shared<Two>, Built<u64, u64, 2>>) -> Shared<Two>
-    ensures { made ≡ Ok result }
-{
-    match made {
-        Ok(root) => root,
-        Err(_) => panic!(rt; "no slots for a version"),
-    }
-}
-
-// Ends a place in which nothing is left.
-fn end<R: Abort>(rt: &R, w: World<Two, NoJob>) {
-    match w.close() {
-        Ok(()) => {}
-        Err(_) => panic!(rt; "something is left"),
-    }
-}
-
 // How many pairs a version has, and the values of four keys.
 fn found(w: &World<Two, NoJob>, dir: &Directory<u64, Kept>) -> (usize, [Option<u64>; 4])
     requires { IsVersion nat_cmp (value_at w.now) dir.now }
@@ -88,6 +57,8 @@ fn found(w: &World<Two, NoJob>, dir: &Directory<u64, Kept>) -> (usize, [Option<u
     let six = look_up(w, dir, &6).map(|p| *p.1);
     (len(w, dir), [one, three, five, six])
 }
+
+const FIVE: &[(u64, u64)] = &[(1, 101), (2, 102), (3, 103), (4, 104), (5, 105)];
 
 // A place with the empty version, and one of five pairs that is built on it and isn't placed yet.
 struct Begun {
@@ -112,7 +83,7 @@ fn begin<R: Abort>(rt: &R, alloc: Global, slots: usize) -> Begun
     };
     let first = placed(rt, place(&mut w, Built::empty(alloc), None));
     let empty = (w.slots_in_use(), len(&w, version(&w, &first)));
-    let writes = upserts(alloc, &[1, 2, 3, 4, 5]).expect(rt, "no memory for writes");
+    let writes = upserts(rt, alloc, FIVE);
     w.laws();
     let (built, replies) = match build(alloc, &w, version(&w, &first), writes.as_slice()) {
         Ok(made) => made,
@@ -152,7 +123,7 @@ fn a_version_takes_a_slot_for_each_segment_and_one(rt: HostRuntime) {
     atomic_shared::retire(&mut w, root, 0);
     passes(&mut w, 7);
     let left = w.slots_in_use();
-    end(&rt, w);
+    close(&rt, w);
     assert_eq!(rt; replies.as_slice(), &[Reply::Upserted; 5][..]);
     assert_eq!(rt;
         (empty, takes, pairs),
@@ -178,6 +149,6 @@ fn a_version_that_finds_no_room_comes_back(rt: HostRuntime) {
     let is_last = shared::release(&mut w, first, 0);
     passes(&mut w, 4);
     let after = w.slots_in_use();
-    end(&rt, w);
+    close(&rt, w);
     assert_eq!(rt; (back, before, is_last, after), (4, 1, true, 0));
 }

@@ -1,12 +1,10 @@
-use Rattle.std.proofs.Common.{◌≡◌, ◌≤◌, ◌+◌, ℕ, List, [], ◌∷◌, Some, length, ap, sym, subst, ◌∙◌, arith, get_or-set_same}
-use Rattle.std.proofs.lemmas.List.{length-replicate}
+use Rattle.std.proofs.Common.{◌≡◌, ℕ, List, [], ◌∷◌, Some, length, ap, sym, subst, ◌∙◌, arith, get_or-set_same}
 use Rattle.std.specs.Ordering.{nat_cmp}
 use Rattle.sdd_world.specs.Counting.{Counted, OwnersAreCounted}
 use Rattle.sdd_world.specs.Holding.{Hold, SharedIn, SharedItem}
 use Rattle.sdd_world.specs.Place.{IsShared}
-use Rattle.sdd_world.specs.State.{State, cell_at, nobody, with_cell}
+use Rattle.sdd_world.specs.State.{State, cell_at, with_cell}
 use Rattle.sdd_world.specs.Tokens.{shared_cell, shared_slot}
-use Rattle.sdd_world.specs.declared.sizes.Sizes.{Sizes}
 use Rattle.sdd_world.specs.declared.status.Cell.TheVariants as cell
 use Rattle.sdd_world.specs.declared.tag.Tag.{Tag}
 use Rattle.sdd_world.specs.declared.tag.Tag.TheVariants as tag
@@ -14,7 +12,7 @@ use Rattle.sdd_world.proofs.CountLemmas.{owners_are_counted}
 use Rattle.version_views.specs.Items.{held_by}
 use Rattle.version_views.specs.declared.item.Item.{Item}
 use Rattle.local_versions.specs.Placing.{IsPlaceable}
-use Rattle.version_tests.proofs.Settled.{Settled, counted_first, settled_fresh, settled_placed, settled_shared, version_with_cell}
+use Rattle.version_tests.proofs.Settled.{counted_first, version_with_cell}
 use Rattle.version_tests.proofs.placing.a_version_takes_a_slot_for_each_segment_and_one.Goals as goal
 
 pub place-requires : goal.place-requires
