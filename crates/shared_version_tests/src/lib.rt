@@ -2,6 +2,8 @@
 #![tactic(auto)]
 
 #[cfg(test)]
+mod calls;
+#[cfg(test)]
 mod drafts;
 #[cfg(test)]
 mod nodes;
@@ -9,5 +11,7 @@ mod nodes;
 mod place;
 #[cfg(test)]
 mod placing;
+#[cfg(test)]
+mod scene;
 #[cfg(test)]
 mod sessions;
