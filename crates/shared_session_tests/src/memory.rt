@@ -48,7 +48,7 @@ fn reads<R: Abort>(rt: &R, alloc: Global) -> bool {
     let mut met = false;
     let domain = place(rt, alloc, SMALL, &mut met);
     let mut local = member(rt, &domain, &mut met);
-    let first = version(rt, alloc, &domain, &mut local, 1, (10, 20, 50), &mut met);
+    let first = version(rt, alloc, &domain, &mut local, (1, (10, 20, 50)), &mut met);
     let cell = cell(rt, &domain, first, &mut local);
     let Ok(mut session) = opened(alloc, &domain, &cell, &mut local, 1) else {
         panic!(rt; "the first version is there");

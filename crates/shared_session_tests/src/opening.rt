@@ -6,7 +6,7 @@ ghost use Rattle.sdd_domain.specs.Tokens.{place_of, home_of, hand_of, own_of, ce
 
 use self::Step::{Open, Reclaim, Renew, Slots};
 use crate::calls::{ended, in_use, opened, value};
-use crate::place::{Item, Twos, reclaim, renew};
+use crate::place::{At, Item, Twos, reclaim, renew};
 use sdd_domain::atomic_shared::AtomicShared;
 use sdd_domain::domain::Domain;
 use sdd_domain::guard::Guard;
@@ -18,17 +18,17 @@ use std::process::Abort;
 /// The number of a session of this width that is opened for at least this number and closed again, or why there is none.
 fn number_of<const S: usize>(
     alloc: Global,
-    domain: &Domain<Item>,
-    cell: &AtomicShared<Item>,
+    at: At<'_>,
     local: &mut Local<Item>,
     at_least: u64,
 ) -> Result<u64, OpenRefused>
-    requires home { home_of local.old ≡ place_of domain.now }
-    requires inside { cell_number cell.now < cell_count domain.now }
+    requires home { home_of local.old ≡ place_of at.domain.now }
+    requires inside { cell_number at.cell.now < cell_count at.domain.now }
     requires closed { (own_of local.old).nesting ≡ 0 }
     ensures same { IsSame local.old local.new }
     ensures closed { (own_of local.new).nesting ≡ 0 }
 {
+    let At { domain, cell } = at;
     let root = Root::new(cell);
     let session = SharedSession::<u64, u64, S>::open(alloc, domain, root, at_least, local)?;
     let number = session.number();
@@ -44,22 +44,21 @@ fn number_of<const S: usize>(
 fn number_by<R: Abort>(
     rt: &R,
     alloc: Global,
-    domain: &Domain<Item>,
-    cell: &AtomicShared<Item>,
+    at: At<'_>,
     local: &mut Local<Item>,
     width: u8,
     at_least: u64,
 ) -> Result<u64, OpenRefused>
-    requires home { home_of local.old ≡ place_of domain.now }
-    requires inside { cell_number cell.now < cell_count domain.now }
+    requires home { home_of local.old ≡ place_of at.domain.now }
+    requires inside { cell_number at.cell.now < cell_count at.domain.now }
     requires closed { (own_of local.old).nesting ≡ 0 }
     ensures same { IsSame local.old local.new }
     ensures closed { (own_of local.new).nesting ≡ 0 }
 {
     match width {
-        1 => number_of::<1>(alloc, domain, cell, local, at_least),
-        2 => number_of::<2>(alloc, domain, cell, local, at_least),
-        3 => number_of::<3>(alloc, domain, cell, local, at_least),
+        1 => number_of::<1>(alloc, at, local, at_least),
+        2 => number_of::<2>(alloc, at, local, at_least),
+        3 => number_of::<3>(alloc, at, local, at_least),
         _ => panic!(rt; "a width of a test"),
     }
 }
@@ -81,29 +80,35 @@ pub enum Step {
 fn taken<R: Abort>(
     rt: &R,
     alloc: Global,
-    domain: &Domain<Item>,
-    cell: &AtomicShared<Item>,
+    at: At<'_>,
     reader: &mut Local<Item>,
     writer: &mut Local<Item>,
     step: Step,
 ) -> Result<u64, OpenRefused>
-    requires reader { (home_of reader.old ≡ place_of domain.now) × ((own_of reader.old).nesting ≡ 0) }
-    requires writer { (home_of writer.old ≡ place_of domain.now) × (hand_of writer.old ≡ []) × ((own_of writer.old).nesting ≡ 0) }
-    requires inside { cell_number cell.now < cell_count domain.now }
+    requires reader { (home_of reader.old ≡ place_of at.domain.now) × ((own_of reader.old).nesting ≡ 0) }
+    requires writer { (home_of writer.old ≡ place_of at.domain.now) × (hand_of writer.old ≡ []) × ((own_of writer.old).nesting ≡ 0) }
+    requires inside { cell_number at.cell.now < cell_count at.domain.now }
     ensures reader { IsSame reader.old reader.new × ((own_of reader.new).nesting ≡ 0) }
     ensures writer { IsSame writer.old writer.new × ((own_of writer.new).nesting ≡ 0) }
 {
     match step {
-        Step::Open(width, least) => number_by(rt, alloc, domain, cell, reader, width, least),
+        Step::Open(width, least) => number_by(rt, alloc, at, reader, width, least),
         Step::Renew(number) => {
-            renew(rt, alloc, domain, cell, writer, number, (11, 21, 51));
+            renew(
+                rt,
+                alloc,
+                at.domain,
+                at.cell,
+                writer,
+                (number, (11, 21, 51)),
+            );
             Ok(number)
         }
         Step::Reclaim => {
-            reclaim(domain, writer);
+            reclaim(at.domain, writer);
             Ok(0)
         }
-        Step::Slots => Ok(in_use(domain) as u64),
+        Step::Slots => Ok(in_use(at.domain) as u64),
     }
 }
 
@@ -114,22 +119,21 @@ pub type Row = (Step, Result<u64, OpenRefused>);
 pub fn all_taken<R: Abort>(
     rt: &R,
     alloc: Global,
-    domain: &Domain<Item>,
-    cell: &AtomicShared<Item>,
+    at: At<'_>,
     reader: &mut Local<Item>,
     writer: &mut Local<Item>,
     rows: &[Row],
 ) -> bool
-    requires reader { (home_of reader.old ≡ place_of domain.now) × ((own_of reader.old).nesting ≡ 0) }
-    requires writer { (home_of writer.old ≡ place_of domain.now) × (hand_of writer.old ≡ []) × ((own_of writer.old).nesting ≡ 0) }
-    requires inside { cell_number cell.now < cell_count domain.now }
+    requires reader { (home_of reader.old ≡ place_of at.domain.now) × ((own_of reader.old).nesting ≡ 0) }
+    requires writer { (home_of writer.old ≡ place_of at.domain.now) × (hand_of writer.old ≡ []) × ((own_of writer.old).nesting ≡ 0) }
+    requires inside { cell_number at.cell.now < cell_count at.domain.now }
     ensures reader { IsSame reader.old reader.new × ((own_of reader.new).nesting ≡ 0) }
     ensures writer { IsSame writer.old writer.new × ((own_of writer.new).nesting ≡ 0) }
 {
     let mut right = true;
-    for at in 0..rows.len() {
-        let (step, wanted) = rows[at];
-        let told = taken(rt, alloc, domain, cell, reader, writer, step);
+    for row in 0..rows.len() {
+        let (step, wanted) = rows[row];
+        let told = taken(rt, alloc, at, reader, writer, step);
         right = told == wanted && right;
     }
     right
@@ -185,7 +189,7 @@ pub fn within<R: Abort>(
     let Ok(outer) = opened(alloc, domain, cell, local, 0) else {
         panic!(rt; "a version of that width is there");
     };
-    renew(rt, alloc, domain, cell, local, 2, (11, 21, 51));
+    renew(rt, alloc, domain, cell, local, (2, (11, 21, 51)));
     let refused = match opened(alloc, domain, cell, local, 3) {
         Err(refused) => refused,
         Ok(_) => panic!(rt; "the second version has the number 2"),
@@ -227,7 +231,7 @@ pub fn of_loaded<R: Abort>(
         Ok(_) => panic!(rt; "its segments have two pairs at most"),
     };
     let loaded = cell.loaded(domain, &guard, local);
-    renew(rt, alloc, domain, cell, local, 2, (11, 21, 51));
+    renew(rt, alloc, domain, cell, local, (2, (11, 21, 51)));
     let (guard, refused) = match Twos::of_loaded(guard, loaded, alloc, 2) {
         Err(back) => back,
         Ok(_) => panic!(rt; "the first version was loaded"),

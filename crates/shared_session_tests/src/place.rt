@@ -29,6 +29,16 @@ use version_views::{Directory, Segment};
 /// The items of the place: versions of numbers by numbers.
 pub type Item = Node<u64, u64>;
 
+/// A place, and a cell of it.
+#[derive(Clone, Copy)]
+pub struct At<'d> {
+    pub domain: &'d Domain<Item>,
+    pub cell: &'d AtomicShared<Item>,
+}
+
+/// The number of a version, and the values of its keys 1, 2 and 5.
+pub type Numbered = (u64, (u64, u64, u64));
+
 /// Sessions of versions with at most two pairs in a segment.
 pub type Twos = SharedSession<u64, u64, 2>;
 
@@ -172,14 +182,13 @@ fn separator<R: Abort>(rt: &R, alloc: Global, met: &mut bool) -> Vec<u64>
     separators
 }
 
-/// The owner of a version of this number: the keys 1, 2 and 5 have these values, the first two in one segment.
+/// The owner of a version of this list, the first two pairs of which are in one segment.
 pub fn version<R: Abort>(
     rt: &R,
     alloc: Global,
     domain: &Domain<Item>,
     local: &mut Local<Item>,
-    number: u64,
-    values: (u64, u64, u64),
+    list: Numbered,
     met: &mut bool,
 ) -> Shared<Item>
     requires home { (home_of local.old ≡ place_of domain.now) × (hand_of local.old ≡ []) }
@@ -187,7 +196,7 @@ pub fn version<R: Abort>(
     ensures hand { hand_of local.new ≡ [] }
     ensures same { IsSameButHand local.old local.new }
 {
-    let (first, second, third) = values;
+    let (number, (first, second, third)) = list;
     let front = Node::Segment(two(rt, alloc, first, second, met));
     let front = placed(rt, domain, front, local);
     let back = Node::Segment(one(rt, alloc, 5, third, met));
@@ -261,21 +270,20 @@ pub fn owning<R: Abort>(
             placed(rt, domain, empty, local)
         }
         First::Version(number, values) => {
-            version(rt, alloc, domain, local, number, values, &mut met)
+            version(rt, alloc, domain, local, (number, values), &mut met)
         }
     };
     cell(rt, domain, owner, local)
 }
 
-/// Has the cell name a version of this number with these values; the owner that it had is released.
+/// Has the cell name a version of this list; the owner that it had is released.
 pub fn renew<R: Abort>(
     rt: &R,
     alloc: Global,
     domain: &Domain<Item>,
     cell: &AtomicShared<Item>,
     local: &mut Local<Item>,
-    number: u64,
-    values: (u64, u64, u64),
+    list: Numbered,
 )
     requires home { (home_of local.old ≡ place_of domain.now) × (hand_of local.old ≡ []) }
     requires inside { cell_number cell.now < cell_count domain.now }
@@ -283,7 +291,7 @@ pub fn renew<R: Abort>(
     ensures open { (own_of local.new).nesting ≡ (own_of local.old).nesting }
 {
     let mut met = false;
-    let next = version(rt, alloc, domain, local, number, values, &mut met);
+    let next = version(rt, alloc, domain, local, list, &mut met);
     if let (Some(old), _) = cell.swap(domain, (Some(next), Tag::None), local) {
         old.release(domain, local);
     }

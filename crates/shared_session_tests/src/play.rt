@@ -11,7 +11,7 @@ use crate::calls::leave;
 use crate::opening::{
     AT_LEAST, NO_GUARD, NO_VERSION, ONE_WIDTH, Row, all_taken, of_loaded, within,
 };
-use crate::place::{First, Item, SEVERAL, end, member, owning, place};
+use crate::place::{At, First, Item, SEVERAL, end, member, owning, place};
 use crate::publishing::{beside, walked};
 use crate::reads::{Look, are_right, each_kind, of_nothing};
 use crate::threads::are_whole;
@@ -49,20 +49,20 @@ enum Play {
 fn goes<R: Threads + Abort + Sync>(
     rt: &R,
     alloc: Global,
-    domain: &Domain<Item>,
-    cell: &AtomicShared<Item>,
+    at: At<'_>,
     reader: &mut Local<Item>,
     writer: &mut Local<Item>,
     play: Play,
 ) -> bool
-    requires reader { (home_of reader.old ≡ place_of domain.now) × ((own_of reader.old).nesting ≡ 0) }
-    requires writer { (home_of writer.old ≡ place_of domain.now) × (hand_of writer.old ≡ []) × ((own_of writer.old).nesting ≡ 0) }
-    requires inside { cell_number cell.now < cell_count domain.now }
+    requires reader { (home_of reader.old ≡ place_of at.domain.now) × ((own_of reader.old).nesting ≡ 0) }
+    requires writer { (home_of writer.old ≡ place_of at.domain.now) × (hand_of writer.old ≡ []) × ((own_of writer.old).nesting ≡ 0) }
+    requires inside { cell_number at.cell.now < cell_count at.domain.now }
     ensures reader { IsSame reader.old reader.new × ((own_of reader.new).nesting ≡ 0) }
     ensures writer { IsSame writer.old writer.new × ((own_of writer.new).nesting ≡ 0) }
 {
+    let At { domain, cell } = at;
     match play {
-        Rows(rows) => all_taken(rt, alloc, domain, cell, reader, writer, rows),
+        Rows(rows) => all_taken(rt, alloc, at, reader, writer, rows),
         Within => within(rt, alloc, domain, cell, writer),
         OfLoaded => of_loaded(rt, alloc, domain, cell, writer),
         Beside => beside(rt, alloc, domain, cell, reader, writer),
@@ -81,7 +81,11 @@ fn plays<R: Threads + Abort + Sync>(rt: &R, alloc: Global, first: First, play: P
     let mut reader = member(rt, &domain, &mut met);
     let mut writer = member(rt, &domain, &mut met);
     let cell = owning(rt, alloc, &domain, &mut writer, first);
-    let right = goes(rt, alloc, &domain, &cell, &mut reader, &mut writer, play);
+    let at = At {
+        domain: &domain,
+        cell: &cell,
+    };
+    let right = goes(rt, alloc, at, &mut reader, &mut writer, play);
     leave(&domain, reader);
     end(rt, cell, domain, writer);
     right

@@ -57,7 +57,7 @@ pub fn beside<R: Abort>(
         panic!(rt; "the first version is there");
     };
     let before = value(&session, 1);
-    renew(rt, alloc, domain, cell, writer, 2, (11, 21, 51));
+    renew(rt, alloc, domain, cell, writer, (2, (11, 21, 51)));
     reclaim(domain, writer);
     let counts = (in_use(domain), session.number());
     let values = [before, value(&session, 1), value(&session, 5)];
@@ -98,13 +98,13 @@ pub fn walked<R: Abort>(
     };
     let mut walk = session.iter();
     let begun = copied(walk.next());
-    renew(rt, alloc, domain, cell, writer, 2, (11, 21, 51));
+    renew(rt, alloc, domain, cell, writer, (2, (11, 21, 51)));
     reclaim(domain, writer);
     let here = copied(walk.get());
     let next = copied(walk.next());
     let last = copied(walk.next_back());
     let steps = [begun, here, next, last, copied(walk.next())];
-    renew(rt, alloc, domain, cell, writer, 3, (12, 22, 52));
+    renew(rt, alloc, domain, cell, writer, (3, (12, 22, 52)));
     reclaim(domain, writer);
     let mut range = session.range(Bound::Excluded(&1), Bound::Unbounded);
     let last = copied(range.next_back());

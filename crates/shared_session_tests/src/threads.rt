@@ -75,7 +75,7 @@ fn writes<R: Abort>(
     for behind in 0..LAST {
         let number = behind + 2;
         let values = (number, number, number);
-        renew(rt, alloc, domain, cell, &mut local, number, values);
+        renew(rt, alloc, domain, cell, &mut local, (number, values));
         reclaim(domain, &mut local);
     }
     leave(domain, local);

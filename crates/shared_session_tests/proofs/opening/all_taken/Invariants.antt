@@ -2,8 +2,8 @@ use Rattle.std.proofs.Common.{◌≡◌}
 use Rattle.sdd_domain.specs.Tokens.{own_of, IsSame}
 use Rattle.shared_session_tests.proofs.opening.all_taken.Given as goal
 
-abbrev pub invariant-loop-at : goal.invariant-loop-at
-invariant-loop-at g l = record {
+abbrev pub invariant-loop-row : goal.invariant-loop-row
+invariant-loop-row g l = record {
   reader : IsSame l.fn.reader l.reader;
   reads : (own_of l.reader).nesting ≡ 0;
   writer : IsSame l.fn.writer l.writer;

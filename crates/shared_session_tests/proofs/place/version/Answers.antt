@@ -18,4 +18,4 @@ new-version-requires g c =
     let three = ap (λ (d : Directory ℕ (Held (Node ℕ ℕ))). d.length) is in
     let in_front = front.2 (nodes.Segment c.two.result) c.placed-front.ensures.item in
     let in_back = back.2 (nodes.Segment c.one.result) c.placed-back.ensures.item in
-    two_segments c.new-directory.result front.0 back.0 c.two.result c.one.result c.args.values.0 c.args.values.1 c.args.values.2 owners keys three in_front c.two.ensures in_back c.one.ensures
+    two_segments c.new-directory.result front.0 back.0 c.two.result c.one.result c.args.list.1.0 c.args.list.1.1 c.args.list.1.2 owners keys three in_front c.two.ensures in_back c.one.ensures
