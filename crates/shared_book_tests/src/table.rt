@@ -145,14 +145,13 @@ fn by_twos<L: Naming, R: Abort>(
     domain: &Domain<Item>,
     local: Local<Item>,
     blank: Blank,
-    last: u64,
-    parts: &[&[Row]],
+    table: &Table,
 ) -> (usize, usize)
     requires begins { CanBegin L.place L.name L.parts 1 domain.now local blank }
-    requires last { last ≡ L.last }
+    requires last { table.now.last ≡ L.last }
 {
-    let scene = Scene::<L, 2>::new(rt, alloc, domain, local, blank, last);
-    played(rt, alloc, scene, parts)
+    let scene = Scene::<L, 2>::new(rt, alloc, domain, local, blank, table.last);
+    played(rt, alloc, scene, table.parts)
 }
 
 /// The same with one pair.
@@ -162,14 +161,13 @@ fn by_ones<L: Naming, R: Abort>(
     domain: &Domain<Item>,
     local: Local<Item>,
     blank: Blank,
-    last: u64,
-    parts: &[&[Row]],
+    table: &Table,
 ) -> (usize, usize)
     requires begins { CanBegin L.place L.name L.parts 1 domain.now local blank }
-    requires last { last ≡ L.last }
+    requires last { table.now.last ≡ L.last }
 {
-    let scene = Scene::<L, 1>::new(rt, alloc, domain, local, blank, last);
-    played(rt, alloc, scene, parts)
+    let scene = Scene::<L, 1>::new(rt, alloc, domain, local, blank, table.last);
+    played(rt, alloc, scene, table.parts)
 }
 
 /// Plays tables, each on an empty book with two pairs in a segment at most.
@@ -184,16 +182,7 @@ fn on_a_book<R: Abort>(rt: &R, alloc: Global, table: &Table) {
     assert!(rt; 0 < table.slots && table.slots <= 64);
     let domain = place(alloc, table.slots).expect(rt, ROOM);
     let local = member(rt, &domain);
-    let blank = Blank::new(1);
-    let (right, made) = by_twos::<Brand, R>(
-        rt,
-        alloc,
-        &domain,
-        local,
-        blank,
-        table.last,
-        table.parts,
-    );
+    let (right, made) = by_twos::<Brand, R>(rt, alloc, &domain, local, Blank::new(1), table);
     end(rt, domain);
     assert_eq!(rt; right, made, "{}", table.about);
 }
@@ -203,16 +192,7 @@ pub(crate) fn on_a_small_book<R: Abort>(rt: &R, alloc: Global, table: &Table) {
     assert!(rt; 0 < table.slots && table.slots <= 64);
     let domain = place(alloc, table.slots).expect(rt, ROOM);
     let local = member(rt, &domain);
-    let blank = Blank::new(1);
-    let (right, made) = by_ones::<Brand, R>(
-        rt,
-        alloc,
-        &domain,
-        local,
-        blank,
-        table.last,
-        table.parts,
-    );
+    let (right, made) = by_ones::<Brand, R>(rt, alloc, &domain, local, Blank::new(1), table);
     end(rt, domain);
     assert_eq!(rt; right, made, "{}", table.about);
 }

@@ -5,4 +5,4 @@ abbrev pub ghosts-by_ones-L-Ledger : goal.ghosts-by_ones-L-Ledger
 ghosts-by_ones-L-Ledger g a = record { name = a.blank.name; parts = a.blank.parts }
 
 abbrev pub ghosts-by_ones-L-Naming : goal.ghosts-by_ones-L-Naming
-ghosts-by_ones-L-Naming g a = record { place = place_of a.domain.now; last = a.last }
+ghosts-by_ones-L-Naming g a = record { place = place_of a.domain.now; last = a.table.now.last }
