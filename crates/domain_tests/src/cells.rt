@@ -5,7 +5,7 @@ ghost use Rattle.sdd_domain.specs.Cells.{cell_number};
 ghost use Rattle.sdd_domain.specs.Tokens.{place_of, home_of, hand_of, own_of, cell_count, nest_of, nest_in, IsSame, IsSameButMisses, IsInNestButMisses};
 
 use crate::guard::passes;
-use crate::hands::{exchanging, put, release};
+use crate::hands::{exchange, put, release};
 use crate::steps::Act::{
     Change, IsNull, IsSum, Join, Null, Own, Passes, Peek, Place, Read, Release, Retire, Slots, Sum,
     Swap, Sweep, Take,
@@ -328,8 +328,8 @@ fn puts(
     let Ok(owner) = Shared::new(domain, item, local) else {
         return Found::Nothing;
     };
-    let step = View::Exchange(Tag::None);
-    let (owner, found) = exchanging(domain, guard, local, Some(owner), cell, current, step);
+    let new = (Some(owner), Tag::None);
+    let (owner, found) = exchange(domain, guard, local, cell, current, new);
     release(domain, local, owner);
     found
 }

@@ -160,38 +160,47 @@ pub(crate) fn retire(
     }
 }
 
-/// Changes the hand's owner, or none, and a tag for what the cell has where that is as the pointer; or the cell's item. By the
-/// call that may fail: whether the cell is told to be as it is loaded then.
-pub(crate) fn exchanging(
+/// Changes the hand's owner, or none, and a tag for what the cell has where that is as the pointer; or the cell's item.
+pub(crate) fn exchange(
     domain: &Domain<u64>,
     guard: &Guard,
     local: &mut Local<u64>,
-    hand: Hand,
     cell: &AtomicShared<u64>,
     current: Ptr<u64>,
-    step: View,
+    new: (Hand, Tag),
 ) -> (Hand, Found)
     requires home { IsHome domain.now local.old }
     requires open { IsOpen guard.now local.old }
-    requires ours { IsOurs domain.now hand }
+    requires ours { IsOurs domain.now new.0 }
     requires inside { cell_number cell.now < cell_count domain.now }
     ensures ours { IsOurs domain.now result.0 }
     ensures stays { Stays local.old local.new }
 {
-    match step {
-        View::Exchange(tag) => {
-            match cell.compare_exchange(domain, current, (hand, tag), guard, local) {
-                Ok((old, _)) => (old, Found::Yes),
-                Err((back, found)) => (back, item(found.as_ref())),
-            }
-        }
-        View::ExchangeWeak(tag) => {
-            match cell.compare_exchange_weak(domain, current, (hand, tag), guard, local) {
-                Ok((old, named)) => (old, told(named == cell.load(domain, guard, local).named())),
-                Err((back, _)) => (back, Found::Nothing),
-            }
-        }
-        _ => (hand, Found::No),
+    match cell.compare_exchange(domain, current, new, guard, local) {
+        Ok((old, _)) => (old, Found::Yes),
+        Err((back, found)) => (back, item(found.as_ref())),
+    }
+}
+
+/// The same by the call that may fail: whether the cell is told to be as it is loaded then.
+pub(crate) fn exchange_weak(
+    domain: &Domain<u64>,
+    guard: &Guard,
+    local: &mut Local<u64>,
+    cell: &AtomicShared<u64>,
+    current: Ptr<u64>,
+    new: (Hand, Tag),
+) -> (Hand, Found)
+    requires home { IsHome domain.now local.old }
+    requires open { IsOpen guard.now local.old }
+    requires ours { IsOurs domain.now new.0 }
+    requires inside { cell_number cell.now < cell_count domain.now }
+    ensures ours { IsOurs domain.now result.0 }
+    ensures stays { Stays local.old local.new }
+{
+    match cell.compare_exchange_weak(domain, current, new, guard, local) {
+        Ok((old, named)) => (old, told(named == cell.load(domain, guard, local).named())),
+        Err((back, _)) => (back, Found::Nothing),
     }
 }
 

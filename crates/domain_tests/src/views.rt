@@ -164,17 +164,15 @@ impl<'d> Stage<'d> {
         ensures stays { Stays self.old.here self.new.here }
     {
         let hand = self.hand.take();
-        let (hand, found) = match &self.cell {
-            Some(cell) => hands::exchanging(
-                self.domain,
-                guard,
-                &mut self.here,
-                hand,
-                cell,
-                pointer,
-                step,
-            ),
-            None => (hand, Found::No),
+        let (domain, local) = (self.domain, &mut self.here);
+        let (hand, found) = match (&self.cell, step) {
+            (Some(cell), View::Exchange(tag)) => {
+                hands::exchange(domain, guard, local, cell, pointer, (hand, tag))
+            }
+            (Some(cell), View::ExchangeWeak(tag)) => {
+                hands::exchange_weak(domain, guard, local, cell, pointer, (hand, tag))
+            }
+            _ => (hand, Found::No),
         };
         self.put(hand);
         found
