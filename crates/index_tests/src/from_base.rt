@@ -1,33 +1,31 @@
-//! Indexes that begin with a list: by example, as another index left it, and with each allocation refused.
+//! Indexes that begin with a list: by example, and as another index left it.
 
 ghost use Rattle.std.specs.Prelude.{◌≡◌, None, replicate, IfOk};
 ghost use Rattle.version_views.specs.Sizes.{IsStoreSized};
 
-use crate::scene::Scene;
+use crate::scene::{Numbers, Scene};
 use crate::table::Call::{Audit, Commit, Look, Open};
 use crate::table::Claim::Got;
-use crate::table::Row;
 use crate::table::Told::{Accepted, Audited, Opened, Seen};
+use crate::table::{Row, play};
 use index_rows::{BASES, BaseCase, Begun, FIVE, NoBase};
 use local_index::Audit::{TooOld, Yes};
-use local_index::{BaseCause, BaseRefused, LocalIndex, Receipt, Reply, Write};
+use local_index::Reply::Upserted;
+use local_index::Write::Upsert;
+use local_index::{BaseCause, BaseRefused, LocalIndex, Receipt, ScopedIndex};
 use std::alloc::{AllocError, Global};
 use std::process::Abort;
 
-// An index of numbers, with two pairs in a segment.
-type Numbers = LocalIndex<u64, u64, 2>;
-
 const ROOM: &str = "memory";
 
-// Whether an index answers calls as is wanted. It is ended.
-fn plays<R: Abort>(rt: &R, scene: Scene<2>, rows: &[Row]) -> bool {
-    let mut scene = scene;
-    let mut right = true;
-    for row in rows {
-        right = scene.answers(row.0, row.1) && right;
-    }
+// Whether an index with one place answers calls as is wanted. It is ended.
+fn plays<R: Abort>(rt: &R, alloc: Global, index: Numbers, rows: &[Row]) -> bool
+    requires { index.places ≡ replicate 1 None }
+{
+    let mut scene = Scene::of(rt, alloc, index, (1, false));
+    let (right, made) = play(&mut scene, &[rows]);
     scene.end(rt);
-    right
+    right == made
 }
 
 // An index with one place that begins with a list, or why there is none, with the pairs.
@@ -56,26 +54,19 @@ fn begins<R: Abort>(
     rt: &R,
     alloc: Global,
     case: &BaseCase,
-    wanted: Result<usize, NoBase>,
+    wanted: Result<usize, BaseCause>,
     rows: &[Row],
 ) -> bool {
     if case.slots == 0 || case.slots > 16 {
         panic!(rt; "a small index");
     }
     let pairs = Vec::from_clones(alloc, case.pairs).expect(rt, ROOM);
-    match (held(alloc, case.number, pairs, case.slots), wanted) {
-        (Ok(index), Ok(used)) => {
-            let found = index.slots_in_use();
-            plays(rt, Scene::of(rt, alloc, index, (1, false)), rows) && found == used
+    match held(alloc, case.number, pairs, case.slots) {
+        Ok(index) => {
+            let found = Ok(index.slots_in_use());
+            plays(rt, alloc, index, rows) && found == wanted
         }
-        (Err(refused), Err(why)) => {
-            refused.cause == cause_of(why) && refused.pairs.as_slice() == case.pairs
-        }
-        (Ok(index), Err(_)) => {
-            Scene::of(rt, alloc, index, (1, false)).end(rt);
-            false
-        }
-        (Err(_), Ok(_)) => false,
+        Err(refused) => refused.pairs.as_slice() == case.pairs && wanted == Err(refused.cause),
     }
 }
 
@@ -86,7 +77,7 @@ fn is_begun<R: Abort>(rt: &R, alloc: Global, case: &BaseCase) -> bool {
             begins(rt, alloc, case, Ok(used), rows)
                 && begins(rt, alloc, case, Ok(used), by_sessions)
         }
-        Begun::Not(why) => begins(rt, alloc, case, Err(why), &[]),
+        Begun::Not(why) => begins(rt, alloc, case, Err(cause_of(why)), &[]),
     }
 }
 
@@ -97,37 +88,16 @@ fn an_index_begins_with_a_list(rt: HostRuntime) {
     }
 }
 
-// Commits a write on no reads, with this reply.
-fn writes<R: Abort>(rt: &R, alloc: Global, index: &mut Numbers, write: Write<u64, u64>) {
-    let none = Receipt::blank(alloc);
-    let writes = Vec::from_clones(alloc, &[write]).expect(rt, ROOM);
-    assert!(rt; index.commit(&none, writes).is_ok());
-}
-
-// An index that begins with the base of another one, whose key 1 was 10, 11 and 12 by numbers 1, 2 and 3, and whose base is
-// the list of 2.
-fn followed<R: Abort>(rt: &R, alloc: Global) -> Numbers
-    ensures { result.places ≡ replicate 1 None }
-{
-    let mut index = match Numbers::new(alloc, 1, 16) {
-        Ok(index) => index,
-        Err(AllocError) => panic!(rt; "memory is there"),
-    };
+// The base of an index whose key 1 was 10, 11 and 12 by numbers 1, 2 and 3, and whose base is the list of 2.
+fn left<R: Abort>(rt: &R, alloc: Global) -> (u64, Vec<(u64, u64)>) {
+    let mut scope = ScopedIndex::<u64, u64, 2>::new(alloc, 1, 16).expect(rt, ROOM);
     for value in 10..=12u64 {
-        writes(rt, alloc, &mut index, Write::Upsert(1, value));
+        let writes = Vec::from_clones(alloc, &[Upsert(1, value)]).expect(rt, ROOM);
+        assert!(rt; scope.index.commit(&Receipt::blank(alloc), writes).is_ok());
     }
-    assert!(rt; index.checkpoint(2).is_ok());
-    let (number, pairs) = index.base();
-    assert!(rt; (number, pairs) == (2, &[(1, 11)][..]));
-    let pairs = Vec::from_clones(alloc, pairs).expect(rt, ROOM);
-    match index.close() {
-        Ok(()) => {}
-        Err(_open) => panic!(rt; "no session is open"),
-    }
-    match held(alloc, number, pairs, 16) {
-        Ok(index) => index,
-        Err(_) => panic!(rt; "memory is there, and slots are"),
-    }
+    assert!(rt; scope.index.checkpoint(2).is_ok());
+    let (number, pairs) = scope.index.base();
+    (number, Vec::from_clones(alloc, pairs).expect(rt, ROOM))
 }
 
 // It continues where the other one was.
@@ -136,86 +106,60 @@ const FOLLOWS: &[Row] = &[
     (Look(1, 1), Seen(2, 1, Some(11))),
     (Audit(2, &[Got(1, Some(11))]), Audited(Yes)),
     (Audit(1, &[Got(1, Some(10))]), Audited(TooOld(2))),
-    (
-        Commit(&[Write::Upsert(1, 12)]),
-        Accepted(3, &[Reply::Upserted]),
-    ),
+    (Commit(&[Upsert(1, 12)]), Accepted(3, &[Upserted])),
     (Audit(3, &[Got(1, Some(12))]), Audited(Yes)),
 ];
 
 #[test]
 fn an_index_goes_on_from_the_base_of_another_one(rt: HostRuntime) {
-    let index = followed(&rt, rt.alloc());
-    assert!(rt; plays(&rt, Scene::of(&rt, rt.alloc(), index, (1, false)), FOLLOWS));
-}
-
-// Copies of the five pairs, made again where memory was refused.
-fn five<R: Abort>(rt: &R, alloc: Global, met: &mut bool) -> Vec<(u64, u64)> {
-    match Vec::from_clones(alloc, FIVE) {
-        Ok(pairs) => pairs,
-        Err(AllocError) => {
-            *met = true;
-            Vec::from_clones(alloc, FIVE).expect(rt, ROOM)
-        }
+    let (number, pairs) = left(&rt, rt.alloc());
+    assert!(rt; number == 2 && pairs.as_slice() == [(1, 11)].as_slice());
+    match held(rt.alloc(), number, pairs, 16) {
+        Ok(index) => assert!(rt; plays(&rt, rt.alloc(), index, FOLLOWS)),
+        Err(_) => panic!(rt; "memory is there, and slots are"),
     }
 }
 
-// An index of the five pairs, with this many slots, made again of what is returned where memory was refused; else the cause.
-fn begun_again<R: Abort>(
-    rt: &R,
+// How many slots are in use where an index begins with these pairs at number 7, or why there is none; none where its base is
+// another list than the five pairs.
+fn used(alloc: Global, pairs: Vec<(u64, u64)>, slots: usize) -> Result<usize, BaseRefused<u64, u64>>
+    requires { IsStoreSized 1 slots 2 }
+{
+    let scope = ScopedIndex {
+        index: held(alloc, 7, pairs, slots)?,
+    };
+    let is_five = scope.index.base() == (7, FIVE);
+    Ok(if is_five {
+        scope.index.slots_in_use()
+    } else {
+        0
+    })
+}
+
+// The same of the five pairs, made again of what is handed back where memory was refused.
+fn used_again(
     alloc: Global,
     slots: usize,
     met: &mut bool,
-) -> Result<Numbers, BaseCause>
+) -> Result<Result<usize, BaseRefused<u64, u64>>, AllocError>
     requires { IsStoreSized 1 slots 2 }
 {
-    let pairs = five(rt, alloc, met);
-    let back = match held(alloc, 7, pairs, slots) {
-        Ok(index) => return Ok(index),
-        Err(refused) => refused,
+    let told = used(alloc, Vec::from_clones(alloc, FIVE)?, slots);
+    Ok(match told {
+        Err(refused) if refused.cause == BaseCause::Memory => {
+            *met = true;
+            used(alloc, refused.pairs, slots)
+        }
+        told => told,
+    })
+}
+
+/// Whether indexes are made so of the five pairs: with a slot less than they take, and with as many.
+pub(crate) fn begins_again(alloc: Global, met: &mut bool) -> Result<bool, AllocError> {
+    let Err(refused) = used_again(alloc, 3, met)? else {
+        return Ok(false);
     };
-    let BaseRefused { cause, pairs } = back;
-    assert!(rt; pairs.as_slice() == FIVE);
-    if cause != BaseCause::Memory {
-        return Err(cause);
-    }
-    *met = true;
-    match held(alloc, 7, pairs, slots) {
-        Ok(index) => Ok(index),
-        Err(refused) => {
-            assert!(rt; refused.pairs.as_slice() == FIVE);
-            Err(refused.cause)
-        }
-    }
-}
-
-// Whether memory was refused while indexes were made of the five pairs: with a slot less than they take, and with as many.
-fn insisted<R: Abort>(rt: &R, alloc: Global) -> bool {
-    let mut met = false;
-    match begun_again(rt, alloc, 3, &mut met) {
-        Ok(_index) => panic!(rt; "three slots don't suffice"),
-        Err(cause) => assert!(rt; cause == BaseCause::NoSlot),
-    }
-    match begun_again(rt, alloc, 4, &mut met) {
-        Ok(index) => {
-            assert_eq!(rt; index.slots_in_use(), 4);
-            assert!(rt; index.base() == (7, FIVE));
-            match index.close() {
-                Ok(()) => {}
-                Err(_open) => panic!(rt; "no session is open"),
-            }
-        }
-        Err(_) => panic!(rt; "memory was refused twice"),
-    }
-    met
-}
-
-#[test]
-fn a_refusal_of_memory_gives_the_pairs_back(rt: HostRuntime) {
-    let _met = insisted(&rt, rt.alloc());
-}
-
-#[test]
-fn no_memory_is_refused_where_an_index_begins_with_a_list(rt: HostRuntime) {
-    assert!(rt; !insisted(&rt, rt.alloc()));
+    let is_full = refused.cause == BaseCause::NoSlot && refused.pairs.as_slice() == FIVE;
+    let used = used_again(alloc, 4, met)?;
+    Ok(is_full && used.is_ok_and(|slots| slots == 4))
 }

@@ -9,21 +9,14 @@ use std::alloc::{AllocError, Global};
 use std::ops::Bound::{Excluded, Included, Unbounded};
 use tree_index::TreeIndex;
 
-/// A transaction of two upserts.
-fn transaction(alloc: Global) -> Result<Transaction<u64, u64>, AllocError> {
-    let mut writes = Vec::new(alloc);
-    writes.push(Write::Upsert(1, 10))?;
-    writes.push(Write::Upsert(2, 20))?;
-    Ok(Transaction {
+// The list that a transaction of two upserts leaves of none, made again from a base with its pairs.
+fn based(alloc: Global) -> Result<TreeIndex<u64, u64>, AllocError> {
+    let writes = Vec::from_clones(alloc, &[Write::Upsert(1, 10), Write::Upsert(2, 20)])?;
+    let history = [Transaction {
         reads: Reads::of(&[]),
         writes: Seq::from_vec(writes),
         replies: Seq::new(alloc),
-    })
-}
-
-/// The list that the transaction leaves of none, made again from a base with its pairs.
-fn based(alloc: Global) -> Result<TreeIndex<u64, u64>, AllocError> {
-    let history = [transaction(alloc)?];
+    }];
     let list = replay(alloc, &Base::empty(alloc), &history)?;
     let pairs = pairs_of(alloc, &list)?;
     // what is read here shows the proof that the keys rise
@@ -32,7 +25,7 @@ fn based(alloc: Global) -> Result<TreeIndex<u64, u64>, AllocError> {
 }
 
 /// Whether a list is made, answers a query, and lends a copy of a part as it should, and room for three replies is made.
-fn made(alloc: Global) -> Result<bool, AllocError> {
+pub(crate) fn made(alloc: Global) -> Result<bool, AllocError> {
     let list = based(alloc)?;
     let told = answer(alloc, &list, &Query::First(Included(2), Unbounded, 5))?;
     let copy = list.copy_between(alloc, &Unbounded, &Excluded(2), Part::All)?;
@@ -42,23 +35,4 @@ fn made(alloc: Global) -> Result<bool, AllocError> {
         _ => false,
     };
     Ok(answers && copy.as_slice() == [(1, 10)].as_slice() && prepared.replies.is_empty())
-}
-
-/// Whether memory was refused, and whether all was as wanted, by a second try then.
-fn made_again(alloc: Global) -> (bool, bool) {
-    match made(alloc) {
-        Ok(right) => (false, right),
-        Err(AllocError) => (true, made(alloc) == Ok(true)),
-    }
-}
-
-// Any one allocation may be refused: a script has each refused in turn.
-#[test]
-fn a_refusal_of_memory_makes_neither_list_nor_answer(rt: HostRuntime) {
-    assert!(rt; made_again(rt.alloc()).1);
-}
-
-#[test]
-fn no_memory_is_refused_to_lists_and_answers(rt: HostRuntime) {
-    assert!(rt; made_again(rt.alloc()) == (false, true));
 }

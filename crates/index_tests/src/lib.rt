@@ -17,8 +17,6 @@ mod from_base;
 #[cfg(test)]
 mod history;
 #[cfg(test)]
-mod hostile;
-#[cfg(test)]
 mod large;
 #[cfg(test)]
 mod lists;
@@ -32,8 +30,6 @@ mod plain;
 mod play;
 #[cfg(test)]
 mod random_calls;
-#[cfg(test)]
-mod reader_refusals;
 #[cfg(test)]
 mod reading;
 #[cfg(test)]

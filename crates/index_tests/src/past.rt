@@ -1,221 +1,161 @@
-//! Lists of older numbers, and histories that are cut behind commits: by example, and with each allocation refused.
+//! Lists of older numbers, and histories that are cut behind commits.
 
-use local_index::{
-    Cause, LocalIndex, PastRefused, Receipt, Refused, ScopedIndex, SinceRefused, Write,
-};
+use crate::scene::Numbers;
+use local_index::SinceRefused::{Ahead, TooOld};
+use local_index::{Accepted, Cause, PastRefused, Receipt, Refused, ScopedIndex, Write};
 use std::alloc::{AllocError, Global};
-use std::process::Abort;
-use tree_index::TreeIndex;
-
-// An index of numbers, with two pairs in a segment.
-pub(crate) type Numbers = LocalIndex<u64, u64, 2>;
 
 pub(crate) type Scope = ScopedIndex<u64, u64, 2>;
 
-pub(crate) fn empty<R: Abort>(rt: &R, alloc: Global, met: &mut bool) -> Scope {
-    match Scope::new(alloc, 1, 256) {
-        Ok(scope) => scope,
-        Err(AllocError) => {
-            *met = true;
-            match Scope::new(alloc, 1, 256) {
-                Ok(scope) => scope,
-                Err(AllocError) => panic!(rt; "memory was refused twice"),
-            }
-        }
+const ROOM: &str = "memory";
+
+// Makes a commit, behind which this many transactions are kept at least, or all.
+fn commit(
+    index: &mut Numbers,
+    none: &Receipt<u64, u64>,
+    writes: Vec<Write<u64, u64>>,
+    kept: Option<u64>,
+) -> Result<Accepted, Refused<u64, u64>> {
+    match kept {
+        Some(count) => index.commit_keeping(none, writes, count),
+        None => index.commit(none, writes),
     }
 }
 
-// The write that gives the key 1 a value.
-pub(crate) fn one<R: Abort>(
-    rt: &R,
-    alloc: Global,
-    value: u64,
-    met: &mut bool,
-) -> Vec<Write<u64, u64>> {
-    match Vec::from_clones(alloc, &[Write::Upsert(1, value)]) {
-        Ok(writes) => writes,
-        Err(AllocError) => {
-            *met = true;
-            match Vec::from_clones(alloc, &[Write::Upsert(1, value)]) {
-                Ok(writes) => writes,
-                Err(AllocError) => panic!(rt; "memory was refused twice"),
-            }
-        }
-    }
-}
-
-// Gives the key 1 the value, by a commit of the same number.
-pub(crate) fn put<R: Abort>(
-    rt: &R,
+/// Gives the key 1 the value, by such a commit of the same number, made again where memory was refused.
+pub(crate) fn put(
     alloc: Global,
     index: &mut Numbers,
     value: u64,
+    kept: Option<u64>,
     met: &mut bool,
-) {
-    let writes = one(rt, alloc, value, met);
+) -> Result<bool, AllocError> {
+    let writes = Vec::from_clones(alloc, &[Write::Upsert(1, value)])?;
     let none = Receipt::blank(alloc);
-    match index.commit(&none, writes) {
-        Ok(accepted) => assert_eq!(rt; accepted.number, value),
+    match commit(index, &none, writes, kept) {
+        Ok(accepted) => Ok(accepted.number == value),
         Err(Refused { cause, writes }) => {
-            assert!(rt; cause == Cause::Memory);
             *met = true;
-            assert!(rt;
-                index.commit(&none, writes).is_ok(),
-                "memory was refused twice"
-            );
+            Ok(cause == Cause::Memory && commit(index, &none, writes, kept).is_ok())
         }
     }
 }
 
-// The same, by one commit for each value from the first to the last.
-fn put_all<R: Abort>(
-    rt: &R,
+// The same of each value from the first to the last, where all transactions are kept.
+fn put_all(
     alloc: Global,
     index: &mut Numbers,
     values: (u64, u64),
     met: &mut bool,
-) {
+) -> Result<bool, AllocError> {
+    let mut right = true;
     for value in values.0..=values.1 {
-        put(rt, alloc, index, value, met);
+        right = put(alloc, index, value, None, met)? && right;
     }
+    Ok(right)
 }
 
-// Whether a list is the key 1 with this value.
-fn is_one(list: &TreeIndex<u64, u64>, value: u64) -> bool {
-    list.len() == 1 && list.peek(&1).copied() == Some(value)
-}
-
-// Whether the list of a number is so.
-fn was(index: &Numbers, number: u64, value: u64) -> bool {
+// How many pairs the list of a number has, and the value of the key 1 there; or why there is no such list.
+fn past(index: &Numbers, number: u64) -> Result<(usize, Option<u64>), PastRefused> {
     match index.past(number) {
-        Ok(list) => is_one(&list, value),
-        Err(_) => false,
+        Ok(list) => Ok((list.len(), list.peek(&1).copied())),
+        Err(refused) => Err(refused),
     }
 }
 
-// Whether there is no such list, for this reason.
-fn is_outside(index: &Numbers, number: u64, why: SinceRefused) -> bool {
-    match index.past(number) {
-        Ok(_list) => false,
-        Err(refused) => refused == PastRefused::Outside(why),
-    }
+// The list of the key 1 with this value.
+fn one(value: u64) -> Result<(usize, Option<u64>), PastRefused> {
+    Ok((1, Some(value)))
 }
 
 #[test]
 fn older_lists_are_rebuilt(rt: HostRuntime) {
     let mut met = false;
-    let mut scope = empty(&rt, rt.alloc(), &mut met);
+    let mut scope = Scope::new(rt.alloc(), 1, 256).expect(&rt, ROOM);
     let index = &mut scope.index;
-    put_all(&rt, rt.alloc(), index, (1, 5), &mut met);
-    match index.past(0) {
-        Ok(list) => assert_eq!(rt; list.len(), 0),
-        Err(_) => panic!(rt; "the first list is there"),
-    }
-    assert!(rt; was(index, 1, 1) && was(index, 3, 3) && was(index, 5, 5));
-    assert!(rt; is_outside(index, 6, SinceRefused::Ahead(5)));
+    assert!(rt; put_all(rt.alloc(), index, (1, 5), &mut met) == Ok(true));
+    let before = [
+        past(index, 0),
+        past(index, 1),
+        past(index, 3),
+        past(index, 5),
+    ];
+    assert!(rt; before == [Ok((0, None)), one(1), one(3), one(5)]);
+    assert!(rt; past(index, 6) == Err(PastRefused::Outside(Ahead(5))));
     assert!(rt; index.checkpoint(2).is_ok());
-    assert!(rt; is_outside(index, 1, SinceRefused::TooOld(2)));
-    assert!(rt; was(index, 2, 2) && was(index, 4, 4) && was(index, 5, 5));
+    let behind = [past(index, 2), past(index, 4), past(index, 5)];
+    assert!(rt; past(index, 1) == Err(PastRefused::Outside(TooOld(2))));
+    assert!(rt; behind == [one(2), one(4), one(5)]);
 }
 
 #[test]
 fn a_history_is_cut_when_it_is_more_than_twice_as_long(rt: HostRuntime) {
     let mut met = false;
-    let mut scope = empty(&rt, rt.alloc(), &mut met);
+    let mut scope = Scope::new(rt.alloc(), 1, 256).expect(&rt, ROOM);
     let index = &mut scope.index;
-    put_all(&rt, rt.alloc(), index, (1, 4), &mut met);
-    assert!(rt; index.keep_last(2).is_ok());
+    assert!(rt; put_all(rt.alloc(), index, (1, 4), &mut met) == Ok(true));
+    assert!(rt; index.keep_last(2).is_ok() && index.base() == (0, &[][..]));
+    assert!(rt; put(rt.alloc(), index, 5, None, &mut met) == Ok(true));
+    assert!(rt; index.keep_last(u64::MAX).is_ok() && index.keep_last(3).is_ok());
     assert!(rt; index.base() == (0, &[][..]));
-    put(&rt, rt.alloc(), index, 5, &mut met);
-    assert!(rt; index.keep_last(u64::MAX).is_ok());
-    assert!(rt; index.keep_last(3).is_ok());
-    assert!(rt; index.base() == (0, &[][..]));
-    assert!(rt; index.keep_last(2).is_ok());
-    assert!(rt; index.base() == (3, &[(1, 3)][..]));
-    assert!(rt; was(index, 4, 4) && is_outside(index, 2, SinceRefused::TooOld(3)));
-    assert!(rt; index.keep_last(0).is_ok());
-    assert!(rt; index.base() == (5, &[(1, 5)][..]));
+    assert!(rt; index.keep_last(2).is_ok() && index.base() == (3, &[(1, 3)][..]));
+    assert!(rt; past(index, 4) == one(4));
+    assert!(rt; past(index, 2) == Err(PastRefused::Outside(TooOld(3))));
+    assert!(rt; index.keep_last(0).is_ok() && index.base() == (5, &[(1, 5)][..]));
 }
 
-// Makes a commit of the next value, behind which two transactions are kept at least, and gives the base's number then.
-fn kept<R: Abort>(rt: &R, alloc: Global, index: &mut Numbers, value: u64, met: &mut bool) -> u64 {
-    let writes = one(rt, alloc, value, met);
-    let none = Receipt::blank(alloc);
-    match index.commit_keeping(&none, writes, 2) {
-        Ok(accepted) => assert_eq!(rt; accepted.number, value),
-        Err(Refused { cause, writes }) => {
-            assert!(rt; cause == Cause::Memory);
-            *met = true;
-            assert!(rt; index.commit_keeping(&none, writes, 2).is_ok());
-        }
-    }
-    let (number, _) = index.base();
-    number
-}
-
-// The number of the base after the first commit, the second, and so on.
+// The number of the base after the first commit, the second, and so on, where two transactions are kept at least.
 const BASES: &[u64] = &[0, 0, 0, 0, 3, 3, 3, 6, 6, 6, 9, 9];
 
 #[test]
 fn commits_keep_the_last_transactions(rt: HostRuntime) {
     let mut met = false;
-    let mut scope = empty(&rt, rt.alloc(), &mut met);
+    let mut scope = Scope::new(rt.alloc(), 1, 256).expect(&rt, ROOM);
     let index = &mut scope.index;
     let mut value = 0u64;
     for base in BASES {
         value = value.saturating_add(1);
-        assert_eq!(rt; kept(&rt, rt.alloc(), index, value, &mut met), *base);
+        assert!(rt; put(rt.alloc(), index, value, Some(2), &mut met) == Ok(true));
+        assert_eq!(rt; index.base().0, *base);
     }
-    assert!(rt; was(index, 9, 9) && was(index, 12, 12));
+    assert!(rt; past(index, 9) == one(9) && past(index, 12) == one(12));
 }
 
-// Cuts a history of three transactions, again where memory was refused; the base is then as it was.
-fn cut<R: Abort>(rt: &R, index: &mut Numbers, met: &mut bool) {
-    if index.keep_last(1).is_err() {
-        *met = true;
-        assert!(rt; index.base() == (0, &[][..]));
-        assert!(rt; index.keep_last(1).is_ok(), "memory was refused twice");
+// Whether a history of three transactions is cut, again where memory was refused; the base is then as it was.
+fn is_cut(index: &mut Numbers, met: &mut bool) -> bool {
+    if index.keep_last(1).is_ok() {
+        return index.base() == (2, &[(1, 2)][..]);
     }
-    assert!(rt; index.base() == (2, &[(1, 2)][..]));
+    *met = true;
+    let kept = index.base() == (0, &[][..]);
+    kept && index.keep_last(1).is_ok() && index.base() == (2, &[(1, 2)][..])
 }
 
-// Asks for an older list, again where memory was refused.
-fn rebuilt<R: Abort>(rt: &R, index: &Numbers, met: &mut bool) {
-    match index.past(2) {
-        Ok(list) => assert!(rt; is_one(&list, 2)),
-        Err(refused) => {
-            assert!(rt; refused == PastRefused::Memory);
-            *met = true;
-            assert!(rt; was(index, 2, 2), "memory was refused twice");
-        }
+// Whether an older list is rebuilt, again where memory was refused.
+fn is_rebuilt(index: &Numbers, met: &mut bool) -> bool {
+    let list = past(index, 2);
+    if list != Err(PastRefused::Memory) {
+        return list == one(2);
     }
+    *met = true;
+    past(index, 2) == one(2)
 }
 
-// Whether memory was refused while an older list was asked for, and a history cut by itself and behind commits.
-fn insisted<R: Abort>(rt: &R, alloc: Global) -> bool {
-    let mut met = false;
-    let mut scope = empty(rt, alloc, &mut met);
+/// Whether an older list is rebuilt, and a history cut by itself and behind commits, each again where memory was refused.
+pub(crate) fn is_kept(alloc: Global, met: &mut bool) -> Result<bool, AllocError> {
+    let mut scope = Scope::new(alloc, 1, 256)?;
     let index = &mut scope.index;
-    put_all(rt, alloc, index, (1, 3), &mut met);
-    rebuilt(rt, index, &mut met);
-    cut(rt, index, &mut met);
-    put_all(rt, alloc, index, (4, 6), &mut met);
-    let base = kept(rt, alloc, index, 7, &mut met);
-    // a cut that is refused memory refuses no commit, and the next one cuts
-    if base != 5 {
-        assert_eq!(rt; base, 2);
-        met = true;
-        assert_eq!(rt; kept(rt, alloc, index, 8, &mut met), 6);
+    let begun = put_all(alloc, index, (1, 3), met)?;
+    let cut = is_rebuilt(index, met) && is_cut(index, met);
+    let more = put_all(alloc, index, (4, 6), met)?;
+    let kept = put(alloc, index, 7, Some(2), met)?;
+    let right = begun && cut && more && kept;
+    if index.base().0 == 5 {
+        return Ok(right);
     }
-    met
-}
-
-#[test]
-fn a_refusal_of_memory_keeps_the_history(rt: HostRuntime) {
-    let _met = insisted(&rt, rt.alloc());
-}
-
-#[test]
-fn no_memory_is_refused_to_a_cut(rt: HostRuntime) {
-    assert!(rt; !insisted(&rt, rt.alloc()));
+    // a cut that is refused memory refuses no commit, and the next one cuts
+    *met = true;
+    let refused = index.base().0 == 2;
+    let again = put(alloc, index, 8, Some(2), met)?;
+    Ok(right && refused && again && index.base().0 == 6)
 }

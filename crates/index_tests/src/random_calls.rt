@@ -100,7 +100,7 @@ fn is_based<const S: usize>(scene: &Scene<S>, lists: &Lists) -> bool {
 // Reclaims, and returns whether that leaves as few slots in use as it has to.
 fn reclaim<const S: usize>(scene: &mut Scene<S>, lists: &Lists) -> bool {
     let before = scene.index.slots_in_use();
-    scene.reclaim();
+    scene.index.reclaim();
     lists.is_reclaimed(&Room {
         slots: 0,
         segment: S,

@@ -6,10 +6,15 @@ ghost use Rattle.local_index.specs.Desk.{Serves};
 ghost use Rattle.local_index.specs.State.{IsSessionOf};
 
 use crate::table::{Call, Told, desk_call, is_told};
-use index_rows::{Entry, is_fed};
-use local_index::{Desk, DeskCall, DeskReply, LocalIndex, Session, play_all, play_one};
+use index_rows::is_fed;
+use local_index::{Desk, DeskCall, DeskReply, LocalIndex, Reading, Session, play_all, play_one};
 use std::alloc::{AllocError, Global};
 use std::process::Abort;
+
+/// An index of numbers, with two pairs in a segment.
+pub(crate) type Numbers = LocalIndex<u64, u64, 2>;
+
+pub(crate) type Reader<'a> = Reading<'a, u64, u64, 2>;
 
 /// What a look-up finds: the number and the length of a session's list, the value of a key there, and whether a pair has it.
 pub(crate) type Seen = (u64, usize, Option<u64>, bool);
@@ -137,11 +142,6 @@ impl<const S: usize> Scene<S> {
         play_all(self.alloc, &mut self.index, &mut self.desk, calls)
     }
 
-    /// Reclaims versions that no session has.
-    pub(crate) fn reclaim(&mut self) {
-        self.index.reclaim();
-    }
-
     /// The session with the label.
     pub(crate) fn session(&self, label: u64) -> Option<&Session<u64, u64>>
         ensures { IfSome result (λ session. IsSessionOf self.now.index session.now) }
@@ -164,20 +164,6 @@ impl<const S: usize> Scene<S> {
             value,
             self.index.contains(session, &key),
         ))
-    }
-
-    // Whether the base is this list with this number.
-    fn is_based(&self, number: u64, pairs: &[(u64, u64)]) -> bool {
-        let (first, list) = self.index.base();
-        first == number && list == pairs
-    }
-
-    // Whether the transactions behind a number are these.
-    fn is_fed(&self, number: u64, entries: &[Entry]) -> bool {
-        match self.index.since(number) {
-            Ok(fed) => is_fed(&fed, entries),
-            Err(_) => false,
-        }
     }
 
     /// What the present list has at a key, by a session of its own, where a place is free.
@@ -225,8 +211,11 @@ impl<const S: usize> Scene<S> {
             (Call::Numbers, Told::Numbered(first, last)) => {
                 self.index.base().0 == first && self.is_present(last, None)
             }
-            (Call::Base, Told::Based(number, pairs)) => self.is_based(number, pairs),
-            (Call::Since(number), Told::Fed(entries)) => self.is_fed(number, entries),
+            (Call::Base, Told::Based(number, pairs)) => self.index.base() == (number, pairs),
+            (Call::Since(number), Told::Fed(entries)) => match self.index.since(number) {
+                Ok(fed) => is_fed(&fed, entries),
+                Err(_) => false,
+            },
             (Call::Since(number), Told::Unfed(why)) => self.index.since(number) == Err(why),
             _ => self.is_played(call, told).unwrap_or(false),
         }

@@ -2,18 +2,16 @@
 
 ghost use Rattle.local_index.specs.State.{IsSessionOf};
 
+use crate::scene::Numbers;
 use crate::table::Call::{Close, Commit, Look, Open};
 use crate::table::Told::{Accepted, Closed, NoPlace, Opened, Seen};
-use crate::table::{Table, first_wrong};
+use crate::table::{ROOMY, Table, first_wrong};
 use index_rows::{COMMITS, CONFLICTS, LAST_NUMBER};
-use local_index::{
-    LocalIndex, Receipt, Reply, Seq, Session, Write, clones_of_lists, equals_of_lists,
-};
+use local_index::Reply::{Duplicate, Inserted};
+use local_index::Write::Insert;
+use local_index::{LocalIndex, Receipt, Seq, Session, clones_of_lists, equals_of_lists};
 use std::alloc::Global;
 use std::process::Abort;
-
-// An index of numbers, with two pairs in a segment.
-type Numbers = LocalIndex<u64, u64, 2>;
 
 const ROOM: &str = "memory";
 
@@ -43,35 +41,30 @@ fn an_index_isnt_closed_while_a_session_is_open(rt: HostRuntime) {
     }
 }
 
-const TWICE: [Write<u64, u64>; 2] = [Write::Insert(1, 10), Write::Insert(1, 11)];
-
-const AT_ITS_OPENING: Table = Table {
-    about: "a session reads the list at its opening",
-    places: 1,
-    slots: 16,
-    last: u64::MAX,
-    parts: &[&[
-        (
-            Commit(&TWICE),
-            Accepted(1, &[Reply::Inserted, Reply::Duplicate]),
-        ),
-        (Open(1), Opened(1)),
-        (
-            Commit(&[Write::Insert(2, 20)]),
-            Accepted(2, &[Reply::Inserted]),
-        ),
-        (Look(1, 1), Seen(1, 1, Some(10))),
-        (Look(1, 2), Seen(1, 1, None)),
-        (Open(2), NoPlace),
-        (Close(1), Closed(1, &[])),
-        (Open(2), Opened(2)),
-        (Look(2, 1), Seen(2, 2, Some(10))),
-        (Look(2, 2), Seen(2, 2, Some(20))),
-        (Close(2), Closed(2, &[])),
-    ]],
-};
-
-const TABLES: &[Table] = &[AT_ITS_OPENING, LAST_NUMBER];
+const TABLES: &[Table] = &[
+    Table {
+        about: "a session reads the list at its opening",
+        slots: 16,
+        parts: &[&[
+            (
+                Commit(&[Insert(1, 10), Insert(1, 11)]),
+                Accepted(1, &[Inserted, Duplicate]),
+            ),
+            (Open(1), Opened(1)),
+            (Commit(&[Insert(2, 20)]), Accepted(2, &[Inserted])),
+            (Look(1, 1), Seen(1, 1, Some(10))),
+            (Look(1, 2), Seen(1, 1, None)),
+            (Open(2), NoPlace),
+            (Close(1), Closed(1, &[])),
+            (Open(2), Opened(2)),
+            (Look(2, 1), Seen(2, 2, Some(10))),
+            (Look(2, 2), Seen(2, 2, Some(20))),
+            (Close(2), Closed(2, &[])),
+        ]],
+        ..ROOMY
+    },
+    LAST_NUMBER,
+];
 
 #[test]
 fn sessions_read_and_commits_are_tested_by_answers(rt: HostRuntime) {
@@ -88,16 +81,10 @@ fn bytes<R: Abort>(rt: &R, alloc: Global, text: &[u8]) -> Seq<u8> {
     Seq::from_vec(Vec::from_slice(alloc, text).expect(rt, ROOM))
 }
 
-// Commits an insert of a pair of byte strings, and gives the number.
-fn insert_bytes<R: Abort>(
-    rt: &R,
-    alloc: Global,
-    index: &mut Bytes,
-    key: &[u8],
-    value: &[u8],
-) -> u64 {
+// Commits an insert of a pair of byte strings, a name and a value, and gives the number.
+fn insert_bytes<R: Abort>(rt: &R, alloc: Global, index: &mut Bytes) -> u64 {
     let mut writes = Vec::new(alloc);
-    let write = Write::Insert(bytes(rt, alloc, key), bytes(rt, alloc, value));
+    let write = Insert(bytes(rt, alloc, b"name"), bytes(rt, alloc, b"value"));
     writes.push(write).expect(rt, ROOM);
     clones_of_lists::<u8>();
     equals_of_lists::<u8>();
@@ -119,7 +106,7 @@ fn byte_strings_are_keys_and_values(rt: HostRuntime) {
     let name = bytes(&rt, alloc, b"name");
     let value = bytes(&rt, alloc, b"value");
     let mut index = Bytes::new(alloc, 1, 16).expect(&rt, ROOM);
-    let number = insert_bytes(&rt, alloc, &mut index, b"name", b"value");
+    let number = insert_bytes(&rt, alloc, &mut index);
     let found = has_bytes(&rt, &mut index, &name, &value);
     match index.close() {
         Ok(()) => assert!(rt; number == 1 && found),

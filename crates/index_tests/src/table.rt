@@ -7,6 +7,15 @@ use local_index::{Accepted, DeskCall, DeskReply, Query, ReadSet, Refused, Reply}
 use std::alloc::{AllocError, Global};
 use std::process::Abort;
 
+/// An empty table, with room for all that it does.
+pub(crate) const ROOMY: Table = Table {
+    about: "",
+    places: 1,
+    slots: 64,
+    last: u64::MAX,
+    parts: &[],
+};
+
 // The reads that a call rests on.
 fn reads_of(alloc: Global, call: Call) -> Result<ReadSet<u64, u64>, AllocError> {
     Ok(match call {
@@ -53,15 +62,6 @@ pub(crate) fn read_of(label: u64, query: Query<u64>) -> DeskCall<u64, u64> {
     }
 }
 
-// This many times this reply.
-fn repeated(alloc: Global, reply: Reply, count: usize) -> Result<Vec<Reply>, AllocError> {
-    let mut replies = Vec::new(alloc);
-    for _ in 0..count {
-        replies.push(reply)?;
-    }
-    Ok(replies)
-}
-
 // The reply of a commit, or of a call that has memory handed back.
 fn wanted_of_memory(
     alloc: Global,
@@ -76,7 +76,7 @@ fn wanted_of_memory(
         }),
         Told::All(number, count, reply) => DeskReply::Accepted(Accepted {
             number,
-            replies: repeated(alloc, reply, count)?,
+            replies: vec![in alloc; reply; count]?,
         }),
         Told::Refused(cause) => DeskReply::Refused(Refused {
             cause,
@@ -122,9 +122,9 @@ pub(crate) fn is_told(
     }
 }
 
-// Makes the calls of a table, in order, and returns how many answer what is wanted before the first that doesn't, and how many
-// there are.
-fn play<const S: usize>(scene: &mut Scene<S>, parts: &[&[Row]]) -> (usize, usize) {
+/// Makes the calls of a table, in order, and returns how many answer what is wanted before the first that doesn't, and how many
+/// there are.
+pub(crate) fn play<const S: usize>(scene: &mut Scene<S>, parts: &[&[Row]]) -> (usize, usize) {
     let mut right = 0usize;
     let mut played = 0usize;
     for part in parts {
