@@ -2,8 +2,9 @@
 
 ghost use Rattle.std.specs.Prelude.{◌≡◌, ◌<◌, ◌+◌};
 
+use crate::reads::{READS, READS_OUTPUT, REPLIES};
 use crate::streams::{
-    Fails, Row, fails_anywhere, falters_anywhere, is_cut_anywhere, output, read_from, text_of,
+    Fails, Row, fails_anywhere, falters_anywhere, is_cut_anywhere, output_of, read_from, text_of,
     write_what_is_wanted,
 };
 use index_script::line::LONGEST;
@@ -17,29 +18,65 @@ use std::io;
 use std::process::Abort;
 use std::test::Fail;
 
-const FIRST: &[u8] = b"insert 1 ten\ncommit -\nopen 7\nget 7 1\nclose 7\n";
-
-const FIRST_OUTPUT: &str = "staged 1\nok 1 inserted\nopen 7 at 1\nsome ten\nclosed 7\n";
-
 // The last line has no LF.
 const SECOND: &[u8] = b"insert 1 ten\ninsert 1 x\ncommit -\nopen 7\nget 7 1\nget 9 1\nclose 7";
 
 const SECOND_OUTPUT: &str =
     "staged 1\nstaged 2\nok 1 inserted duplicate\nopen 7 at 1\nsome ten\nline 6: session\nclosed 7\n";
 
-#[test]
-fn a_script_inserts_commits_and_reads(rt: HostRuntime) {
-    write_what_is_wanted(&rt, rt.alloc(), &[(FIRST, FIRST_OUTPUT)]);
-}
+const SCRIPTS: &[Row] = &[
+    // no input gives no output
+    (b"", ""),
+    // a script inserts, commits and reads
+    (
+        b"insert 1 ten\ncommit -\nopen 7\nget 7 1\nclose 7\n",
+        "staged 1\nok 1 inserted\nopen 7 at 1\nsome ten\nclosed 7\n",
+    ),
+    // lines are numbered, bad ones too
+    (
+        b"x\n\ncommit -\nopen 1\nopen 1\nget 2 1\nclose 2",
+        "line 1: command\nline 2: command\nok 1\nopen 1 at 1\nline 5: busy\nline 6: session\nline 7: session\n",
+    ),
+    // a session reads the list at its opening
+    (
+        b"open 1\ninsert 5 \xc3\xa9 x\ncommit 1\nget 1 5\nopen 2\nget 2 5\nopen 3\nopen 1\nclose 1\nopen 3\n",
+        "open 1 at 0\nstaged 1\nok 1 inserted\nnone\nopen 2 at 1\nsome \u{e9} x\nnoplace\nline 8: busy\nclosed 1\nopen 3 at 1\n",
+    ),
+    // slots of former lists are reclaimed
+    (
+        b"slots\ncommit -\nreclaim\nslots\n",
+        "slots 1\nok 1\nreclaimed\nslots 1\n",
+    ),
+    (
+        b"insert 1 a\ncommit -\ninsert 2 b\ncommit -\nslots\nreclaim\nslots\n",
+        "staged 1\nok 1 inserted\nstaged 1\nok 2 inserted\nslots 5\nreclaimed\nslots 2\n",
+    ),
+    // a session tells its number and its length
+    (
+        b"insert 1 a\ninsert 2 b\ncommit -\nopen 7\nclear\ncommit 7\nopen 8\nlen 7\nnumber 7\nlen 8\nnumber 8\nlen 9\nnumber 9\n",
+        "staged 1\nstaged 2\nok 1 inserted inserted\nopen 7 at 1\nstaged 1\nok 2 cleared\nopen 8 at 2\nlen 2\nnumber 1\nlen 0\nnumber 2\nline 12: session\nline 13: session\n",
+    ),
+    // writes of each kind are staged
+    (
+        b"upsert 2 a b\nupsert 2 c\nremove 4\ncommit -\nopen 1\nget 1 2\nremove 2\ncommit 1\nclear\ncommit -\n",
+        "staged 1\nstaged 2\nstaged 3\nok 1 upserted upserted absent\nopen 1 at 1\nsome c\nstaged 1\nok 2 removed\nstaged 1\nok 3 cleared\n",
+    ),
+    // an accepted commit takes the staged writes and no other
+    (
+        b"insert 1 a\ncommit 9\ninsert 2 b\ncommit -\ncommit -\ninsert 1 c\ncommit -\n",
+        "staged 1\nline 2: session\nstaged 2\nok 1 inserted inserted\nok 2\nstaged 1\nok 3 duplicate\n",
+    ),
+];
 
 #[test]
-fn no_input_gives_no_output(rt: HostRuntime) {
-    write_what_is_wanted(&rt, rt.alloc(), &[(b"", "")]);
+fn scripts_stage_commit_and_read(rt: HostRuntime) {
+    write_what_is_wanted(&rt, rt.alloc(), SCRIPTS);
 }
 
 #[test]
 fn the_cut_of_the_input_changes_nothing(rt: HostRuntime) {
     is_cut_anywhere(&rt, rt.alloc(), (SECOND, SECOND_OUTPUT));
+    is_cut_anywhere(&rt, rt.alloc(), (READS, READS_OUTPUT));
 }
 
 #[test]
@@ -141,139 +178,43 @@ fn the_longest_reply_to_a_line_at_fault_has_35_bytes(rt: HostRuntime) -> Result<
     Ok(())
 }
 
-// A line has this reply. A text that grows would show that memory was taken.
-fn is_answered<R: Abort>(
-    rt: &R,
-    script: &mut Script<1>,
-    text: &mut String,
-    line: Option<&[u8]>,
-    reply: &str,
-)
-    requires { script.old.line < 10 }
-    ensures { script.new.line ≡ script.old.line + 1 }
-{
-    match script.act(line, text) {
-        Ok(()) => assert!(rt; text.as_str() == reply && text.capacity() == LONGEST_FAULT),
-        Err(_) => panic!(rt; "memory was refused"),
+// A script, and the text of its last reply.
+struct Answering {
+    script: Script<1>,
+    text: String,
+}
+
+impl Answering {
+    // A line has this reply. A text that grows would show that memory was taken.
+    fn tells<R: Abort>(&mut self, rt: &R, line: Option<&[u8]>, reply: &str)
+        requires { self.old.script.line < 10 }
+        ensures { self.new.script.line ≡ self.old.script.line + 1 }
+    {
+        match self.script.act(line, &mut self.text) {
+            Ok(()) => {
+                assert!(rt; self.text.as_str() == reply && self.text.capacity() == LONGEST_FAULT);
+            }
+            Err(_) => panic!(rt; "memory was refused"),
+        }
     }
 }
 
 #[test]
 fn lines_at_fault_are_answered_in_the_memory_that_is_there(rt: HostRuntime) -> Result<(), Fail> {
-    let mut text = String::with_capacity(rt.alloc(), LONGEST_FAULT)?;
-    let mut script = Script::<1>::new(rt.alloc(), 1, 1)?;
-    is_answered(&rt, &mut script, &mut text, None, "line 1: long\n");
-    is_answered(&rt, &mut script, &mut text, Some(b"\xff"), "line 2: text\n");
-    is_answered(
-        &rt,
-        &mut script,
-        &mut text,
-        Some(b"other"),
-        "line 3: command\n",
-    );
-    is_answered(
-        &rt,
-        &mut script,
-        &mut text,
-        Some(b"insert 1"),
-        "line 4: words\n",
-    );
-    is_answered(
-        &rt,
-        &mut script,
-        &mut text,
-        Some(b"remove x"),
-        "line 5: number\n",
-    );
-    is_answered(
-        &rt,
-        &mut script,
-        &mut text,
-        Some(b"get 7 1"),
-        "line 6: session\n",
-    );
-    is_answered(
-        &rt,
-        &mut script,
-        &mut text,
-        Some(b"open 3"),
-        "open 3 at 0\n",
-    );
-    is_answered(
-        &rt,
-        &mut script,
-        &mut text,
-        Some(b"open 3"),
-        "line 8: busy\n",
-    );
+    let text = String::with_capacity(rt.alloc(), LONGEST_FAULT)?;
+    let script = Script::<1>::new(rt.alloc(), 1, 1)?;
+    let mut answering = Answering { script, text };
+    answering.tells(&rt, None, "line 1: long\n");
+    answering.tells(&rt, Some(b"\xff"), "line 2: text\n");
+    answering.tells(&rt, Some(b"other"), "line 3: command\n");
+    answering.tells(&rt, Some(b"insert 1"), "line 4: words\n");
+    answering.tells(&rt, Some(b"remove x"), "line 5: number\n");
+    answering.tells(&rt, Some(b"get 7 1"), "line 6: session\n");
+    answering.tells(&rt, Some(b"open 3"), "open 3 at 0\n");
+    answering.tells(&rt, Some(b"open 3"), "line 8: busy\n");
+    let Answering { script, text: _ } = answering;
     script.end();
     Ok(())
-}
-
-const NUMBERED: [Row; 1] = [(
-    b"x\n\ncommit -\nopen 1\nopen 1\nget 2 1\nclose 2",
-    "line 1: command\nline 2: command\nok 1\nopen 1 at 1\nline 5: busy\nline 6: session\nline 7: session\n",
-)];
-
-#[test]
-fn lines_are_numbered_bad_ones_too(rt: HostRuntime) {
-    write_what_is_wanted(&rt, rt.alloc(), &NUMBERED);
-}
-
-const AT_ITS_OPENING: [Row; 1] = [(
-    b"open 1\ninsert 5 \xc3\xa9 x\ncommit 1\nget 1 5\nopen 2\nget 2 5\nopen 3\nopen 1\nclose 1\nopen 3\n",
-    "open 1 at 0\nstaged 1\nok 1 inserted\nnone\nopen 2 at 1\nsome \u{e9} x\nnoplace\nline 8: busy\nclosed 1\nopen 3 at 1\n",
-)];
-
-#[test]
-fn a_session_reads_the_list_at_its_opening(rt: HostRuntime) {
-    write_what_is_wanted(&rt, rt.alloc(), &AT_ITS_OPENING);
-}
-
-const RECLAIMED: [Row; 2] = [
-    (
-        b"slots\ncommit -\nreclaim\nslots\n",
-        "slots 1\nok 1\nreclaimed\nslots 1\n",
-    ),
-    (
-        b"insert 1 a\ncommit -\ninsert 2 b\ncommit -\nslots\nreclaim\nslots\n",
-        "staged 1\nok 1 inserted\nstaged 1\nok 2 inserted\nslots 5\nreclaimed\nslots 2\n",
-    ),
-];
-
-#[test]
-fn slots_of_former_lists_are_reclaimed(rt: HostRuntime) {
-    write_what_is_wanted(&rt, rt.alloc(), &RECLAIMED);
-}
-
-const NUMBER_AND_LENGTH: [Row; 1] = [(
-    b"insert 1 a\ninsert 2 b\ncommit -\nopen 7\nclear\ncommit 7\nopen 8\nlen 7\nnumber 7\nlen 8\nnumber 8\nlen 9\nnumber 9\n",
-    "staged 1\nstaged 2\nok 1 inserted inserted\nopen 7 at 1\nstaged 1\nok 2 cleared\nopen 8 at 2\nlen 2\nnumber 1\nlen 0\nnumber 2\nline 12: session\nline 13: session\n",
-)];
-
-#[test]
-fn a_session_tells_its_number_and_its_length(rt: HostRuntime) {
-    write_what_is_wanted(&rt, rt.alloc(), &NUMBER_AND_LENGTH);
-}
-
-const EACH_KIND: [Row; 1] = [(
-    b"upsert 2 a b\nupsert 2 c\nremove 4\ncommit -\nopen 1\nget 1 2\nremove 2\ncommit 1\nclear\ncommit -\n",
-    "staged 1\nstaged 2\nstaged 3\nok 1 upserted upserted absent\nopen 1 at 1\nsome c\nstaged 1\nok 2 removed\nstaged 1\nok 3 cleared\n",
-)];
-
-#[test]
-fn writes_of_each_kind_are_staged(rt: HostRuntime) {
-    write_what_is_wanted(&rt, rt.alloc(), &EACH_KIND);
-}
-
-const STAGED: [Row; 1] = [(
-    b"insert 1 a\ncommit 9\ninsert 2 b\ncommit -\ncommit -\ninsert 1 c\ncommit -\n",
-    "staged 1\nline 2: session\nstaged 2\nok 1 inserted inserted\nok 2\nstaged 1\nok 3 duplicate\n",
-)];
-
-#[test]
-fn an_accepted_commit_takes_the_staged_writes_and_no_other(rt: HostRuntime) {
-    write_what_is_wanted(&rt, rt.alloc(), &STAGED);
 }
 
 const FIVE: &[u8] =
@@ -344,24 +285,8 @@ fn each_cause_of_a_refusal_has_a_word(rt: HostRuntime) -> Result<(), Fail> {
     Ok(())
 }
 
-// A line `insert 1 ` with a value of this many bytes, and a short one behind it.
-fn long_line(alloc: Global, value: usize) -> Result<Vec<u8>, RunError> {
-    let mut input = Vec::from_elem(alloc, b'v', value).map_err(|_| RunError::Memory)?;
-    let mut script = Vec::new(alloc);
-    for part in [
-        b"insert 1 ".as_slice(),
-        input.as_slice(),
-        b"\ncommit -\n".as_slice(),
-    ] {
-        script
-            .extend_from_slice(part)
-            .map_err(|_| RunError::Memory)?;
-    }
-    input.clear();
-    output(alloc, script.as_slice())
-}
-
-// How many bytes a value has, and what is answered then: with ten bytes more, the line is too long from the second one on.
+// How many bytes the value of an insert has, and what is answered then, and to a commit behind it: with ten bytes more, the line
+// is too long from the second one on.
 const LONG: [(usize, &str); 3] = [
     (65_527, "staged 1\nok 1 inserted\n"),
     (65_528, "line 1: long\nok 1\n"),
@@ -371,8 +296,10 @@ const LONG: [(usize, &str); 3] = [
 #[test]
 fn a_line_has_at_most_65_536_bytes(rt: HostRuntime) {
     for (value, told) in LONG {
-        let out = long_line(rt.alloc(), value).expect(&rt, "a run to its end");
-        assert_eq!(rt; text_of(&out), told, "{value} bytes");
+        let value = Vec::from_elem(rt.alloc(), b'v', value).expect(&rt, "memory");
+        let parts = [b"insert 1 ".as_slice(), value.as_slice(), b"\ncommit -\n"];
+        let out = output_of(rt.alloc(), &parts).expect(&rt, "a run to its end");
+        assert_eq!(rt; text_of(&out), told);
     }
     assert_eq!(rt; LONGEST, 65_536);
 }
@@ -382,21 +309,25 @@ const SECOND_REPLIES: &[usize] = &[9, 9, 24, 12, 9, 16, 9];
 
 #[test]
 fn a_failed_read_drops_the_begun_line(rt: HostRuntime) {
+    let second = (SECOND, SECOND_OUTPUT);
     for kind in [io::ErrorKind::Other, io::ErrorKind::Interrupted] {
-        fails_anywhere(
-            &rt,
-            rt.alloc(),
-            (SECOND, SECOND_OUTPUT),
-            SECOND_REPLIES,
-            kind,
-        );
+        fails_anywhere(&rt, rt.alloc(), second, SECOND_REPLIES, kind);
     }
+    let reads = (READS, READS_OUTPUT);
+    fails_anywhere(&rt, rt.alloc(), reads, REPLIES, io::ErrorKind::Other);
 }
+
+// Scripts, and whether a write fails, or takes nothing.
+const FALTERS: &[(Row, bool)] = &[
+    ((SECOND, SECOND_OUTPUT), false),
+    ((SECOND, SECOND_OUTPUT), true),
+    ((READS, READS_OUTPUT), true),
+];
 
 #[test]
 fn a_failed_write_leaves_a_beginning_of_the_output(rt: HostRuntime) {
-    for is_error in [false, true] {
-        falters_anywhere(&rt, rt.alloc(), (SECOND, SECOND_OUTPUT), is_error);
+    for (row, is_error) in FALTERS {
+        falters_anywhere(&rt, rt.alloc(), *row, *is_error);
     }
 }
 

@@ -1,14 +1,8 @@
 //! Scripts that read and record, delete, discard and audit.
 
-use crate::streams::{
-    Row, fails_anywhere, falters_anywhere, is_cut_anywhere, output, text_of, write_what_is_wanted,
-};
+use crate::streams::{Row, output_of, text_of, write_what_is_wanted};
 use index_script::reply::write_reply;
-use index_script::run::RunError;
 use local_index::{Audit, DeskReply};
-use std::alloc::Global;
-use std::io;
-use std::process::Abort;
 use std::test::Fail;
 
 // Sessions that read ranges and neighbours, a commit that conflicts, and lines at fault.
@@ -18,18 +12,13 @@ pub(crate) const READS: &[u8] =
 pub(crate) const READS_OUTPUT: &str =
     "staged 1\nstaged 2\nok 1 upserted upserted\nopen 1 at 1\npairs 1\n4 c\nbetween\n2 a b\n4 c\nstaged 1\nok 2 removed\nstaged 1\nconflict 0\ndiscarded 1\naudit yes\nlen 2\nline 14: busy\nline 15: number\nline 16: bound\n";
 
-#[test]
-fn a_script_reads_conflicts_and_audits(rt: HostRuntime) {
-    write_what_is_wanted(&rt, rt.alloc(), &[(READS, READS_OUTPUT)]);
-}
+// How many bytes the reply to each line has.
+pub(crate) const REPLIES: &[usize] = &[9, 9, 23, 12, 12, 18, 9, 13, 9, 11, 12, 10, 6, 14, 16, 15];
 
-#[test]
-fn the_cut_of_a_longer_input_changes_nothing(rt: HostRuntime) {
-    is_cut_anywhere(&rt, rt.alloc(), (READS, READS_OUTPUT));
-}
-
-// The list of number 2 becomes the base, while a session reads that of number 1.
-const CHECKPOINTS: &[Row] = &[
+const SCRIPTS: &[Row] = &[
+    // a script reads, conflicts and audits
+    (READS, READS_OUTPUT),
+    // the list of number 2 becomes the base, while a session reads that of number 1
     (
         b"upsert 1 a\ncommit -\nopen 5\nupsert 1 b\ncommit -\ncheckpoint 3\ncheckpoint 2\ncheckpoint 1\nget 5 1\naudit 5\ncommit 5\ncheckpoint x\n",
         "staged 1\nok 1 upserted\nopen 5 at 1\nstaged 1\nok 2 upserted\nahead 2\ncheckpoint 2\nbehind 2\nsome a\naudit old\nconflict 0\nline 12: number\n",
@@ -38,45 +27,50 @@ const CHECKPOINTS: &[Row] = &[
         b"upsert 1 a\ncommit -\ncheckpoint 1\ncheckpoint 1\nopen 5\nget 5 1\naudit 5\nslots\ncommit 5\ncheckpoint 2\naudit 5\n",
         "staged 1\nok 1 upserted\ncheckpoint 1\ncheckpoint 1\nopen 5 at 1\nsome a\naudit yes\nslots 3\nok 2\ncheckpoint 2\naudit old\n",
     ),
+    // a key is there or not
+    (
+        b"insert 1 a\ncommit -\nopen 7\nhas 7 1\nhas 7 2\nhas 9 1\n",
+        "staged 1\nok 1 inserted\nopen 7 at 1\nyes\nno\nline 6: session\n",
+    ),
+    // the nearest pairs are told by rising keys
+    (
+        b"open 0\nnear 0 4\nupsert 3 x\nupsert 5 y z\ncommit -\nopen 1\nnear 1 3\nnear 1 4\nnear 1 9\nnear 1 0\nnear 0 3\n",
+        "open 0 at 0\nempty\nstaged 1\nstaged 2\nok 1 upserted upserted\nopen 1 at 1\nexact\n3 x\nbetween\n3 x\n5 y z\nsmaller\n5 y z\nlarger\n3 x\nempty\n",
+    ),
+    // a deletion leaves the pairs outside its bounds
+    (
+        b"insert 1 a\ninsert 2 b\ninsert 3 c\ninsert 4 d\ncommit -\ndelete =2 !4\ndelete =4 =1\ncommit -\nopen 7\nrange 7 * *\ndelete * *\ncommit -\nopen 8\nlen 8\n",
+        "staged 1\nstaged 2\nstaged 3\nstaged 4\nok 1 inserted inserted inserted inserted\nstaged 1\nstaged 2\nok 2 deleted deleted\nopen 7 at 2\npairs 2\n1 a\n4 d\nstaged 1\nok 3 deleted\nopen 8 at 3\nlen 0\n",
+    ),
+    // a commit conflicts with the first read that no longer holds
+    (
+        b"open 1\nget 1 5\nhas 1 6\nrange 1 =6 *\nnear 1 6\nupsert 5 a\ncommit 1\nget 1 5\ncommit 1\n",
+        "open 1 at 0\nnone\nno\npairs 0\nempty\nstaged 1\nok 1 upserted\nnone\nconflict 0\n",
+    ),
+    (
+        b"open 1\nget 1 5\nhas 1 6\nrange 1 * *\nnear 1 6\nupsert 6 a\ncommit -\ncommit 1\nopen 2\nnear 2 6\nupsert 6 b\ncommit -\nremove 6\ncommit 2\n",
+        "open 1 at 0\nnone\nno\npairs 0\nempty\nstaged 1\nok 1 upserted\nconflict 1\nopen 2 at 1\nexact\n6 a\nstaged 1\nok 2 upserted\nstaged 1\nconflict 0\n",
+    ),
+    // a read that holds again is no conflict
+    (
+        b"upsert 1 a\ncommit -\nopen 7\nget 7 1\nget 9 2\nupsert 1 b\ncommit -\nupsert 1 a\ncommit -\nupsert 2 c\ncommit 7\n",
+        "staged 1\nok 1 upserted\nopen 7 at 1\nsome a\nline 5: session\nstaged 1\nok 2 upserted\nstaged 1\nok 3 upserted\nstaged 1\nok 4 upserted\n",
+    ),
+    // what is discarded is not committed
+    (
+        b"discard\ninsert 1 a\ndelete * *\ndiscard\ncommit -\ninsert 1 b\ncommit -\ndiscard\n",
+        "discarded 0\nstaged 1\nstaged 2\ndiscarded 2\nok 1\nstaged 1\nok 2 inserted\ndiscarded 0\n",
+    ),
+    // a session audits what it read
+    (
+        b"open 7\naudit 7\nget 7 1\nhas 7 1\nrange 7 * *\nnear 7 1\ninsert 1 a\ncommit 7\naudit 7\naudit 9\nclose 7\naudit 7\n",
+        "open 7 at 0\naudit yes\nnone\nno\npairs 0\nempty\nstaged 1\nok 1 inserted\naudit yes\nline 10: session\nclosed 7\nline 12: session\n",
+    ),
 ];
 
 #[test]
-fn a_checkpoint_drops_what_came_before(rt: HostRuntime) {
-    write_what_is_wanted(&rt, rt.alloc(), CHECKPOINTS);
-}
-
-// How many bytes the reply to each line has.
-const REPLIES: &[usize] = &[9, 9, 23, 12, 12, 18, 9, 13, 9, 11, 12, 10, 6, 14, 16, 15];
-
-#[test]
-fn a_failed_read_of_a_longer_input_drops_the_begun_line(rt: HostRuntime) {
-    let kind = io::ErrorKind::Other;
-    fails_anywhere(&rt, rt.alloc(), (READS, READS_OUTPUT), REPLIES, kind);
-}
-
-#[test]
-fn a_failed_write_leaves_a_beginning_of_a_longer_output(rt: HostRuntime) {
-    falters_anywhere(&rt, rt.alloc(), (READS, READS_OUTPUT), true);
-}
-
-const HAS: [Row; 1] = [(
-    b"insert 1 a\ncommit -\nopen 7\nhas 7 1\nhas 7 2\nhas 9 1\n",
-    "staged 1\nok 1 inserted\nopen 7 at 1\nyes\nno\nline 6: session\n",
-)];
-
-#[test]
-fn a_key_is_there_or_not(rt: HostRuntime) {
-    write_what_is_wanted(&rt, rt.alloc(), &HAS);
-}
-
-const NEAR: [Row; 1] = [(
-    b"open 0\nnear 0 4\nupsert 3 x\nupsert 5 y z\ncommit -\nopen 1\nnear 1 3\nnear 1 4\nnear 1 9\nnear 1 0\nnear 0 3\n",
-    "open 0 at 0\nempty\nstaged 1\nstaged 2\nok 1 upserted upserted\nopen 1 at 1\nexact\n3 x\nbetween\n3 x\n5 y z\nsmaller\n5 y z\nlarger\n3 x\nempty\n",
-)];
-
-#[test]
-fn the_nearest_pairs_are_told_by_rising_keys(rt: HostRuntime) {
-    write_what_is_wanted(&rt, rt.alloc(), &NEAR);
+fn scripts_read_delete_discard_and_audit(rt: HostRuntime) {
+    write_what_is_wanted(&rt, rt.alloc(), SCRIPTS);
 }
 
 // Inserts three pairs, and asks for a range of them.
@@ -96,83 +90,16 @@ const RANGES: [Row; 8] = [
     (b"!1 =18446744073709551615", "pairs 2\n2 b\n3 c\n"),
 ];
 
-// What is written where a range is asked for by these bounds.
-fn range_of(alloc: Global, bounds: &[u8]) -> Result<Vec<u8>, RunError> {
-    let mut script = Vec::new(alloc);
-    for part in [ASKS, bounds] {
-        script
-            .extend_from_slice(part)
-            .map_err(|_| RunError::Memory)?;
-    }
-    output(alloc, &script)
-}
-
 #[test]
 fn a_range_has_the_pairs_within_its_bounds(rt: HostRuntime) {
     for (bounds, told) in RANGES {
-        let out = range_of(rt.alloc(), bounds).expect(&rt, "a run to its end");
+        let out = output_of(rt.alloc(), &[ASKS, bounds]).expect(&rt, "a run to its end");
         assert_eq!(rt;
             text_of(&out).strip_prefix(BEFORE),
             Some(told),
             "{bounds:?}"
         );
     }
-}
-
-const DELETED: [Row; 1] = [(
-    b"insert 1 a\ninsert 2 b\ninsert 3 c\ninsert 4 d\ncommit -\ndelete =2 !4\ndelete =4 =1\ncommit -\nopen 7\nrange 7 * *\ndelete * *\ncommit -\nopen 8\nlen 8\n",
-    "staged 1\nstaged 2\nstaged 3\nstaged 4\nok 1 inserted inserted inserted inserted\nstaged 1\nstaged 2\nok 2 deleted deleted\nopen 7 at 2\npairs 2\n1 a\n4 d\nstaged 1\nok 3 deleted\nopen 8 at 3\nlen 0\n",
-)];
-
-#[test]
-fn a_deletion_leaves_the_pairs_outside_its_bounds(rt: HostRuntime) {
-    write_what_is_wanted(&rt, rt.alloc(), &DELETED);
-}
-
-const CONFLICTS: [Row; 2] = [
-    (
-        b"open 1\nget 1 5\nhas 1 6\nrange 1 =6 *\nnear 1 6\nupsert 5 a\ncommit 1\nget 1 5\ncommit 1\n",
-        "open 1 at 0\nnone\nno\npairs 0\nempty\nstaged 1\nok 1 upserted\nnone\nconflict 0\n",
-    ),
-    (
-        b"open 1\nget 1 5\nhas 1 6\nrange 1 * *\nnear 1 6\nupsert 6 a\ncommit -\ncommit 1\nopen 2\nnear 2 6\nupsert 6 b\ncommit -\nremove 6\ncommit 2\n",
-        "open 1 at 0\nnone\nno\npairs 0\nempty\nstaged 1\nok 1 upserted\nconflict 1\nopen 2 at 1\nexact\n6 a\nstaged 1\nok 2 upserted\nstaged 1\nconflict 0\n",
-    ),
-];
-
-#[test]
-fn a_commit_conflicts_with_the_first_read_that_no_longer_holds(rt: HostRuntime) {
-    write_what_is_wanted(&rt, rt.alloc(), &CONFLICTS);
-}
-
-const HOLDS_AGAIN: [Row; 1] = [(
-    b"upsert 1 a\ncommit -\nopen 7\nget 7 1\nget 9 2\nupsert 1 b\ncommit -\nupsert 1 a\ncommit -\nupsert 2 c\ncommit 7\n",
-    "staged 1\nok 1 upserted\nopen 7 at 1\nsome a\nline 5: session\nstaged 1\nok 2 upserted\nstaged 1\nok 3 upserted\nstaged 1\nok 4 upserted\n",
-)];
-
-#[test]
-fn a_read_that_holds_again_is_no_conflict(rt: HostRuntime) {
-    write_what_is_wanted(&rt, rt.alloc(), &HOLDS_AGAIN);
-}
-
-const DISCARDED: [Row; 1] = [(
-    b"discard\ninsert 1 a\ndelete * *\ndiscard\ncommit -\ninsert 1 b\ncommit -\ndiscard\n",
-    "discarded 0\nstaged 1\nstaged 2\ndiscarded 2\nok 1\nstaged 1\nok 2 inserted\ndiscarded 0\n",
-)];
-
-#[test]
-fn what_is_discarded_is_not_committed(rt: HostRuntime) {
-    write_what_is_wanted(&rt, rt.alloc(), &DISCARDED);
-}
-
-const AUDITED: [Row; 1] = [(
-    b"open 7\naudit 7\nget 7 1\nhas 7 1\nrange 7 * *\nnear 7 1\ninsert 1 a\ncommit 7\naudit 7\naudit 9\nclose 7\naudit 7\n",
-    "open 7 at 0\naudit yes\nnone\nno\npairs 0\nempty\nstaged 1\nok 1 inserted\naudit yes\nline 10: session\nclosed 7\nline 12: session\n",
-)];
-
-#[test]
-fn a_session_audits_what_it_read(rt: HostRuntime) {
-    write_what_is_wanted(&rt, rt.alloc(), &AUDITED);
 }
 
 // No script meets the second and the third of them.

@@ -113,6 +113,17 @@ pub fn output(alloc: Global, input: &[u8]) -> Result<Vec<u8>, RunError> {
     Ok(out)
 }
 
+/// What a script writes that consists of these parts.
+pub fn output_of(alloc: Global, parts: &[&[u8]]) -> Result<Vec<u8>, RunError> {
+    let mut script = Vec::new(alloc);
+    for part in parts {
+        if script.extend_from_slice(part).is_err() {
+            return Err(RunError::Memory);
+        }
+    }
+    output(alloc, &script)
+}
+
 /// Gives its bytes up to a cut, and then the others.
 #[derive(Drop)]
 pub struct Cut {
