@@ -225,54 +225,19 @@ fn full_array<'c>(count: &'c Cell<u64>) -> Array<CountedKey<'c>, u64> {
     array
 }
 
-// Whether a tree has a number, and how many comparisons that takes.
-fn in_tree<'c>(
-    tree: &TreeIndex<CountedKey<'c>, u64>,
-    count: &'c Cell<u64>,
-    number: u64,
-) -> (bool, u64) {
-    let mut steps = Steps::new();
-    count.set(0);
-    let found = tree
-        .peek_entry_counted(&CountedKey { number, count }, &mut steps)
-        .is_some();
-    (found, count.get())
-}
-
-// Whether an array has a number, and the comparisons made.
-fn in_array<'c>(
-    array: &Array<CountedKey<'c>, u64>,
-    count: &'c Cell<u64>,
-    number: u64,
-) -> (bool, u64) {
-    let mut steps = Steps::new();
-    count.set(0);
-    let found = array
-        .search_entry_counted(&CountedKey { number, count }, &mut steps)
-        .is_some();
-    (found, count.get())
-}
-
-// Whether an array has a number that is no smaller, and the comparisons made.
-fn from_in_array<'c>(
-    array: &Array<CountedKey<'c>, u64>,
-    count: &'c Cell<u64>,
-    number: u64,
-) -> (bool, u64) {
-    let mut steps = Steps::new();
-    count.set(0);
-    let (least, _) = array.min_greater_equal_counted(&CountedKey { number, count }, &mut steps);
-    (least.is_some(), count.get())
-}
-
 // Whether each look-up in a tree of 225 keys answers what is there, by at most 30 comparisons.
 fn tree_is_looked_up(alloc: Global) -> bool {
     let count = Cell::new(0u64);
     let tree = flat_tree(alloc, &count);
     let mut right = tree.len() == 225;
     for number in 0..=226u64 {
-        let (found, made) = in_tree(&tree, &count, number);
-        right = right && found == (1 <= number && number <= 225) && made <= 30;
+        let key = CountedKey {
+            number,
+            count: &count,
+        };
+        count.set(0);
+        let found = tree.peek_entry_counted(&key, &mut Steps::new()).is_some();
+        right = right && found == (1 <= number && number <= 225) && count.get() <= 30;
     }
     right
 }
@@ -283,10 +248,18 @@ fn array_is_looked_up() -> bool {
     let array = full_array(&count);
     let mut right = array.len() == 15;
     for number in 0..=226u64 {
-        let (found, made) = in_array(&array, &count, number);
-        right = right && found == (1 <= number && number <= 15) && made <= 15;
-        let (least, made) = from_in_array(&array, &count, number);
-        right = right && least == (number <= 15) && made <= 15;
+        let key = CountedKey {
+            number,
+            count: &count,
+        };
+        count.set(0);
+        let found = array
+            .search_entry_counted(&key, &mut Steps::new())
+            .is_some();
+        right = right && found == (1 <= number && number <= 15) && count.get() <= 15;
+        count.set(0);
+        let (least, _) = array.min_greater_equal_counted(&key, &mut Steps::new());
+        right = right && least.is_some() == (number <= 15) && count.get() <= 15;
     }
     right
 }

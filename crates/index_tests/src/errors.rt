@@ -1,6 +1,6 @@
 //! What refusals say, and where `?` takes them.
 
-use crate::scene::Scene;
+use crate::scene::{Numbers, Scene};
 use local_index::{
     Cause, CheckpointRefused, DeskCall, DeskRefused, LocalIndex, NoPlace, PastRefused, ReadSet,
     Receipt, Refused, ScopedIndex, SinceRefused, Write,
@@ -25,55 +25,49 @@ enum Failure {
     Refused(#[from] Refused<u64, u64>),
 }
 
-// Whether a value says this.
-fn says<T: fmt::Display>(alloc: Global, value: &T, wanted: &str) -> Result<bool, AllocError> {
-    Ok(format!(in alloc; "{value}")?.as_str() == wanted)
-}
-
-const CAUSES: &[(Cause, &str)] = &[
-    (Cause::Conflict(2), "read 2 no longer holds"),
-    (Cause::Exhausted, "the last number is reached"),
-    (Cause::Memory, "memory was refused"),
-    (Cause::NoSlot, "too few slots are free"),
-];
-
 const REFUSED: &str = "the commit was refused: the last number is reached; the index is as it was";
 
 const NO_PLACE: &str = "no place is free for a session; the index is as it was";
 
-// How many texts are as they should be.
-fn said(alloc: Global) -> Result<usize, AllocError> {
-    let mut right = 0usize;
-    for (cause, wanted) in CAUSES {
-        if says(alloc, cause, wanted)? {
-            right = right.saturating_add(1);
-        }
-    }
-    let writes: Vec<Write<u64, u64>> = Vec::new(alloc);
-    let refused = Refused {
-        cause: Cause::Exhausted,
-        writes,
-    };
-    if says(alloc, &refused, REFUSED)? && says(alloc, &NoPlace, NO_PLACE)? {
-        right = right.saturating_add(1);
-    }
-    Ok(right)
+// What the causes of a refused commit say.
+fn said_of_causes(alloc: Global) -> Result<String, AllocError> {
+    let (conflict, last) = (Cause::Conflict(2), Cause::Exhausted);
+    let (memory, slot) = (Cause::Memory, Cause::NoSlot);
+    format!(in alloc; "{conflict}|{last}|{memory}|{slot}")
 }
 
-#[test]
-fn refusals_say_what_stands_after_them(rt: HostRuntime) -> Result<(), Fail> {
-    assert_eq!(rt; said(rt.alloc())?, 5);
-    Ok(())
+const CAUSES: &str = "read 2 no longer holds\
+    |the last number is reached\
+    |memory was refused\
+    |too few slots are free";
+
+// What is said where a commit is refused, and a session, and where no store is made, and where a desk commits in vain.
+fn said_of_calls(alloc: Global) -> Result<String, AllocError> {
+    let (cause, place) = (Cause::Exhausted, NoPlace);
+    let refused = Refused::<u64, u64> {
+        cause,
+        writes: Vec::new(alloc),
+    };
+    let desk = DeskRefused::from(Refused::<u64, u64> {
+        cause,
+        writes: Vec::new(alloc),
+    });
+    let (memory, slot) = (StoreRefused::Memory, StoreRefused::NoSlot);
+    format!(in alloc; "{refused}|{place}|{memory}|{slot}|{desk}")
 }
+
+const CALLS: &str = "the commit was refused: the last number is reached; the index is as it was\
+    |no place is free for a session; the index is as it was\
+    |memory was refused; there is no store\
+    |the version takes more slots; there is no store\
+    |the commit was refused: the last number is reached; the index is as it was";
 
 // What a refused checkpoint says, and refused reads of older numbers.
 fn said_of_older(alloc: Global) -> Result<String, AllocError> {
     let (behind, ahead) = (CheckpointRefused::Behind(2), CheckpointRefused::Ahead(5));
     let (cut, old) = (CheckpointRefused::Memory, SinceRefused::TooOld(2));
-    let (outside, past) = (
-        PastRefused::from(SinceRefused::Ahead(5)),
-        PastRefused::Memory,
-    );
+    let outside = PastRefused::from(SinceRefused::Ahead(5));
+    let past = PastRefused::Memory;
     format!(in alloc; "{behind}|{ahead}|{cut}|{old}|{outside}|{past}")
 }
 
@@ -84,31 +78,16 @@ const OLDER: &str = "the history begins at number 2; the index is as it was\
     |the present number is 5; the index is as it was\
     |memory was refused; the index is as it was";
 
-// What is said where no store is made, and where a desk commits in vain.
-fn said_of_stores(alloc: Global) -> Result<String, AllocError> {
-    let (memory, slot) = (StoreRefused::Memory, StoreRefused::NoSlot);
-    let desk = DeskRefused::from(Refused::<u64, u64> {
-        cause: Cause::Exhausted,
-        writes: Vec::new(alloc),
-    });
-    format!(in alloc; "{memory}|{slot}|{desk}")
-}
-
-const STORES: &str = "memory was refused; there is no store\
-    |the version takes more slots; there is no store\
-    |the commit was refused: the last number is reached; the index is as it was";
-
 #[test]
-fn refusals_of_older_numbers_and_of_stores_say_what_stands_after_them(
-    rt: HostRuntime,
-) -> Result<(), Fail> {
+fn refusals_say_what_stands_after_them(rt: HostRuntime) -> Result<(), Fail> {
+    assert_eq!(rt; said_of_causes(rt.alloc())?.as_str(), CAUSES);
+    assert_eq!(rt; said_of_calls(rt.alloc())?.as_str(), CALLS);
     assert_eq!(rt; said_of_older(rt.alloc())?.as_str(), OLDER);
-    assert_eq!(rt; said_of_stores(rt.alloc())?.as_str(), STORES);
     Ok(())
 }
 
 // Commits, and reads then; or what refused it.
-fn use_own(index: &mut LocalIndex<u64, u64, 2>, alloc: Global) -> Result<usize, Failure> {
+fn use_own(index: &mut Numbers, alloc: Global) -> Result<usize, Failure> {
     let writes = vec![in alloc; Write::Insert(1, 10)]?;
     let _accepted = index.commit(&Receipt::blank(alloc), writes)?;
     let reading = index.reading()?;
@@ -116,18 +95,11 @@ fn use_own(index: &mut LocalIndex<u64, u64, 2>, alloc: Global) -> Result<usize, 
 }
 
 // The same, where any error serves.
-fn use_any(index: &mut LocalIndex<u64, u64, 2>, alloc: Global) -> anyhow::Result<usize> {
+fn use_any(index: &mut Numbers, alloc: Global) -> anyhow::Result<usize> {
     let writes = vec![in alloc; Write::Insert(1, 10)]?;
     let _accepted = index.commit(&Receipt::blank(alloc), writes)?;
     let reading = index.reading()?;
     Ok(reading.len())
-}
-
-// An index without places, up to a last number.
-fn scope_of<R: Abort>(rt: &R, alloc: Global, last: u64) -> ScopedIndex<u64, u64, 2> {
-    ScopedIndex {
-        index: LocalIndex::with_last(alloc, 0, 16, last).expect(rt, ROOM),
-    }
 }
 
 // What the error says.
@@ -147,9 +119,9 @@ fn message<R: Abort, T: Drop, E: fmt::Display + Drop>(
 fn refusals_go_into_errors_of_a_caller(rt: HostRuntime) {
     let alloc = rt.alloc();
     for (last, wanted) in [(0, REFUSED), (9, NO_PLACE)] {
-        let mut scope = scope_of(&rt, alloc, last);
+        let index = LocalIndex::with_last(alloc, 0, 16, last).expect(&rt, ROOM);
+        let mut scope = ScopedIndex { index };
         let own = message(&rt, alloc, use_own(&mut scope.index, alloc));
-        let mut scope = scope_of(&rt, alloc, last);
         let any = message(&rt, alloc, use_any(&mut scope.index, alloc));
         assert_eq!(rt; (own.as_str(), any.as_str()), (wanted, wanted));
     }

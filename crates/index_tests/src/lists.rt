@@ -131,18 +131,18 @@ impl Lists {
         Ok(match call {
             DeskCall::Open(label) => Some(self.wanted_of_open(*label)),
             DeskCall::Slots => Some(DeskReply::Slots(used)),
-            DeskCall::Audit(ReadSet::Receipt(receipt)) => {
-                Some(DeskReply::Audit(self.wanted_of_audit(alloc, receipt)?))
-            }
-            DeskCall::Audit(ReadSet::Empty) => Some(DeskReply::Audit(self.audit_of_own(0))),
-            DeskCall::Checkpoint(upto) => Some(self.wanted_of_checkpoint(*upto)),
-            DeskCall::Audit(ReadSet::Session(label))
-            | DeskCall::Close(label)
-            | DeskCall::Number(label)
-            | DeskCall::Len(label) => match self.session(*label) {
-                Some(session) => Some(self.wanted_of_session(session, call)?),
+            DeskCall::Audit(on) => match self.rested_on(on) {
+                Some((number, reads)) => {
+                    Some(DeskReply::Audit(self.wanted_of_audit(alloc, number, reads)?))
+                }
                 None => None,
             },
+            DeskCall::Checkpoint(upto) => Some(self.wanted_of_checkpoint(*upto)),
+            DeskCall::Close(label) | DeskCall::Number(label) | DeskCall::Len(label) =>
+                match self.session(*label) {
+                    Some(session) => Some(self.wanted_of_session(session, call)?),
+                    None => None,
+                },
             _ => self.wanted_of_read(alloc, call)?,
         })
     }
@@ -168,17 +168,23 @@ impl Lists {
                 reads: Seq::from_vec(session.reads.clone()?),
             }),
             DeskCall::Number(_) => DeskReply::Number(session.number),
-            DeskCall::Len(_) => DeskReply::Len(self.list(session.number).len()),
-            _ => DeskReply::Audit(self.audit_of_own(session.number)),
+            _ => DeskReply::Len(self.list(session.number).len()),
         })
     }
 
-    // What a session read itself holds of its list, if the index has that.
-    fn audit_of_own(&self, number: u64) -> Audit {
-        if number < self.base {
-            return Audit::TooOld(self.base);
+    // The number and the reads of a set, where a session has its label.
+    fn rested_on<'a>(
+        &'a self,
+        on: &'a ReadSet<u64, u64>,
+    ) -> Option<(u64, &'a [Recorded<u64, u64>])> {
+        match on {
+            ReadSet::Session(label) => match self.session(*label) {
+                Some(session) => Some((session.number, &session.reads)),
+                None => None,
+            },
+            ReadSet::Receipt(receipt) => Some((receipt.number, receipt.reads.as_slice())),
+            ReadSet::Empty => Some((0, &[])),
         }
-        Audit::Yes
     }
 
     fn wanted_of_checkpoint(&self, upto: u64) -> DeskReply<u64, u64> {
@@ -210,21 +216,19 @@ impl Lists {
     fn wanted_of_audit(
         &self,
         alloc: Global,
-        receipt: &Receipt<u64, u64>,
+        number: u64,
+        reads: &[Recorded<u64, u64>],
     ) -> Result<Audit, AllocError> {
-        let number = receipt.number;
         if number < self.base {
             return Ok(Audit::TooOld(self.base));
         }
         if number > self.number() {
             return Ok(Audit::Unknown);
         }
-        Ok(
-            match conflict(alloc, self.list(number), receipt.reads.as_slice())? {
-                Some(place) => Audit::No(place),
-                None => Audit::Yes,
-            },
-        )
+        Ok(match conflict(alloc, self.list(number), reads)? {
+            Some(place) => Audit::No(place),
+            None => Audit::Yes,
+        })
     }
 
     // Why a commit on these reads is refused, before its writes are made.
@@ -242,22 +246,6 @@ impl Lists {
         Ok(None)
     }
 
-    // The same of any set of reads. Where it is none, no session has the label.
-    fn cause(
-        &self,
-        alloc: Global,
-        on: &ReadSet<u64, u64>,
-    ) -> Result<Option<Option<Cause>>, AllocError> {
-        Ok(match on {
-            ReadSet::Session(label) => match self.session(*label) {
-                Some(session) => Some(self.cause_on(alloc, &session.reads)?),
-                None => None,
-            },
-            ReadSet::Receipt(receipt) => Some(self.cause_on(alloc, receipt.reads.as_slice())?),
-            ReadSet::Empty => Some(self.cause_on(alloc, &[])?),
-        })
-    }
-
     // A commit, where slots are free.
     fn turn_of_commit(
         &self,
@@ -267,12 +255,14 @@ impl Lists {
     ) -> Result<Turn, AllocError> {
         let (after, replies) = applied(alloc, self.list(self.number()), writes.as_slice())?;
         let number = self.number().saturating_add(1);
-        let wanted = match self.cause(alloc, &on)? {
-            Some(Some(cause)) => DeskReply::Refused(Refused {
-                cause,
-                writes: writes.clone()?,
-            }),
-            Some(None) => DeskReply::Accepted(Accepted { number, replies }),
+        let wanted = match self.rested_on(&on) {
+            Some((_, reads)) => match self.cause_on(alloc, reads)? {
+                Some(cause) => DeskReply::Refused(Refused {
+                    cause,
+                    writes: writes.clone()?,
+                }),
+                None => DeskReply::Accepted(Accepted { number, replies }),
+            },
             None => DeskReply::NoSession(writes.clone()?),
         };
         Ok(Turn {
@@ -331,19 +321,12 @@ impl Lists {
                 Ok(())
             }
             (_, DeskReply::Checkpointed(number)) => {
-                self.rebase(*number);
+                self.meets(if *number > self.base { BASED } else { 0 });
+                self.base = *number;
                 Ok(())
             }
             _ => Ok(()),
         }
-    }
-
-    // The list of a number is the base.
-    fn rebase(&mut self, number: u64) {
-        if number > self.base {
-            self.meets(BASED);
-        }
-        self.base = number;
     }
 
     // A session opens on the present list.

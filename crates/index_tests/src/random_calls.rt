@@ -7,7 +7,7 @@ use crate::room::Room;
 use crate::scene::Scene;
 use crate::table::read_of;
 use leaf_array::plain::find_value;
-use local_index::{DeskCall, DeskReply, ReadSet, Receipt};
+use local_index::{DeskCall, DeskReply, ReadSet};
 use std::alloc::{AllocError, Global};
 use std::process::Abort;
 
@@ -47,6 +47,16 @@ const NEAR_THE_LAST: Start = Start {
     last: u64::MAX,
 };
 
+// The slots of an index, where this many were in use before a call.
+fn room_of<const S: usize>(scene: &Scene<S>, slots: usize, before: usize) -> Room {
+    Room {
+        slots,
+        segment: S,
+        before,
+        after: scene.index.slots_in_use(),
+    }
+}
+
 // Makes one call on an index, as a list of one: its only reply, and the slots in use.
 fn replied<const S: usize>(
     scene: &mut Scene<S>,
@@ -58,14 +68,8 @@ fn replied<const S: usize>(
     let Ok(mut replies) = scene.replies(calls) else {
         return Err(AllocError);
     };
-    let room = Room {
-        slots,
-        segment: S,
-        before,
-        after: scene.index.slots_in_use(),
-    };
     match replies.pop() {
-        Some(reply) if replies.is_empty() => Ok((reply, room)),
+        Some(reply) if replies.is_empty() => Ok((reply, room_of(scene, slots, before))),
         _ => Err(AllocError),
     }
 }
@@ -95,18 +99,6 @@ fn is_based<const S: usize>(scene: &Scene<S>, lists: &Lists) -> bool {
     number == lists.base
         && pairs == lists.list(lists.base)
         && lists.base.saturating_add(behind as u64) == lists.number()
-}
-
-// Reclaims, and returns whether that leaves as few slots in use as it has to.
-fn reclaim<const S: usize>(scene: &mut Scene<S>, lists: &Lists) -> bool {
-    let before = scene.index.slots_in_use();
-    scene.index.reclaim();
-    lists.is_reclaimed(&Room {
-        slots: 0,
-        segment: S,
-        before,
-        after: scene.index.slots_in_use(),
-    })
 }
 
 // Whether the session with the label has this list with this number, all keys of it.
@@ -174,20 +166,8 @@ fn thrown_on_a_receipt(
     }
 }
 
-// A receipt of any number from two below the first one on, up to one that no list has yet.
-fn thrown_receipt(
-    alloc: Global,
-    dice: &mut Dice,
-    lists: &Lists,
-) -> Result<Receipt<u64, u64>, AllocError> {
-    let lowest = lists.start.number.saturating_sub(2);
-    let count = lists.number().saturating_sub(lowest).saturating_add(1);
-    let number = lowest.saturating_add(dice.throw(count));
-    dice.receipt(alloc, lists.list(number), number)
-}
-
-// A checkpoint at the base, behind it, or up to two numbers above it; or an audit of a receipt of any number, most of whose
-// answers are those of a list.
+// A checkpoint at the base, behind it, or up to two numbers above it; or an audit of a receipt, most of whose answers are those of
+// a list. Its number is any from two below the first one on, up to one that no list has yet.
 fn thrown_on_a_base(
     alloc: Global,
     dice: &mut Dice,
@@ -197,7 +177,10 @@ fn thrown_on_a_base(
         let upto = lists.base.saturating_add(dice.throw(4));
         return Ok(DeskCall::Checkpoint(upto.saturating_sub(1)));
     }
-    let receipt = thrown_receipt(alloc, dice, lists)?;
+    let lowest = lists.start.number.saturating_sub(2);
+    let count = lists.number().saturating_sub(lowest).saturating_add(1);
+    let number = lowest.saturating_add(dice.throw(count));
+    let receipt = dice.receipt(alloc, lists.list(number), number)?;
     Ok(DeskCall::Audit(ReadSet::Receipt(receipt)))
 }
 
@@ -235,7 +218,11 @@ fn step<const S: usize>(
     let label = dice.throw(LABELS);
     match thrown_by(scene.alloc, dice, lists, label)? {
         Thrown::Look => Ok(look(scene, lists, label, dice.keys)),
-        Thrown::Reclaim => Ok(reclaim(scene, lists)),
+        Thrown::Reclaim => {
+            let before = scene.index.slots_in_use();
+            scene.index.reclaim();
+            Ok(lists.is_reclaimed(&room_of(scene, slots, before)))
+        }
         Thrown::Play(call) => play(scene, lists, slots, call),
     }
 }
@@ -257,19 +244,6 @@ fn steps<const S: usize>(
     Ok((ROUNDS, lists.met))
 }
 
-// An index that begins so, with this many slots.
-fn scene_of<R: Abort, const S: usize>(
-    rt: &R,
-    alloc: Global,
-    start: Start,
-    slots: usize,
-) -> Scene<S> {
-    match start.number {
-        0 => Scene::new(rt, alloc, PLACES, slots, start.last),
-        number => Scene::holding(rt, alloc, (PLACES, slots), number, start.pairs),
-    }
-}
-
 // Makes many calls on an index that begins so, with this many slots.
 fn plays<R: Abort, const S: usize>(
     rt: &R,
@@ -278,7 +252,10 @@ fn plays<R: Abort, const S: usize>(
     slots: usize,
     thrown: Dice,
 ) -> Result<(usize, u32), AllocError> {
-    let mut scene = scene_of::<_, S>(rt, alloc, start, slots);
+    let mut scene = match start.number {
+        0 => Scene::<S>::new(rt, alloc, PLACES, slots, start.last),
+        number => Scene::holding(rt, alloc, (PLACES, slots), number, start.pairs),
+    };
     let found = steps(&mut scene, start, thrown, slots);
     scene.end(rt);
     found

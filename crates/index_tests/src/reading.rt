@@ -2,33 +2,33 @@
 
 ghost use Rattle.std.specs.Prelude.{◌≡◌};
 
-use local_index::{
-    Answer, Audit, LocalIndex, Near, Nearby, NoPlace, Query, Reading, Receipt, Recorded,
-    ScopedIndex, Seq, Write,
-};
+use crate::scene::{Numbers, Reader};
+use crate::table::Claim::{Between, Got};
+use index_rows::receipt;
+use local_index::{Audit, Nearby, NoPlace, Query, Receipt, ScopedIndex, Write};
 use std::alloc::{AllocError, Global};
 use std::ops::Bound;
 use std::process::Abort;
 
 const ROOM: &str = "memory";
 
-// An index of numbers, with two pairs in a segment.
-type Numbers = LocalIndex<u64, u64, 2>;
-
-type Reader<'a> = Reading<'a, u64, u64, 2>;
-
-// Commits inserts of three pairs.
-fn fill<R: Abort>(rt: &R, alloc: Global, index: &mut Numbers) {
+// An index of three pairs, with this many places.
+fn filled<R: Abort>(rt: &R, alloc: Global, places: usize) -> ScopedIndex<u64, u64, 2> {
+    if places > 2 {
+        panic!(rt; "a small index");
+    }
+    let mut scope = ScopedIndex::new(alloc, places, 16).expect(rt, ROOM);
     let writes = vec![in alloc;
         Write::Insert(1, 10),
         Write::Insert(3, 30),
         Write::Insert(5, 50),
     ]
     .expect(rt, ROOM);
-    match index.commit(&Receipt::blank(alloc), writes) {
+    match scope.index.commit(&Receipt::blank(alloc), writes) {
         Ok(accepted) => assert!(rt; accepted.number == 1),
         Err(_) => panic!(rt; "it was refused"),
     }
+    scope
 }
 
 // What look-ups of a reader find: its number, how many pairs there are, whether two keys are there, and the value of one.
@@ -68,9 +68,7 @@ fn stands_between(reading: &Reader<'_>, key: u64) -> Option<(u64, u64)> {
 
 #[test]
 fn a_reader_reads_the_present_list(rt: HostRuntime) {
-    let alloc = rt.alloc();
-    let mut scope = ScopedIndex::new(alloc, 1, 16).expect(&rt, ROOM);
-    fill(&rt, alloc, &mut scope.index);
+    let mut scope = filled(&rt, rt.alloc(), 1);
     match scope.index.reading() {
         Ok(reading) => {
             assert!(rt; looked_up(&reading) == (1, 3, true, false, Some(50)));
@@ -91,36 +89,17 @@ fn recorded(
     Ok((receipt, reading.take_receipt()))
 }
 
-// The receipts that are wanted.
-fn wanted(alloc: Global) -> Result<(Receipt<u64, u64>, Receipt<u64, u64>), AllocError> {
-    let reads: Vec<Recorded<u64, u64>> = vec![in alloc;
-        (Query::Get(1), Answer::Get(Some(10))),
-        (
-            Query::Locate(2),
-            Answer::Locate(Near::Between(1, 10, 3, 30))
-        ),
-    ]?;
-    let full = Receipt {
-        number: 1,
-        reads: Seq::from_vec(reads),
-    };
-    let blank = Receipt {
-        number: 1,
-        reads: Seq::new(alloc),
-    };
-    Ok((full, blank))
-}
-
 #[test]
 fn a_reader_gives_a_receipt_of_what_it_recorded(rt: HostRuntime) {
     let alloc = rt.alloc();
-    let mut scope = ScopedIndex::new(alloc, 1, 16).expect(&rt, ROOM);
-    fill(&rt, alloc, &mut scope.index);
+    let mut scope = filled(&rt, alloc, 1);
     let told = match scope.index.reading() {
         Ok(mut reading) => recorded(&mut reading).expect(&rt, ROOM),
         Err(NoPlace) => panic!(rt; "a place is free"),
     };
-    assert!(rt; told == wanted(alloc).expect(&rt, ROOM));
+    let reads = receipt(alloc, 1, &[Got(1, Some(10)), Between(2, (1, 10), (3, 30))]);
+    assert!(rt; told.0 == reads.expect(&rt, ROOM));
+    assert!(rt; told.1 == receipt(alloc, 1, &[]).expect(&rt, ROOM));
     let audit = scope.index.audit(&told.0).expect(&rt, ROOM);
     assert!(rt; audit == Audit::Yes);
 }
@@ -148,8 +127,7 @@ fn is_full(index: &mut Numbers) -> bool
 
 #[test]
 fn a_reader_gives_its_place_back(rt: HostRuntime) {
-    let alloc = rt.alloc();
-    let mut scope = ScopedIndex::new(alloc, 1, 16).expect(&rt, ROOM);
+    let mut scope = ScopedIndex::new(rt.alloc(), 1, 16).expect(&rt, ROOM);
     assert!(rt; found_a_place(&mut scope.index) == 3);
     match scope.index.open() {
         Ok(session) => {
@@ -179,8 +157,6 @@ fn two_at_a_time(index: &mut Numbers) -> Option<usize> {
 
 #[test]
 fn sessions_stay_while_others_open_and_close(rt: HostRuntime) {
-    let alloc = rt.alloc();
-    let mut scope = ScopedIndex::new(alloc, 2, 16).expect(&rt, ROOM);
-    fill(&rt, alloc, &mut scope.index);
+    let mut scope = filled(&rt, rt.alloc(), 2);
     assert!(rt; two_at_a_time(&mut scope.index) == Some(6));
 }

@@ -1,8 +1,9 @@
 //! What an index is asked and what it answers, as values: cloned, compared and printed.
 
+use crate::table::Claim::Got;
 use local_index::{
-    Accepted, Answer, Audit, Cause, DeskCall, DeskReply, Near, Query, ReadSet, Reads, Receipt,
-    Recorded, Refused, Reply, Seq, Transaction, Write,
+    Accepted, Answer, Audit, Cause, DeskCall, DeskReply, Near, ReadSet, Reads, Receipt, Refused,
+    Reply, Seq, Transaction, Write,
 };
 use std::alloc::{AllocError, Global};
 use std::fmt;
@@ -15,11 +16,7 @@ fn prints<T: fmt::Debug>(alloc: Global, value: &T, wanted: &str) -> Result<bool,
 
 // A receipt of number 3 with one read.
 fn receipt(alloc: Global) -> Result<Receipt<u64, u64>, AllocError> {
-    let reads: Vec<Recorded<u64, u64>> = vec![in alloc; (Query::Get(1), Answer::Get(Some(10)))]?;
-    Ok(Receipt {
-        number: 3,
-        reads: Seq::from_vec(reads),
-    })
+    index_rows::receipt(alloc, 3, &[Got(1, Some(10))])
 }
 
 // Whether a value is equal to its clone, and printed like this.
@@ -52,21 +49,18 @@ fn refused(alloc: Global) -> Result<bool, AllocError> {
     is_value(alloc, &Refused { cause, writes }, wanted)
 }
 
-// A transaction of one upsert that rested on these reads.
+// A transaction of one upsert that rested on these reads. They are neither compared nor printed.
 fn transaction(
     alloc: Global,
     receipt: &Receipt<u64, u64>,
 ) -> Result<Transaction<u64, u64>, AllocError> {
-    let writes: Vec<Write<u64, u64>> = vec![in alloc; Write::Upsert(1, 11)]?;
-    let replies: Vec<Reply> = vec![in alloc; Reply::Upserted]?;
     Ok(Transaction {
         reads: Reads::of(receipt.reads.as_slice()),
-        writes: Seq::from_vec(writes),
-        replies: Seq::from_vec(replies),
+        writes: Seq::from_vec(vec![in alloc; Write::Upsert(1, 11)]?),
+        replies: Seq::from_vec(vec![in alloc; Reply::Upserted]?),
     })
 }
 
-// What was read is neither compared nor printed.
 fn transactions(alloc: Global) -> Result<bool, AllocError> {
     let rested = transaction(alloc, &receipt(alloc)?)?;
     let free = transaction(alloc, &Receipt::blank(alloc))?;

@@ -9,7 +9,9 @@ use crate::streams::{
 };
 use index_script::line::LONGEST;
 use index_script::reply::{LONGEST_FAULT, write_fault, write_reply};
-use index_script::request::Fault;
+use index_script::request::Fault::{
+    self, Bound, Busy, Command, Long, Number, Session, Text, Words,
+};
 use index_script::run::{RunError, outcome, run};
 use index_script::script::Script;
 use local_index::{Accepted, Cause, DeskReply, Refused, Reply};
@@ -155,16 +157,7 @@ fn lines_at_fault_are_told_and_counted(rt: HostRuntime) {
     write_what_is_wanted(&rt, rt.alloc(), FAULTS);
 }
 
-const EACH_FAULT: [Fault; 8] = [
-    Fault::Long,
-    Fault::Text,
-    Fault::Command,
-    Fault::Words,
-    Fault::Number,
-    Fault::Bound,
-    Fault::Session,
-    Fault::Busy,
-];
+const EACH_FAULT: [Fault; 8] = [Long, Text, Command, Words, Number, Bound, Session, Busy];
 
 #[test]
 fn the_longest_reply_to_a_line_at_fault_has_35_bytes(rt: HostRuntime) -> Result<(), Fail> {

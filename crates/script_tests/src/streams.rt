@@ -124,14 +124,11 @@ pub fn output_of(alloc: Global, parts: &[&[u8]]) -> Result<Vec<u8>, RunError> {
     output(alloc, &script)
 }
 
-/// Gives its bytes up to a cut, and then the others.
+/// Gives the bytes of its input before the cut, and then the others.
 #[derive(Drop)]
 pub struct Cut {
-    /// All bytes.
     pub input: &'static [u8],
-    /// How many are given.
     pub given: usize,
-    /// How many are before the cut.
     pub cut: usize,
 }
 
@@ -148,16 +145,12 @@ impl Read for Cut {
     }
 }
 
-/// Gives one byte at a time, and fails once this many are given.
+/// Gives one byte at a time, and fails so once as many are given as `at` says.
 #[derive(Drop)]
 pub struct Fails {
-    /// All bytes.
     pub input: &'static [u8],
-    /// How many are given.
     pub given: usize,
-    /// How many are given before the failure.
     pub at: usize,
-    /// The failure.
     pub kind: io::ErrorKind,
 }
 
@@ -178,14 +171,11 @@ impl Read for Fails {
     }
 }
 
-/// Takes one byte at a time, and once this many are taken, none or an error.
+/// Takes one byte at a time, and once as many are taken as `at` says, it fails, or takes none.
 #[derive(Drop)]
 pub struct Falters {
-    /// What was taken.
     pub taken: Vec<u8>,
-    /// How many are taken before the failure.
     pub at: usize,
-    /// Whether the failure is an error, or a write that takes nothing.
     pub is_error: bool,
 }
 
@@ -195,15 +185,13 @@ impl Write for Falters {
             return Ok(0);
         };
         if self.taken.len() == self.at {
-            if self.is_error {
-                return Err(io::ErrorKind::Other.into());
-            }
-            return Ok(0);
+            return if self.is_error {
+                Err(io::ErrorKind::Other.into())
+            } else {
+                Ok(0)
+            };
         }
-        match self.taken.push(*byte) {
-            Ok(()) => Ok(1),
-            Err(_) => Ok(0),
-        }
+        Ok(if self.taken.push(*byte).is_ok() { 1 } else { 0 })
     }
 
     fn flush(&mut self) -> io::Result<()> {
