@@ -1,6 +1,6 @@
 //! What an index has to be: plain lists, one for each number, and what they answer to a call.
 
-use crate::met::{BASED, SEVERAL, SHARED, met_by};
+use crate::met::{Met, met_by};
 use crate::plain;
 use crate::room::Room;
 use local_index::{
@@ -90,8 +90,8 @@ impl Lists {
         })
     }
 
-    pub(crate) fn meets(&mut self, met: u32) {
-        self.met |= met;
+    pub(crate) fn meets(&mut self, met: Met) {
+        self.met |= met as u32;
     }
 
     /// The present number.
@@ -306,7 +306,7 @@ impl Lists {
         reply: &DeskReply<u64, u64>,
         room: &Room,
     ) -> Result<(), AllocError> {
-        self.meets(met_by(&turn.call, reply, self.start.number, self.number()));
+        self.met |= met_by(&turn.call, reply, self.start.number, self.number());
         match (&turn.call, reply) {
             (DeskCall::Open(label), DeskReply::Opened(_)) => self.keep(alloc, *label),
             (DeskCall::Close(label), DeskReply::Closed(_)) => {
@@ -321,7 +321,9 @@ impl Lists {
                 Ok(())
             }
             (_, DeskReply::Checkpointed(number)) => {
-                self.meets(if *number > self.base { BASED } else { 0 });
+                if *number > self.base {
+                    self.meets(Met::Based);
+                }
                 self.base = *number;
                 Ok(())
             }
@@ -362,9 +364,9 @@ impl Lists {
     // Notes an accepted commit that leaves this many pairs.
     fn count_accepted(&mut self, pairs: usize, room: &Room) {
         if pairs > room.segment {
-            self.meets(SEVERAL);
+            self.meets(Met::Several);
             if room.after < room.before.saturating_add(room.least_of(pairs)) {
-                self.meets(SHARED);
+                self.meets(Met::Shared);
             }
         }
     }

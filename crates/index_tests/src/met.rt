@@ -2,55 +2,42 @@
 
 use local_index::{Audit, Cause, DeskCall, DeskReply, ReadSet, Receipt};
 
-// An accepted commit; one with a list that no one segment has room for; such a commit with fewer slots than its version has,
-// which took segments over; the refusals; audits that find no list and that find another answer; and a look at an older list.
-pub(crate) const ACCEPTED: u32 = 1;
+/// What can be met.
+#[derive(Clone, Copy)]
+pub(crate) enum Met {
+    // an accepted commit; one with a list that no one segment has room for; such a commit with fewer slots than its version has,
+    // which took segments over; and the refusals
+    Accepted = 1,
+    Several = 2,
+    Shared = 4,
+    Conflict = 8,
+    Exhausted = 16,
+    NoSlot = 32,
+    NoPlace = 64,
+    Busy = 128,
+    NoSession = 256,
+    // audits that find no list and that find another answer; and a look at an older list
+    Unknown = 512,
+    Broken = 1024,
+    Older = 2048,
+    // where checkpoints are made: one behind the base's number, and its refusals; an audit of a list that is gone; and a look at
+    // a list below the base
+    Based = 4096,
+    Behind = 8192,
+    Ahead = 16_384,
+    TooOld = 32_768,
+    Dropped = 65_536,
+    // where receipts are made by hand: reads of an older list that it answers so, and that it answers otherwise; and a number
+    // below that of the list that the index began with
+    Held = 131_072,
+    Forged = 262_144,
+    Before = 524_288,
+}
 
-pub(crate) const SEVERAL: u32 = 2;
-
-pub(crate) const SHARED: u32 = 4;
-
-pub(crate) const CONFLICT: u32 = 8;
-
-pub(crate) const EXHAUSTED: u32 = 16;
-
-pub(crate) const NO_SLOT: u32 = 32;
-
-pub(crate) const NO_PLACE: u32 = 64;
-
-pub(crate) const BUSY: u32 = 128;
-
-pub(crate) const NO_SESSION: u32 = 256;
-
-pub(crate) const UNKNOWN: u32 = 512;
-
-pub(crate) const BROKEN: u32 = 1024;
-
-pub(crate) const OLDER: u32 = 2048;
-
+/// All that is met where no checkpoints are made, and no receipts by hand.
 pub(crate) const ALL: u32 = 4095;
 
-// Where checkpoints are made: one behind the base's number, and its refusals; an audit of a list that is gone; and a look at a
-// list below the base.
-pub(crate) const BASED: u32 = 4096;
-
-pub(crate) const BEHIND: u32 = 8192;
-
-pub(crate) const AHEAD: u32 = 16_384;
-
-pub(crate) const TOO_OLD: u32 = 32_768;
-
-pub(crate) const DROPPED: u32 = 65_536;
-
-// Where receipts are made by hand: reads of an older list that it answers so, and that it answers otherwise; and a number below
-// that of the list that the index began with.
-pub(crate) const HELD: u32 = 131_072;
-
-pub(crate) const FORGED: u32 = 262_144;
-
-pub(crate) const BEFORE: u32 = 524_288;
-
-/// All of these.
+/// All.
 pub(crate) const EVERY: u32 = 1_048_575;
 
 /// What a reply is, of an index that began with the list of a number, while another one is present.
@@ -61,14 +48,14 @@ pub(crate) fn met_by(
     present: u64,
 ) -> u32 {
     match reply {
-        DeskReply::Accepted(_) => ACCEPTED,
+        DeskReply::Accepted(_) => Met::Accepted as u32,
         DeskReply::Refused(refused) => met_by_a_cause(refused.cause),
-        DeskReply::NoPlace => NO_PLACE,
-        DeskReply::Busy => BUSY,
-        DeskReply::NoSession(_) => NO_SESSION,
+        DeskReply::NoPlace => Met::NoPlace as u32,
+        DeskReply::Busy => Met::Busy as u32,
+        DeskReply::NoSession(_) => Met::NoSession as u32,
         DeskReply::Audit(audit) => met_by_an_audit(call, *audit, start, present),
-        DeskReply::Behind(_) => BEHIND,
-        DeskReply::Ahead(_) => AHEAD,
+        DeskReply::Behind(_) => Met::Behind as u32,
+        DeskReply::Ahead(_) => Met::Ahead as u32,
         _ => 0,
     }
 }
@@ -76,9 +63,9 @@ pub(crate) fn met_by(
 // What a refusal is.
 fn met_by_a_cause(cause: Cause) -> u32 {
     match cause {
-        Cause::Conflict(_) => CONFLICT,
-        Cause::Exhausted => EXHAUSTED,
-        Cause::NoSlot => NO_SLOT,
+        Cause::Conflict(_) => Met::Conflict as u32,
+        Cause::Exhausted => Met::Exhausted as u32,
+        Cause::NoSlot => Met::NoSlot as u32,
         Cause::Memory => 0,
     }
 }
@@ -93,9 +80,9 @@ fn met_by_an_audit(call: &DeskCall<u64, u64>, audit: Audit, start: u64, present:
     };
     of_receipt
         | match audit {
-            Audit::Unknown => UNKNOWN,
-            Audit::No(_) => BROKEN,
-            Audit::TooOld(_) => TOO_OLD,
+            Audit::Unknown => Met::Unknown as u32,
+            Audit::No(_) => Met::Broken as u32,
+            Audit::TooOld(_) => Met::TooOld as u32,
             Audit::Yes => 0,
         }
 }
@@ -104,9 +91,9 @@ fn met_by_an_audit(call: &DeskCall<u64, u64>, audit: Audit, start: u64, present:
 fn met_by_a_receipt(receipt: &Receipt<u64, u64>, audit: Audit, start: u64, present: u64) -> u32 {
     let is_older = receipt.number < present;
     match audit {
-        Audit::Yes if is_older && !receipt.reads.as_slice().is_empty() => HELD,
-        Audit::No(_) if is_older => FORGED,
-        Audit::TooOld(_) if receipt.number < start => BEFORE,
+        Audit::Yes if is_older && !receipt.reads.as_slice().is_empty() => Met::Held as u32,
+        Audit::No(_) if is_older => Met::Forged as u32,
+        Audit::TooOld(_) if receipt.number < start => Met::Before as u32,
         _ => 0,
     }
 }

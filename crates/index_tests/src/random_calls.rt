@@ -2,7 +2,7 @@
 
 use crate::dice::{Dice, thrown};
 use crate::lists::{Lists, PLACES, Start, is_right};
-use crate::met::{ALL, BEFORE, DROPPED, EVERY, EXHAUSTED, OLDER};
+use crate::met::{ALL, EVERY, Met};
 use crate::room::Room;
 use crate::scene::Scene;
 use crate::table::read_of;
@@ -125,10 +125,10 @@ fn look<const S: usize>(scene: &Scene<S>, lists: &mut Lists, label: u64, keys: u
         None => return scene.session(label).is_none(),
     };
     if number < lists.number() {
-        lists.meets(OLDER);
+        lists.meets(Met::Older);
     }
     if number < lists.base {
-        lists.meets(DROPPED);
+        lists.meets(Met::Dropped);
     }
     has_list(scene, label, number, lists.list(number), keys)
 }
@@ -296,8 +296,8 @@ fn bases_and_receipts_are_answered_as_by_plain_lists(rt: HostRuntime) {
     assert_eq!(rt;
         found,
         [
-            Ok((ROUNDS, EVERY - BEFORE)),
-            Ok((ROUNDS, EVERY - EXHAUSTED)),
+            Ok((ROUNDS, EVERY - Met::Before as u32)),
+            Ok((ROUNDS, EVERY - Met::Exhausted as u32)),
             Ok((ROUNDS, EVERY)),
         ],
         "the first call that isn't answered as on lists, and what was met"

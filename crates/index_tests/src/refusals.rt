@@ -5,7 +5,7 @@ use crate::ends::REFUSED;
 use crate::from_base::begins_again;
 use crate::history::made;
 use crate::past::{Scope, is_kept, put};
-use crate::play::played;
+use crate::play::is_played;
 use crate::scene::{Reader, Scene, Seen};
 use crate::table::Call::{
     Audit, AuditOf, Base, Checkpoint, Close, Commit, CommitOf, CommitOn, InsertTo, Len, Look,
@@ -22,7 +22,7 @@ use local_index::Audit::{No, TooOld, Unknown, Yes};
 use local_index::Cause::{Conflict, Exhausted, Memory, NoSlot};
 use local_index::Reply::{Cleared, Duplicate, Inserted, Upserted};
 use local_index::Write::{Clear, Insert, Upsert};
-use local_index::{self as index, Answer, DeskReply, Query, Receipt, Recorded, Seq, Text, Write};
+use local_index::{Answer, DeskReply, Query, Receipt, Recorded, Seq, Text};
 use std::alloc::{AllocError, Global};
 use std::ops::Bound::{Included, Unbounded};
 use std::process::Abort;
@@ -57,7 +57,7 @@ impl Scene<2> {
         let given = writes_of(self.alloc, call)?;
         let wanted = writes_of(self.alloc, call)?;
         let before = self.state();
-        let index::Refused { cause, writes } = match self
+        let local_index::Refused { cause, writes } = match self
             .index
             .commit(&Receipt::blank(self.alloc), given)
         {
@@ -65,7 +65,7 @@ impl Scene<2> {
             Err(refused) => refused,
         };
         if cause != Memory {
-            return Ok(DeskReply::Refused(index::Refused { cause, writes }));
+            return Ok(DeskReply::Refused(local_index::Refused { cause, writes }));
         }
         self.met = true;
         if writes != wanted || self.state() != before {
@@ -97,34 +97,27 @@ impl Scene<2> {
     }
 }
 
-// Calls of the first part of a table are made again where memory was refused. Those of the others take none, and each of them is
-// made once.
+// Whether a table is answered as is wanted. Calls of its first part are made one by one or as one list, and again where memory was
+// refused. Those of the others take none, and each of them is made once.
 fn insisted<R: Abort>(
     rt: &R,
     alloc: Global,
     table: &Table,
+    as_list: bool,
     met: &mut bool,
 ) -> Result<bool, AllocError> {
+    let Some((rows, others)) = table.parts.split_first() else {
+        return Ok(false);
+    };
     let mut scene = Scene::<2>::new(rt, alloc, table.places, table.slots, table.last);
-    let again = scene.insists_on(table.parts.first().unwrap_or(&&[][..]));
-    let (right, made) = play(&mut scene, table.parts.get(1..).unwrap_or(&[]));
+    let again = match as_list {
+        true => is_played(&mut scene, rows),
+        false => scene.insists_on(rows),
+    };
+    let (right, made) = play(&mut scene, others);
     *met = scene.met || *met;
     scene.end(rt);
     Ok(again? && right == made)
-}
-
-// Calls are played as one list, and those from the one on that was refused memory again, as if that had not been.
-fn listed<R: Abort>(
-    rt: &R,
-    alloc: Global,
-    rows: &[Row],
-    met: &mut bool,
-) -> Result<bool, AllocError> {
-    let mut scene = Scene::<2>::new(rt, alloc, 1, 16, u64::MAX);
-    let right = played(&mut scene, rows);
-    *met = scene.met || *met;
-    scene.end(rt);
-    Ok(right? == rows.len())
 }
 
 // A read of the key 1, made again where memory was refused.
@@ -136,7 +129,7 @@ fn read(reading: &mut Reader<'_>, met: &mut bool) -> Result<Answer<u64, u64>, Al
     reading.read(Query::Get(1))
 }
 
-// Two reads of a reader are recorded once each, and its list is then as it was.
+// Whether two reads of a reader are recorded once each, and its list is as it was.
 fn reads(reading: &mut Reader<'_>, wanted: &Receipt<u64, u64>, met: &mut bool) -> bool {
     let answers = [read(reading, met), read(reading, met)];
     let list = (reading.number(), reading.len(), reading.get(&1).copied());
@@ -146,7 +139,7 @@ fn reads(reading: &mut Reader<'_>, wanted: &Receipt<u64, u64>, met: &mut bool) -
         && answers == [Ok(Answer::Get(Some(1))), Ok(Answer::Get(Some(1)))]
 }
 
-// An index is made, a pair is committed, and a reader reads it.
+// Whether an index is made, a pair is committed, and a reader reads it.
 fn made_and_read(alloc: Global, met: &mut bool) -> Result<bool, AllocError> {
     let mut scope = Scope::new(alloc, 1, 256)?;
     let wanted = receipt(alloc, 1, &[Got(1, Some(1)), Got(1, Some(1))])?;
@@ -180,14 +173,12 @@ fn is_cloned<T: Clone + PartialEq + Drop>(value: &T, met: &mut bool) -> bool {
     value.clone().is_ok_and(|copy| copy == *value)
 }
 
-// A text, a receipt and a refused commit are made and cloned.
+// Whether a text, a receipt and a refused commit are made and cloned.
 fn cloned(alloc: Global, met: &mut bool) -> Result<bool, AllocError> {
     let name = Text::new(alloc, "Noether")?;
+    let writes = Vec::from_clones(alloc, &[Upsert(1, 1)])?;
     let cause = NoSlot;
-    let refused = index::Refused {
-        cause,
-        writes: Vec::from_clones(alloc, &[Upsert(1, 1)])?,
-    };
+    let refused = local_index::Refused { cause, writes };
     let Some(receipt) = pushed(alloc, met) else {
         return Ok(false);
     };
@@ -206,23 +197,12 @@ const THE_PAIR: Claim = Listed(Unbounded, Unbounded, &[(1, 10)]);
 
 const FROM_3: Claim = Listed(Included(3), Included(5), &[(4, 1)]);
 
-// A commit, a session, a read and a commit on it.
-const LISTED: &[Row] = &[
-    FIRST,
-    (Open(7), Opened(1)),
-    (Read(7, Got(1, Some(10))), Holds),
-    (
-        CommitOf(7, &[Insert(1, 10), Insert(1, 11)]),
-        Accepted(2, &[Duplicate, Duplicate]),
-    ),
-];
-
 // What is done with a new index, or otherwise.
 #[derive(Clone, Copy)]
 enum Case {
     // calls of a table, and calls that are played as one list
     Calls(Table),
-    List(&'static [Row]),
+    List(Table),
     Reader,
     Clones,
     // a list that is made again, and its answers
@@ -423,7 +403,20 @@ const CASES: &[Case] = &[
         ..ROOMY
     }),
     Case::Calls(REFUSED),
-    Case::List(LISTED),
+    Case::List(Table {
+        about: "a commit, a session, a read and a commit on it",
+        slots: 16,
+        parts: &[&[
+            FIRST,
+            (Open(7), Opened(1)),
+            (Read(7, Got(1, Some(10))), Holds),
+            (
+                CommitOf(7, &[Insert(1, 10), Insert(1, 11)]),
+                Accepted(2, &[Duplicate, Duplicate]),
+            ),
+        ]],
+        ..ROOMY
+    }),
     Case::Reader,
     Case::Clones,
     Case::Answers,
@@ -433,8 +426,8 @@ const CASES: &[Case] = &[
 
 fn done<R: Abort>(rt: &R, alloc: Global, case: &Case, met: &mut bool) -> Result<bool, AllocError> {
     match case {
-        Case::Calls(table) => insisted(rt, alloc, table, met),
-        Case::List(rows) => listed(rt, alloc, rows, met),
+        Case::Calls(table) => insisted(rt, alloc, table, false, met),
+        Case::List(table) => insisted(rt, alloc, table, true, met),
         Case::Reader => made_and_read(alloc, met),
         Case::Clones => cloned(alloc, met),
         Case::Answers => made(alloc),
