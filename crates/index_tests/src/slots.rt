@@ -10,7 +10,7 @@ use crate::table::Claim::Got;
 use crate::table::Told::{
     Accepted, All, AtMost, Audited, Closed, Done, NoPlace, Opened, Refused, Seen,
 };
-use crate::table::{ROOMY, Table, Told, first_wrong, play};
+use crate::table::{ROOMY, Table, Told, first_wrong};
 use index_rows::AUDITS;
 use local_index::Audit::{Unknown, Yes};
 use local_index::Cause::{Conflict, Exhausted, NoSlot};
@@ -306,15 +306,14 @@ const OF_225: &[Table] = &[
 
 // What a commit takes where some of a hundred slots are in use: how many pairs there are, each in a segment of its own, how
 // many writes there are, each of which splits one, and how many slots are in use then, or none where the commit is refused.
-const SPLITS: &[(u64, u64, Option<usize>)] = &[
-    // nothing takes one slot, one write three, three writes seven, and twenty 41
-    (98, 0, Some(100)),
-    (96, 1, Some(100)),
-    (97, 1, None),
-    (92, 3, Some(100)),
-    (93, 3, None),
-    (58, 20, Some(100)),
-    (59, 20, None),
+const SPLITS: &[(&str, u64, u64, Option<usize>)] = &[
+    ("a commit of nothing takes one slot", 98, 0, Some(100)),
+    ("one write takes three slots", 96, 1, Some(100)),
+    ("one write hasn't three slots", 97, 1, None),
+    ("three writes take seven slots", 92, 3, Some(100)),
+    ("three writes haven't seven slots", 93, 3, None),
+    ("twenty writes take 41 slots", 58, 20, Some(100)),
+    ("twenty writes haven't 41 slots", 59, 20, None),
 ];
 
 // Whether a commit takes so many slots, or is refused.
@@ -331,18 +330,15 @@ fn is_split<R: Abort>(
         Some(_) => All(2, writes as usize, Upserted),
         None => Refused(NoSlot),
     };
-    let (right, made) = play(
-        &mut scene,
-        &[&[
-            (InsertEven(pairs), All(1, pairs as usize, Inserted)),
-            (Reclaim, Done),
-            (Slots, Told::Slots(used)),
-            (UpsertOdd(writes), told),
-            (Slots, Told::Slots(wanted.unwrap_or(used))),
-        ]],
-    );
+    let right = [
+        scene.answers(InsertEven(pairs), All(1, pairs as usize, Inserted)),
+        scene.answers(Reclaim, Done),
+        scene.answers(Slots, Told::Slots(used)),
+        scene.answers(UpsertOdd(writes), told),
+        scene.answers(Slots, Told::Slots(wanted.unwrap_or(used))),
+    ];
     scene.end(rt);
-    right == made
+    right == [true; 5]
 }
 
 #[test]
@@ -351,10 +347,8 @@ fn commits_take_slots_and_reclaims_free_them(rt: HostRuntime) {
     assert_eq!(rt; first_wrong::<_, 1>(&rt, rt.alloc(), AUDITS), None);
     assert_eq!(rt; first_wrong::<_, 2>(&rt, rt.alloc(), OF_TWO), None);
     assert_eq!(rt; first_wrong::<_, 225>(&rt, rt.alloc(), OF_225), None);
-    for (pairs, writes, wanted) in SPLITS {
-        assert!(rt;
-            is_split(&rt, rt.alloc(), *pairs, *writes, *wanted),
-            "{pairs} pairs, {writes} writes"
-        );
+    for (about, pairs, writes, wanted) in SPLITS {
+        let right = is_split(&rt, rt.alloc(), *pairs, *writes, *wanted);
+        assert!(rt; right, "{about}");
     }
 }
