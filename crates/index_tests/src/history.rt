@@ -9,14 +9,21 @@ use std::alloc::{AllocError, Global};
 use std::ops::Bound::{Excluded, Included, Unbounded};
 use tree_index::TreeIndex;
 
-// The list that a transaction of two upserts leaves of none, made again from a base with its pairs.
-fn based(alloc: Global) -> Result<TreeIndex<u64, u64>, AllocError> {
-    let writes = Vec::from_clones(alloc, &[Write::Upsert(1, 10), Write::Upsert(2, 20)])?;
-    let history = [Transaction {
+/// A transaction of two upserts.
+fn transaction(alloc: Global) -> Result<Transaction<u64, u64>, AllocError> {
+    let mut writes = Vec::new(alloc);
+    writes.push(Write::Upsert(1, 10))?;
+    writes.push(Write::Upsert(2, 20))?;
+    Ok(Transaction {
         reads: Reads::of(&[]),
         writes: Seq::from_vec(writes),
         replies: Seq::new(alloc),
-    }];
+    })
+}
+
+/// The list that the transaction leaves of none, made again from a base with its pairs.
+fn based(alloc: Global) -> Result<TreeIndex<u64, u64>, AllocError> {
+    let history = [transaction(alloc)?];
     let list = replay(alloc, &Base::empty(alloc), &history)?;
     let pairs = pairs_of(alloc, &list)?;
     // what is read here shows the proof that the keys rise
