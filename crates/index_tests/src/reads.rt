@@ -186,16 +186,38 @@ fn walked(index: &Numbers, session: &Session<u64, u64>) -> [Option<(u64, u64)>; 
     ]
 }
 
-// The first pair above a key, and the pair with the next key, where it is located exactly.
-fn found(index: &Numbers, session: &Session<u64, u64>, key: u64) -> [Option<(u64, u64)>; 2]
+// The first pair above a key.
+fn above<'a>(index: &'a Numbers, session: &Session<u64, u64>, key: &'a u64) -> Option<(u64, u64)>
     requires { IsSessionOf index.now session.now }
 {
-    let mut rest = index.range(session, Excluded(&key), Unbounded);
-    let located = match index.locate(session, &key.saturating_add(1)) {
+    let mut rest = index.range(session, Excluded(key), Unbounded);
+    read(rest.next())
+}
+
+// The pair with a key, where it is located exactly.
+fn located(index: &Numbers, session: &Session<u64, u64>, key: u64) -> Option<(u64, u64)>
+    requires { IsSessionOf index.now session.now }
+{
+    match index.locate(session, &key) {
         Nearby::Exact(at) => read(at.get()),
         _ => None,
+    }
+}
+
+// What a session reads by cursors of its list: steps along it, the first pair above 1, and the pair with the key 2.
+fn gone_along(
+    scene: &Scene<2>,
+    label: u64,
+) -> Option<([Option<(u64, u64)>; 4], [Option<(u64, u64)>; 2])> {
+    let Some(session) = scene.session(label) else {
+        return None;
     };
-    [read(rest.next()), located]
+    let one = 1u64;
+    let found = [
+        above(&scene.index, session, &one),
+        located(&scene.index, session, 2),
+    ];
+    Some((walked(&scene.index, session), found))
 }
 
 #[test]
@@ -203,13 +225,7 @@ fn a_session_walks_along_its_list(rt: HostRuntime) {
     let mut scene = Scene::<2>::new(&rt, rt.alloc(), 1, 32, u64::MAX);
     let made = scene.answers(InsertTo(3), All(1, 3, Inserted));
     let opened = scene.answers(Open(1), Opened(1));
-    let seen = match scene.session(1) {
-        Some(session) => Some((
-            walked(&scene.index, session),
-            found(&scene.index, session, 1),
-        )),
-        None => None,
-    };
+    let seen = gone_along(&scene, 1);
     scene.end(&rt);
     let steps = [Some((1, 1)), Some((3, 3)), Some((2, 2)), None];
     assert!(rt; made && opened && seen == Some((steps, [Some((2, 2)); 2])));
