@@ -64,6 +64,28 @@ fn makes_and_retires<R: Abort>(rt: &R, alloc: Global) -> bool {
     met
 }
 
+// Whether an allocation was refused while a place and a name for a group were made. The row of a group without a name comes back.
+fn makes_a_group<R: Abort>(rt: &R, alloc: Global) -> bool {
+    let mut met = false;
+    let mut w = numbers(rt, alloc, &mut met);
+    let row = match world::group::make(&mut w, Vec::new(alloc)) {
+        Ok(_) => panic!(rt; "no name is free"),
+        Err(row) => row,
+    };
+    if world::group::grow(&mut w).is_err() {
+        met = true;
+        assert!(rt; world::group::has_none_free(&w));
+        world::group::grow(&mut w).expect(rt, TWICE);
+    }
+    match world::group::make(&mut w, row) {
+        Ok(group) => world::group::release(&mut w, group, 1),
+        Err(_) => panic!(rt; "a name is free"),
+    }
+    assert!(rt; !world::group::has_none_free(&w));
+    close(rt, w);
+    met
+}
+
 // A collector made behind the place, which is made whichever allocation is refused: it takes no memory.
 fn makes_a_collector<R: Abort>(rt: &R, alloc: Global) {
     let mut w = numbers(rt, alloc, &mut false);
@@ -92,4 +114,14 @@ fn a_refusal_of_memory_keeps_nothing(rt: HostRuntime) {
 #[test]
 fn no_memory_is_refused_to_a_place_and_a_collector(rt: HostRuntime) {
     assert!(rt; !makes_and_retires(&rt, rt.alloc()));
+}
+
+#[test]
+fn a_refusal_of_memory_gives_no_name_to_a_group(rt: HostRuntime) {
+    makes_a_group(&rt, rt.alloc());
+}
+
+#[test]
+fn no_memory_is_refused_to_a_group(rt: HostRuntime) {
+    assert!(rt; !makes_a_group(&rt, rt.alloc()));
 }

@@ -2,7 +2,7 @@
 use Rattle.std.specs.Prelude.{◌≡◌, ◌≢◌, ℕ, ◌+◌, ◌-◌, ◌<◌, ◌≤◌, Bool, List, [], ◌∷◌, drop, leb, length, is_some, Option, None, Some, take, true}
 use Rattle.std.specs.List.{All, sum_by}
 use Rattle.sdd_table.specs.State.{State, ParticipantState, status_at, value_at, cell_at, participant_at, local_at, weight, is_used, IsFree, IsFreeCell, placed, with_status, with_cell}
-use Rattle.sdd_table.specs.Groups.{count_at, row_at}
+use Rattle.sdd_table.specs.Groups.{row_at}
 use Rattle.sdd_table.specs.Steps.{times}
 use Rattle.sdd_plain.specs.declared.tag.Tag.{Tag}
 use Rattle.sdd_plain.specs.declared.sizes.Sizes.{Sizes}
@@ -127,10 +127,6 @@ kept_between kept w o from upto = take (upto - from) (drop from (kept_at kept w 
 -- the items that the row of a group names, from one place of it up to another
 abbrev pub row_between : {T : Type 0} → State T → ℕ → ℕ → ℕ → List ℕ
 row_between w g from upto = take (upto - from) (drop from (row_at w.groups g))
-
--- a group has fewer owners than can be counted, and some
-abbrev pub TakesGroupOwner : {T : Type 0} → ℕ → State T → Type 0
-TakesGroupOwner g w = (0 < count_at w.groups g) × (count_at w.groups g < 4294967295)
 
 -- slot i has a shared item with more than one owner
 abbrev pub HasOtherOwners : {T : Type 0} → State T → ℕ → Type 0
