@@ -39,9 +39,9 @@ fn cut<L: Naming, R: Wait + Abort>(
     let (index, mut shares) = begun::<L, R, 2>(rt, alloc, domain, local, blank, 1);
     let mut share = taken(rt, &mut shares);
     let commits = [
-        swap(rt, alloc, &index, &mut share, 1, None, 10),
-        swap(rt, alloc, &index, &mut share, 1, Some(10), 11),
-        swap(rt, alloc, &index, &mut share, 1, Some(11), 12),
+        swap(rt, alloc, &index, &mut share, 1, (None, 10)),
+        swap(rt, alloc, &index, &mut share, 1, (Some(10), 11)),
+        swap(rt, alloc, &index, &mut share, 1, (Some(11), 12)),
     ];
     let told = [
         checkpoint(rt, &index, 4),

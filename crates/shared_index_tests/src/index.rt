@@ -38,10 +38,10 @@ fn missing_share<L: Naming, R: Wait + Abort>(
     let mut first = taken(rt, &mut shares);
     let mut second = taken(rt, &mut shares);
     let told = [
-        swap(rt, alloc, &index, &mut first, 1, None, 10),
-        swap(rt, alloc, &index, &mut first, 1, None, 11),
-        swap(rt, alloc, &index, &mut second, 1, Some(10), 11),
-        swap(rt, alloc, &index, &mut second, 1, Some(11), 12),
+        swap(rt, alloc, &index, &mut first, 1, (None, 10)),
+        swap(rt, alloc, &index, &mut first, 1, (None, 11)),
+        swap(rt, alloc, &index, &mut second, 1, (Some(10), 11)),
+        swap(rt, alloc, &index, &mut second, 1, (Some(11), 12)),
     ];
     let counts = [first.count(), second.count()];
     put(rt, &mut shares, first);

@@ -114,15 +114,27 @@ fn committed<L: Naming, R: Wait + Abort, const S: usize>(
     }
 }
 
-/// Does it, with the share if it commits: what is answered.
+/// What a thread does, and the share of it, if it commits.
+struct Work<L: Naming> {
+    task: Task,
+    share: Option<Share<L>>,
+}
+
+/// What two threads do.
+struct Both<L: Naming> {
+    one: Work<L>,
+    other: Work<L>,
+}
+
+/// Does it: what is answered.
 fn done<L: Naming, R: Wait + Abort, const S: usize>(
     rt: &R,
     alloc: Global,
     index: &Index<'_, L, S>,
-    task: Task,
-    share: &mut Option<Share<L>>,
+    work: &mut Work<L>,
 ) -> Option<u64> {
-    if let Some(share) = share {
+    let task = work.task;
+    if let Some(share) = &mut work.share {
         return committed(rt, alloc, index, task, share);
     }
     match task {
@@ -137,15 +149,14 @@ fn two<L: Naming + Send + Sync, R: Threads + Wait + Abort + Sync, const S: usize
     rt: &R,
     alloc: Global,
     index: &Index<'_, L, S>,
-    tasks: (Task, Task),
-    first: &mut Option<Share<L>>,
-    second: &mut Option<Share<L>>,
+    both: &mut Both<L>,
 ) -> (Option<u64>, Option<u64>) {
+    let (first, second) = (&mut both.one, &mut both.other);
     let (one, other) = join_over(
         rt,
         index,
-        |index| done(rt, alloc, index, tasks.0, first),
-        |index| done(rt, alloc, index, tasks.1, second),
+        |index| done(rt, alloc, index, first),
+        |index| done(rt, alloc, index, second),
     );
     (one, other)
 }
@@ -155,34 +166,47 @@ fn four<L: Naming + Send + Sync, R: Threads + Wait + Abort + Sync, const S: usiz
     rt: &R,
     alloc: Global,
     index: &Index<'_, L, S>,
-    tasks: ((Task, Task), (Task, Task)),
-    first: &mut Option<Share<L>>,
-    second: &mut Option<Share<L>>,
-    third: &mut Option<Share<L>>,
-    fourth: &mut Option<Share<L>>,
+    first: &mut Both<L>,
+    second: &mut Both<L>,
 ) -> ((Option<u64>, Option<u64>), (Option<u64>, Option<u64>)) {
     let (some, others) = join_over(
         rt,
         index,
-        |index| two(rt, alloc, index, tasks.0, first, second),
-        |index| two(rt, alloc, index, tasks.1, third, fourth),
+        |index| two(rt, alloc, index, first),
+        |index| two(rt, alloc, index, second),
     );
     (some, others)
 }
 
-/// A share for a task, if it commits.
-fn share_for<L: Naming>(task: Task, shares: &mut Vec<Share<L>>) -> Option<Share<L>> {
-    match task {
+/// A task, with a share if it commits.
+fn work<L: Naming>(task: Task, shares: &mut Vec<Share<L>>) -> Work<L> {
+    let share = match task {
         Task::Rests | Task::Reads | Task::Sums => None,
         _ => shares.pop(),
-    }
+    };
+    Work { task, share }
 }
 
 /// Puts a share back, if there is one.
-fn put_back<L: Naming, R: Abort>(rt: &R, shares: &mut Vec<Share<L>>, share: Option<Share<L>>) {
+fn put_back<L: Naming, R: Abort>(rt: &R, shares: &mut Vec<Share<L>>, work: Work<L>) {
+    let Work { task: _, share } = work;
     if let Some(share) = share {
         put(rt, shares, share);
     }
+}
+
+/// Two tasks, with their shares.
+fn both<L: Naming>(one: Task, other: Task, shares: &mut Vec<Share<L>>) -> Both<L> {
+    let one = work(one, shares);
+    let other = work(other, shares);
+    Both { one, other }
+}
+
+/// Puts the shares of both back.
+fn put_both_back<L: Naming, R: Abort>(rt: &R, shares: &mut Vec<Share<L>>, both: Both<L>) {
+    let Both { one, other } = both;
+    put_back(rt, shares, one);
+    put_back(rt, shares, other);
 }
 
 /// What six threads get as answers that do these.
@@ -193,35 +217,18 @@ pub(crate) fn six<L: Naming + Send + Sync, R: Threads + Wait + Abort + Sync, con
     shares: &mut Vec<Share<L>>,
     tasks: [Task; 6],
 ) -> [Option<u64>; 6] {
-    let mut first = share_for(tasks[0], shares);
-    let mut second = share_for(tasks[1], shares);
-    let mut third = share_for(tasks[2], shares);
-    let mut fourth = share_for(tasks[3], shares);
-    let mut fifth = share_for(tasks[4], shares);
-    let mut sixth = share_for(tasks[5], shares);
-    let four_tasks = ((tasks[0], tasks[1]), (tasks[2], tasks[3]));
-    let two_tasks = (tasks[4], tasks[5]);
+    let mut first = both(tasks[0], tasks[1], shares);
+    let mut second = both(tasks[2], tasks[3], shares);
+    let mut third = both(tasks[4], tasks[5], shares);
     let (((a, b), (c, d)), (e, f)) = join_over(
         rt,
         index,
-        |index| four(
-            rt,
-            alloc,
-            index,
-            four_tasks,
-            &mut first,
-            &mut second,
-            &mut third,
-            &mut fourth,
-        ),
-        |index| two(rt, alloc, index, two_tasks, &mut fifth, &mut sixth),
+        |index| four(rt, alloc, index, &mut first, &mut second),
+        |index| two(rt, alloc, index, &mut third),
     );
-    put_back(rt, shares, first);
-    put_back(rt, shares, second);
-    put_back(rt, shares, third);
-    put_back(rt, shares, fourth);
-    put_back(rt, shares, fifth);
-    put_back(rt, shares, sixth);
+    put_both_back(rt, shares, first);
+    put_both_back(rt, shares, second);
+    put_both_back(rt, shares, third);
     [a, b, c, d, e, f]
 }
 
@@ -258,15 +265,21 @@ fn crowded<L: Naming + Send + Sync, R: Threads + Wait + Abort + Sync, const S: u
     domain: &Domain<Item>,
     local: Local<Item>,
     blank: Blank,
-    shares: usize,
     crowd: &Crowd,
 ) -> Found
-    requires begins { CanBegin L.place L.name L.parts shares domain.now local blank }
+    requires begins { CanBegin L.place L.name L.parts crowd.now.shares domain.now local blank }
     requires last { L.last ≡ 18446744073709551615 }
-    requires some { 0 < shares }
+    requires some { 0 < crowd.now.shares }
     requires size { (1 ≤ S) × (S ≤ 225) }
 {
-    let (index, mut shares) = begun::<L, R, S>(rt, alloc, domain, local, blank, shares);
+    let (index, mut shares) = begun::<L, R, S>(
+        rt,
+        alloc,
+        domain,
+        local,
+        blank,
+        usize::from(crowd.shares),
+    );
     let told = six(rt, alloc, &index, &mut shares, crowd.tasks);
     let are_audited = are_audited(rt, alloc, &index, crowd.number, crowd.list);
     let mut reader = member(rt, domain);
@@ -288,14 +301,13 @@ fn wide<L: Naming + Send + Sync, R: Threads + Wait + Abort + Sync>(
     domain: &Domain<Item>,
     local: Local<Item>,
     blank: Blank,
-    shares: usize,
     crowd: &Crowd,
 ) -> Found
-    requires begins { CanBegin L.place L.name L.parts shares domain.now local blank }
+    requires begins { CanBegin L.place L.name L.parts crowd.now.shares domain.now local blank }
     requires last { L.last ≡ 18446744073709551615 }
-    requires some { 0 < shares }
+    requires some { 0 < crowd.now.shares }
 {
-    crowded::<L, R, 64>(rt, alloc, domain, local, blank, shares, crowd)
+    crowded::<L, R, 64>(rt, alloc, domain, local, blank, crowd)
 }
 
 /// What is found where it has two.
@@ -305,14 +317,13 @@ fn narrow<L: Naming + Send + Sync, R: Threads + Wait + Abort + Sync>(
     domain: &Domain<Item>,
     local: Local<Item>,
     blank: Blank,
-    shares: usize,
     crowd: &Crowd,
 ) -> Found
-    requires begins { CanBegin L.place L.name L.parts shares domain.now local blank }
+    requires begins { CanBegin L.place L.name L.parts crowd.now.shares domain.now local blank }
     requires last { L.last ≡ 18446744073709551615 }
-    requires some { 0 < shares }
+    requires some { 0 < crowd.now.shares }
 {
-    crowded::<L, R, 2>(rt, alloc, domain, local, blank, shares, crowd)
+    crowded::<L, R, 2>(rt, alloc, domain, local, blank, crowd)
 }
 
 /// Whether a crowd finds what it is to.
@@ -323,12 +334,11 @@ fn is_right<R: Threads + Wait + Abort + Sync>(rt: &R, alloc: Global, crowd: &Cro
     let sizes = place_for(usize::from(crowd.participants), usize::from(crowd.slots));
     let domain = place(alloc, sizes).expect(rt, ROOM);
     let local = member(rt, &domain);
-    let shares = usize::from(crowd.shares);
     let blank = Blank::new(u64::from(crowd.shares));
     let (told, are_audited, is_read, number) = if crowd.is_wide {
-        wide::<Brand, R>(rt, alloc, &domain, local, blank, shares, crowd)
+        wide::<Brand, R>(rt, alloc, &domain, local, blank, crowd)
     } else {
-        narrow::<Brand, R>(rt, alloc, &domain, local, blank, shares, crowd)
+        narrow::<Brand, R>(rt, alloc, &domain, local, blank, crowd)
     };
     end(rt, domain);
     told == crowd.told && are_audited && is_read && number == crowd.number

@@ -7,7 +7,7 @@ ghost use Rattle.shared_index_tests.specs.Scenes.{CanBegin};
 
 use crate::calls::{Index, Session, asked, bounded, commit, ended, leave, opened, place, reclaim};
 use crate::place::{Item, ROOM, end, member, one};
-use crate::receipts::{Told, written};
+use crate::steps::{Told, written};
 use crate::tasks::{closed, place_for, put, taken};
 use sdd_domain::domain::Domain;
 use sdd_domain::local::Local;

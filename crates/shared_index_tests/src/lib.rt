@@ -28,6 +28,8 @@ mod refusals;
 #[cfg(test)]
 mod sharing;
 #[cfg(test)]
+mod steps;
+#[cfg(test)]
 mod tasks;
 #[cfg(test)]
 mod texts;

@@ -121,7 +121,7 @@ fn try_swap<L: Naming, R: Wait, const S: usize>(
     }
 }
 
-/// Commits an upsert that rests on a read of one key: whether it was accepted. Where it is refused for another cause than a
+/// Commits an upsert that rests on a read of one key, from the first value to the second: whether it was accepted. Where it is refused for another cause than a
 /// conflict, such as memory, it is tried again, a hundred times at most.
 pub(crate) fn swap<L: Naming, R: Wait, const S: usize>(
     rt: &R,
@@ -129,9 +129,9 @@ pub(crate) fn swap<L: Naming, R: Wait, const S: usize>(
     index: &Index<'_, L, S>,
     share: &mut Share<L>,
     key: u64,
-    old: Option<u64>,
-    new: u64,
+    change: (Option<u64>, u64),
 ) -> Option<bool> {
+    let (old, new) = change;
     for _ in 0..100u32 {
         if let Some(is_accepted) = try_swap(rt, alloc, index, share, Step { key, old, new }) {
             return Some(is_accepted);
@@ -151,7 +151,7 @@ pub(crate) fn own_key<L: Naming, R: Wait, const S: usize>(
 ) -> bool {
     let mut old = None;
     for new in 1..=last {
-        if swap(rt, alloc, index, share, key, old, new) != Some(true) {
+        if swap(rt, alloc, index, share, key, (old, new)) != Some(true) {
             return false;
         }
         old = Some(new);

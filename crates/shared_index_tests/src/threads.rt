@@ -19,7 +19,7 @@ pub(crate) fn same_key<L: Naming, R: Wait, const S: usize>(
     let mut wrote = 0;
     for new in 1..=100u64 {
         let old = if new == 1 { None } else { Some(new - 1) };
-        if swap(rt, alloc, index, share, 1, old, new)? {
+        if swap(rt, alloc, index, share, 1, (old, new))? {
             wrote = u64::saturating_add(wrote, 1);
         }
         reclaim(rt, index);

@@ -59,26 +59,31 @@ fn told(told: Result<Transacted<u64, u64>, TransactRefused<u64, u64>>) -> (&'sta
     }
 }
 
-/// Raises key 1 by a transaction with this many retries, while another share writes to it in each of its first this many tries:
-/// what it came to, and how often it was tried.
+/// How often a transaction is tried again at most, and in how many of its first tries another share writes.
+#[derive(Clone, Copy)]
+struct Tries {
+    retries: u32,
+    writes: u32,
+}
+
+/// Raises key 1 by a transaction, while another share writes to it: what it came to, and how often it was tried.
 fn beside<L: Naming, R: Wait + Abort, const S: usize>(
     rt: &R,
     alloc: Global,
     index: &Index<'_, L, S>,
     share: &mut Share<L>,
     other: &RefCell<Share<L>>,
-    retries: u32,
-    writes: u32,
+    most: Tries,
 ) -> ((&'static str, u64), u32) {
     let Ok(mut member) = index.participant() else {
         panic!(rt; "a participant is free");
     };
     let tries = Cell::new(0u32);
     let queries = [Query::Get(1)];
-    let done = member.transact(rt, share, &queries, retries, |reads| {
+    let done = member.transact(rt, share, &queries, most.retries, |reads| {
         let made = tries.get();
         tries.set(made.saturating_add(1));
-        if made < writes {
+        if made < most.writes {
             meddle(rt, alloc, index, other, 10 * u64::from(made) + 10);
         }
         raised(alloc, reads)
@@ -104,9 +109,39 @@ fn found<L: Naming, R: Wait + Abort>(
     let mut share = taken(rt, &mut shares);
     let other = RefCell::new(taken(rt, &mut shares));
     let told = [
-        beside(rt, alloc, &index, &mut share, &other, 2, 2),
-        beside(rt, alloc, &index, &mut share, &other, 1, 2),
-        beside(rt, alloc, &index, &mut share, &other, 0, 0),
+        beside(
+            rt,
+            alloc,
+            &index,
+            &mut share,
+            &other,
+            Tries {
+                retries: 2,
+                writes: 2,
+            },
+        ),
+        beside(
+            rt,
+            alloc,
+            &index,
+            &mut share,
+            &other,
+            Tries {
+                retries: 1,
+                writes: 2,
+            },
+        ),
+        beside(
+            rt,
+            alloc,
+            &index,
+            &mut share,
+            &other,
+            Tries {
+                retries: 0,
+                writes: 0,
+            },
+        ),
     ];
     let other = other.into_inner();
     let counts = [share.count(), other.count()];

@@ -191,6 +191,13 @@ enum Meanwhile {
     Reads,
 }
 
+/// What is done while it is open, and the number of the last list.
+#[derive(Clone, Copy)]
+struct Course {
+    how: Meanwhile,
+    last: u64,
+}
+
 /// What is found of it: whether it read the first list, the number of its receipt and how many reads that has, what an audit
 /// says of that, the list that is left, the count of the share, and the number of the index.
 type Found = (
@@ -209,8 +216,7 @@ fn kept_on<L: Naming + Send + Sync, R: Threads + Wait + Abort + Sync>(
     domain: &Domain<Item>,
     local: Local<Item>,
     blank: Blank,
-    how: Meanwhile,
-    last: u64,
+    course: Course,
 ) -> Found
     requires begins { CanBegin L.place L.name L.parts 1 domain.now local blank }
     requires last { L.last ≡ 18446744073709551615 }
@@ -218,7 +224,7 @@ fn kept_on<L: Naming + Send + Sync, R: Threads + Wait + Abort + Sync>(
     let (index, mut shares) = begun::<L, R, 2>(rt, alloc, domain, local, blank, 1);
     let mut share = taken(rt, &mut shares);
     let mut reader = member(rt, domain);
-    let (receipt, is_first) = match how {
+    let (receipt, is_first) = match course.how {
         Meanwhile::Waits => {
             write(rt, alloc, &index, &mut share, inserts(rt, alloc, &THREE));
             walk_and_wait(rt, alloc, &index, &mut reader, &mut share)
@@ -229,7 +235,7 @@ fn kept_on<L: Naming + Send + Sync, R: Threads + Wait + Abort + Sync>(
         }
     };
     let audit = audit(rt, &index, &receipt);
-    let list = listed(rt, &index, &mut reader, last);
+    let list = listed(rt, &index, &mut reader, course.last);
     leave(domain, reader);
     let count = share.count();
     put(rt, &mut shares, share);
@@ -243,12 +249,11 @@ fn in_a_place<R: Threads + Wait + Abort + Sync>(
     rt: &R,
     alloc: Global,
     slots: u16,
-    how: Meanwhile,
-    last: u64,
+    course: Course,
 ) -> Found {
     let domain = place(alloc, place_for(2, usize::from(slots))).expect(rt, ROOM);
     let local = member(rt, &domain);
-    let found = kept_on::<Brand, R>(rt, alloc, &domain, local, Blank::new(1), how, last);
+    let found = kept_on::<Brand, R>(rt, alloc, &domain, local, Blank::new(1), course);
     end(rt, domain);
     found
 }
@@ -271,7 +276,11 @@ const AFTER_THE_WALK: [(u64, u64); 11] = [
 #[test]
 fn a_walk_that_waits_for_a_commit_goes_on_in_its_list(rt: HostRuntime) {
     // 1 slot for the empty version, 7 for the first commit, 9 for the second, and 3 for each other one
-    let found = in_a_place(&rt, rt.alloc(), 512, Meanwhile::Waits, 102);
+    let course = Course {
+        how: Meanwhile::Waits,
+        last: 102,
+    };
+    let found = in_a_place(&rt, rt.alloc(), 512, course);
     let (is_first, read, audit, list, count, number) = found;
     assert!(rt; list == range(&rt, rt.alloc(), AFTER_THE_WALK));
     assert!(rt; is_first && audit == Ok(Audit::Yes));
@@ -295,7 +304,11 @@ const AFTER_A_THOUSAND: [(u64, u64); 10] = [
 #[test]
 fn a_session_is_kept_over_a_thousand_commits(rt: HostRuntime) {
     // 1 slot for the empty version, 21 for the first commit, and 3 for each other one
-    let found = in_a_place(&rt, rt.alloc(), 4096, Meanwhile::Reads, 1001);
+    let course = Course {
+        how: Meanwhile::Reads,
+        last: 1001,
+    };
+    let found = in_a_place(&rt, rt.alloc(), 4096, course);
     let (is_first, read, audit, list, count, number) = found;
     assert!(rt; list == range(&rt, rt.alloc(), AFTER_A_THOUSAND));
     assert!(rt; is_first && audit == Ok(Audit::Yes));

@@ -1,5 +1,5 @@
 use Rattle.sdd_domain.specs.Tokens.{place_of}
-use Rattle.shared_index_tests.proofs.receipts.plays.Given as goal
+use Rattle.shared_index_tests.proofs.steps.plays.Given as goal
 
 abbrev pub ghosts-by_size-L-Ledger : goal.ghosts-by_size-L-Ledger
 ghosts-by_size-L-Ledger g a = record { name = a.blank.name; parts = a.blank.parts }
