@@ -6,7 +6,7 @@ ghost use Rattle.shared_index.specs.SharedInvariant.{IsUnengaged};
 ghost use Rattle.shared_sessions.specs.Openings.{root_number};
 
 use crate::place::{leave, registered};
-use crate::readers::{Sample, Span, fresh, read_all, sessions};
+use crate::readers::{Load, Sample, Span, fresh, read_all, sessions};
 use crate::task::{Index, Item, Task};
 use crate::writer::{Commits, build, commit_until, rounds};
 use sdd_domain::domain::Domain;
@@ -85,12 +85,17 @@ fn alone<L: Naming, R: Wait>(
     let domain = index.domain();
     let root = index.root();
     let mut local = registered(domain)?;
-    let sample = if task.writes == 0 {
-        sessions(alloc, domain, root, &mut local, task, task.last, fresh(77))
+    let count = if task.writes == 0 {
+        task.last
     } else {
         refused = u64::from(task.last).wrapping_sub(rounds(rt, alloc, index, share, task));
-        sessions(alloc, domain, root, &mut local, task, 1, fresh(77))
+        1
     };
+    let load = Load {
+        task,
+        sessions: count,
+    };
+    let sample = sessions(alloc, domain, root, &mut local, load, fresh(77));
     leave(domain, local);
     let times: Vec<u64> = Vec::new(alloc);
     Some(Found {

@@ -87,14 +87,20 @@ pub fn session(
     }
 }
 
-/// This many sessions of a participant, one by one.
+/// How many sessions there are, with the gets of a task in each.
+#[derive(Clone, Copy)]
+pub struct Load {
+    pub task: Task,
+    pub sessions: u32,
+}
+
+/// The sessions of a participant, one by one.
 pub fn sessions(
     alloc: Global,
     domain: &Domain<Item>,
     root: Root<'_, Item>,
     local: &mut Local<Item>,
-    task: Task,
-    rounds: u32,
+    load: Load,
     sample: Sample,
 ) -> Sample
     requires home { home_of local.old ≡ place_of domain.now }
@@ -104,8 +110,8 @@ pub fn sessions(
     ensures closed { (own_of local.new).nesting ≡ 0 }
 {
     let mut sample = sample;
-    for _round in 0..rounds {
-        sample = session(alloc, domain, root, local, task, sample);
+    for _round in 0..load.sessions {
+        sample = session(alloc, domain, root, local, load.task, sample);
     }
     sample
 }
@@ -119,18 +125,29 @@ fn sessions_of_a_turn(task: Task) -> u32 {
     }
 }
 
+/// What a reader does and when, and the state of its draws at first.
+#[derive(Clone, Copy)]
+struct Reading {
+    task: Task,
+    span: Span,
+    seed: u64,
+}
+
 /// Sessions of a new participant until the span ends; those that begin within it are counted. None if no participant was free.
 fn reads<R: Clock>(
     rt: &R,
     alloc: Global,
     domain: &Domain<Item>,
     root: Root<'_, Item>,
-    task: Task,
-    span: Span,
-    seed: u64,
+    reading: Reading,
 ) -> Option<Sample>
     requires inside { root_number root < cell_count domain.now }
 {
+    let Reading { task, span, seed } = reading;
+    let load = Load {
+        task,
+        sessions: sessions_of_a_turn(task),
+    };
     let mut local = registered(domain)?;
     let mut sample = fresh(seed);
     for _turn in 0..u64::MAX {
@@ -140,15 +157,7 @@ fn reads<R: Clock>(
         if now >= span.end {
             break;
         }
-        sample = sessions(
-            alloc,
-            domain,
-            root,
-            &mut local,
-            task,
-            sessions_of_a_turn(task),
-            sample,
-        );
+        sample = sessions(alloc, domain, root, &mut local, load, sample);
         if now < span.begin {
             sample = fresh(sample.state);
         }
@@ -177,9 +186,11 @@ pub fn read_all<R: Threads + Clock + Sync>(
             alloc,
             domain,
             root,
-            task,
-            span,
-            (i as u64).wrapping_add(77),
+            Reading {
+                task,
+                span,
+                seed: (i as u64).wrapping_add(77),
+            },
         ),
     )
 }
