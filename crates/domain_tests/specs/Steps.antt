@@ -4,7 +4,7 @@ use Rattle.std.specs.Option.{ForSome}
 use Rattle.sdd_domain.specs.Cells.{cell_number}
 use Rattle.sdd_domain.specs.Collecting.{collects_in}
 use Rattle.sdd_domain.specs.Sharing.{kept_in}
-use Rattle.sdd_domain.specs.Tokens.{place_of, home_of, hand_of, own_of, cell_count, nest_of, nest_in, IsInNestButMisses}
+use Rattle.sdd_domain.specs.Tokens.{place_of, home_of, hand_of, own_of, cell_count, nest_of, nest_in, IsInNestButMisses, IsSameButMisses}
 use Rattle.sdd_domain.specs.declared.atomic_shared.AtomicShared.{AtomicShared}
 use Rattle.sdd_domain.specs.declared.domain.Domain.{Domain}
 use Rattle.sdd_domain.specs.declared.guard.Guard.{Guard}
@@ -21,6 +21,11 @@ pub record Rests {T : Type 0} (d : Domain T) (l : Local T) : Type 0 where
   pub home : home_of l ≡ place_of d
   pub bare : hand_of l ≡ []
   pub closed : (own_of l).nesting ≡ 0
+
+-- the participant is the same, with no guard open
+pub record StillRests {T : Type 0} (old new : Local T) : Type 0 where
+  pub same : IsSameButMisses old new
+  pub closed : (own_of new).nesting ≡ 0
 
 -- the participant is the same, and so are its guards
 abbrev pub Stays : {T : Type 0} → Local T → Local T → Type 0

@@ -3,8 +3,8 @@
 ghost use Rattle.std.specs.Prelude.{◌≡◌};
 ghost use Rattle.sdd_domain.specs.Collecting.{collects_in};
 ghost use Rattle.sdd_domain.specs.Sharing.{kept_in};
-ghost use Rattle.sdd_domain.specs.Tokens.{place_of, own_of, IsSame};
-ghost use Rattle.domain_tests.specs.Steps.{IsHome, IsMine, Stays};
+ghost use Rattle.sdd_domain.specs.Tokens.{place_of};
+ghost use Rattle.domain_tests.specs.Steps.{IsHome, Rests, StillRests, Stays, IsMine};
 
 use crate::steps::Act::{
     Alternate, Clone, Collect, Gather, HandOver, Join, Passes, Place, Release, Second, Slots,
@@ -27,13 +27,11 @@ pub(crate) fn collected(
     owner: Shared<u64>,
     accelerated: bool,
 ) -> (PrivateCollector, bool)
-    requires home { IsHome domain.now local.old }
-    requires closed { (own_of local.old).nesting ≡ 0 }
+    requires rests { Rests domain.now local.old }
     requires mine { collects_in collector ≡ place_of domain.now }
     requires ours { kept_in owner ≡ (place_of domain.now).0 }
     ensures mine { collects_in result.0 ≡ place_of domain.now }
-    ensures same { IsSame local.old local.new }
-    ensures closed { (own_of local.new).nesting ≡ 0 }
+    ensures rests { StillRests local.old local.new }
 {
     let Ok(guard) = Guard::new(domain, local) else {
         unreachable!();
@@ -93,140 +91,115 @@ pub(crate) fn handing_over(domain: &Domain<u64>) -> Option<u32> {
     Some(count)
 }
 
-/// What was collected keeps its slot when its collector is handed over, until four accelerated guards have passed.
-pub(crate) const HANDED_OVER: Table = Table {
-    participants: 1,
-    slots: 1,
-    cells: 0,
-    first: 0,
-    parts: &[Apart(&[
-        (Gather, Yes),
-        (Place(7), Nothing),
-        (Collect(false), Yes),
-        (HandOver, Nothing),
-        (Place(8), Is(8)),
-        (Passes(true, 3), Nothing),
-        (Place(8), Is(8)),
-        (Passes(true, 1), Nothing),
-        (Place(8), Nothing),
-        (Release, Yes),
-    ])],
-};
-
-/// A collect reclaims what was noted three counts before, and nothing that was noted two before. Guards reclaim nothing of it.
-pub(crate) const THREE_COUNTS: Table = Table {
-    participants: 1,
-    slots: 5,
-    cells: 0,
-    first: 0,
-    parts: &[Apart(&[
-        (Gather, Yes),
-        (Place(1), Nothing),
-        (Collect(true), Yes),
-        (Place(2), Nothing),
-        (Collect(true), Yes),
-        (Place(3), Nothing),
-        (Collect(true), Yes),
-        (Slots, Is(3)),
-        (Place(4), Nothing),
-        (Collect(false), Yes),
-        (Slots, Is(3)),
-        (Passes(true, 8), Nothing),
-        (Slots, Is(3)),
-        (Place(5), Nothing),
-        (Collect(false), Yes),
-        (Slots, Is(1)),
-    ])],
-};
-
-/// An owner that isn't the last one is given back, and nothing is collected.
-pub(crate) const OTHERS_LEFT: Table = Table {
-    participants: 2,
-    slots: 2,
-    cells: 0,
-    first: 0,
-    parts: &[Apart(&[
-        (Gather, Yes),
-        (Place(1), Nothing),
-        (Clone, Yes),
-        (Collect(false), No),
-        (Second, Nothing),
-        (Collect(false), Yes),
-        (Slots, Is(1)),
-    ])],
-};
-
-/// While an older guard is open, nothing that is collected is reclaimed.
-pub(crate) const BESIDE_A_GUARD: Table = Table {
-    participants: 2,
-    slots: 8,
-    cells: 0,
-    first: 0,
-    parts: &[
-        Apart(&[(Join, Is(1)), (Gather, Yes)]),
-        Under(&[
-            (Beside(Place(1)), Nothing),
-            (Beside(Collect(true)), Yes),
-            (Beside(Place(2)), Nothing),
-            (Beside(Collect(true)), Yes),
-            (Beside(Place(3)), Nothing),
-            (Beside(Collect(true)), Yes),
-            (Beside(Passes(true, 8)), Nothing),
-            (Beside(Place(4)), Nothing),
-            (Beside(Collect(true)), Yes),
-            (Do(Slots), Is(4)),
-        ]),
-        Apart(&[
+pub(crate) const TABLES: &[Table] = &[
+    // What was collected keeps its slot when its collector is handed over, until four accelerated guards have passed.
+    Table {
+        place: (1, 1, 0, 0),
+        parts: &[Apart(&[
+            (Gather, Yes),
+            (Place(7), Nothing),
+            (Collect(false), Yes),
+            (HandOver, Nothing),
+            (Place(8), Is(8)),
             (Passes(true, 3), Nothing),
-            (Place(5), Nothing),
-            (Collect(true), Yes),
-            (Slots, Is(1)),
-        ]),
-    ],
-};
-
-/// Another participant may take a collector over, and what an ended one had retired so is left to the next one.
-pub(crate) const TAKEN_OVER: Table = Table {
-    participants: 2,
-    slots: 2,
-    cells: 0,
-    first: 0,
-    parts: &[
-        Apart(&[
-            (Join, Is(1)),
+            (Place(8), Is(8)),
+            (Passes(true, 1), Nothing),
+            (Place(8), Nothing),
+            (Release, Yes),
+        ])],
+    },
+    // A collect reclaims what was noted three counts before, and nothing that was noted two before. Guards reclaim nothing of it.
+    Table {
+        place: (1, 5, 0, 0),
+        parts: &[Apart(&[
             (Gather, Yes),
             (Place(1), Nothing),
             (Collect(true), Yes),
-            (Alternate, Nothing),
-            (HandOver, Nothing),
-        ]),
-        Renew,
-        Apart(&[(Slots, Is(1)), (Passes(true, 4), Nothing), (Slots, Is(0))]),
-    ],
-};
-
-/// Two threads collect beside each other.
-pub(crate) const BY_THREADS: Table = Table {
-    participants: 3,
-    slots: 16,
-    cells: 0,
-    first: 0,
-    parts: &[
-        Crowd([Task::Collects, Task::Collects, Task::Nothing, Task::Nothing]),
-        Apart(&[(Join, Is(1)), (Passes(true, 4), Nothing)]),
-        Renew,
-        Apart(&[(Passes(true, 4), Nothing)]),
-    ],
-};
-
-/// Two threads collect and hand over again and again, while two others scan. Every slot is returned.
-pub(crate) const HANDED_OVER_BESIDE_SCANS: Table = Table {
-    participants: 5,
-    slots: 16,
-    cells: 0,
-    first: 0,
-    parts: &[
-        Crowd([Task::HandsOver, Task::HandsOver, Task::Stays, Task::Stays]),
-        Apart(&[(Passes(true, 4), Nothing), (Slots, Is(0))]),
-    ],
-};
+            (Place(2), Nothing),
+            (Collect(true), Yes),
+            (Place(3), Nothing),
+            (Collect(true), Yes),
+            (Slots, Is(3)),
+            (Place(4), Nothing),
+            (Collect(false), Yes),
+            (Slots, Is(3)),
+            (Passes(true, 8), Nothing),
+            (Slots, Is(3)),
+            (Place(5), Nothing),
+            (Collect(false), Yes),
+            (Slots, Is(1)),
+        ])],
+    },
+    // An owner that isn't the last one is given back, and nothing is collected.
+    Table {
+        place: (2, 2, 0, 0),
+        parts: &[Apart(&[
+            (Gather, Yes),
+            (Place(1), Nothing),
+            (Clone, Yes),
+            (Collect(false), No),
+            (Second, Nothing),
+            (Collect(false), Yes),
+            (Slots, Is(1)),
+        ])],
+    },
+    // While an older guard is open, nothing that is collected is reclaimed.
+    Table {
+        place: (2, 8, 0, 0),
+        parts: &[
+            Apart(&[(Join, Is(1)), (Gather, Yes)]),
+            Under(&[
+                (Beside(Place(1)), Nothing),
+                (Beside(Collect(true)), Yes),
+                (Beside(Place(2)), Nothing),
+                (Beside(Collect(true)), Yes),
+                (Beside(Place(3)), Nothing),
+                (Beside(Collect(true)), Yes),
+                (Beside(Passes(true, 8)), Nothing),
+                (Beside(Place(4)), Nothing),
+                (Beside(Collect(true)), Yes),
+                (Do(Slots), Is(4)),
+            ]),
+            Apart(&[
+                (Passes(true, 3), Nothing),
+                (Place(5), Nothing),
+                (Collect(true), Yes),
+                (Slots, Is(1)),
+            ]),
+        ],
+    },
+    // Another participant may take a collector over, and what an ended one had retired so is left to the next one.
+    Table {
+        place: (2, 2, 0, 0),
+        parts: &[
+            Apart(&[
+                (Join, Is(1)),
+                (Gather, Yes),
+                (Place(1), Nothing),
+                (Collect(true), Yes),
+                (Alternate, Nothing),
+                (HandOver, Nothing),
+            ]),
+            Renew,
+            Apart(&[(Slots, Is(1)), (Passes(true, 4), Nothing), (Slots, Is(0))]),
+        ],
+    },
+    // Two threads collect beside each other.
+    Table {
+        place: (3, 16, 0, 0),
+        parts: &[
+            Crowd([Task::Collects, Task::Collects, Task::Nothing, Task::Nothing]),
+            Apart(&[(Join, Is(1)), (Passes(true, 4), Nothing)]),
+            Renew,
+            Apart(&[(Passes(true, 4), Nothing)]),
+        ],
+    },
+    // Two threads collect and hand over again and again, while two others scan. Every slot is returned.
+    Table {
+        place: (5, 16, 0, 0),
+        parts: &[
+            Crowd([Task::HandsOver, Task::HandsOver, Task::Stays, Task::Stays]),
+            Apart(&[(Passes(true, 4), Nothing), (Slots, Is(0))]),
+        ],
+    },
+];

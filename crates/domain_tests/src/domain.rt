@@ -1,7 +1,8 @@
 //! Registering participants, and ending a place.
 
-ghost use Rattle.std.specs.Prelude.{◌≡◌, []};
-ghost use Rattle.sdd_domain.specs.Tokens.{place_of, home_of, hand_of, own_of};
+ghost use Rattle.std.specs.Prelude.{◌≡◌};
+ghost use Rattle.sdd_domain.specs.Tokens.{place_of};
+ghost use Rattle.domain_tests.specs.Steps.{Rests};
 
 use crate::cells::read;
 use crate::collectors::collected;
@@ -21,8 +22,7 @@ use std::process::Abort;
 
 /// A participant of the place, which has one that is free.
 pub(crate) fn member<R: Abort, T: Holds>(rt: &R, domain: &Domain<T>) -> Local<T>
-    ensures home { (home_of result ≡ place_of domain.now) × (hand_of result ≡ []) }
-    ensures closed { (own_of result).nesting ≡ 0 }
+    ensures { Rests domain.now result }
 {
     match domain.register() {
         Ok(local) => local,
@@ -45,19 +45,6 @@ pub(crate) fn end<R: Abort, T: Holds>(rt: &R, domain: Domain<T>) {
         Err(_) => panic!(rt; "nobody is registered"),
     }
 }
-
-/// One participant is registered once at a time, and again when it has ended.
-pub(crate) const ONE_AT_A_TIME: Table = Table {
-    participants: 1,
-    slots: 0,
-    cells: 0,
-    first: 0,
-    parts: &[
-        Apart(&[(Number, Is(0)), (Join, No)]),
-        Renew,
-        Apart(&[(Number, Is(0)), (Join, No)]),
-    ],
-};
 
 /// The numbers of three participants of a place for three; why there is no fourth one; and the number of the one that is
 /// registered when the second has ended.
@@ -154,3 +141,15 @@ fn participants_are_registered_from_the_lowest_and_a_place_is_handed_back_while_
         ((1, true), (Some(1), true), true)
     );
 }
+
+pub(crate) const TABLES: &[Table] = &[
+    // One participant is registered once at a time, and again when it has ended.
+    Table {
+        place: (1, 0, 0, 0),
+        parts: &[
+            Apart(&[(Number, Is(0)), (Join, No)]),
+            Renew,
+            Apart(&[(Number, Is(0)), (Join, No)]),
+        ],
+    },
+];

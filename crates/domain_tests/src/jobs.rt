@@ -1,7 +1,7 @@
 //! Jobs that participants of a place that threads share defer.
 
 ghost use Rattle.std.specs.Prelude.{◌≡◌, [], IfErr};
-ghost use Rattle.sdd_domain.specs.Tokens.{place_of, home_of, hand_of, own_of, IsSame, IsSameButMisses};
+ghost use Rattle.domain_tests.specs.Steps.{Rests, StillRests};
 
 use crate::crowd::{Work, four};
 use crate::domain::{end, member};
@@ -53,11 +53,9 @@ fn counting(runs: &Arc<AtomicU64>) -> Result<Count, AllocError> {
 
 /// Defers a job under an accelerated guard of its own. It is returned where no slot is free.
 fn deferred(domain: &Domain<Count>, local: &mut Local<Count>, job: Count) -> Result<(), Count>
-    requires home { (home_of local.old ≡ place_of domain.now) × (hand_of local.old ≡ []) }
-    requires closed { (own_of local.old).nesting ≡ 0 }
+    requires rests { Rests domain.now local.old }
     ensures refused { IfErr result (λ back. back ≡ job) }
-    ensures same { IsSameButMisses local.old local.new }
-    ensures closed { (own_of local.new).nesting ≡ 0 }
+    ensures rests { StillRests local.old local.new }
 {
     let Ok(guard) = Guard::new(domain, local) else {
         unreachable!();
@@ -70,10 +68,8 @@ fn deferred(domain: &Domain<Count>, local: &mut Local<Count>, job: Count) -> Res
 
 /// Defers a job that counts there: whether it waits.
 fn waits(domain: &Domain<Count>, local: &mut Local<Count>, runs: &Arc<AtomicU64>) -> bool
-    requires home { (home_of local.old ≡ place_of domain.now) × (hand_of local.old ≡ []) }
-    requires closed { (own_of local.old).nesting ≡ 0 }
-    ensures same { IsSameButMisses local.old local.new }
-    ensures closed { (own_of local.new).nesting ≡ 0 }
+    requires rests { Rests domain.now local.old }
+    ensures rests { StillRests local.old local.new }
 {
     match counting(runs) {
         Ok(job) => deferred(domain, local, job).is_ok(),
@@ -83,10 +79,8 @@ fn waits(domain: &Domain<Count>, local: &mut Local<Count>, runs: &Arc<AtomicU64>
 
 /// Opens an accelerated guard and closes it: how many jobs have run once it is open.
 fn passed(domain: &Domain<Count>, local: &mut Local<Count>, runs: &AtomicU64) -> u64
-    requires home { (home_of local.old ≡ place_of domain.now) × (hand_of local.old ≡ []) }
-    requires closed { (own_of local.old).nesting ≡ 0 }
-    ensures same { IsSame local.old local.new }
-    ensures closed { (own_of local.new).nesting ≡ 0 }
+    requires rests { Rests domain.now local.old }
+    ensures rests { StillRests local.old local.new }
 {
     let Ok(guard) = Guard::new(domain, local) else {
         unreachable!();
@@ -99,10 +93,8 @@ fn passed(domain: &Domain<Count>, local: &mut Local<Count>, runs: &AtomicU64) ->
 
 /// The same this many times: how many jobs have run once the last one is open.
 fn passes(domain: &Domain<Count>, local: &mut Local<Count>, runs: &AtomicU64, guards: u32) -> u64
-    requires home { (home_of local.old ≡ place_of domain.now) × (hand_of local.old ≡ []) }
-    requires closed { (own_of local.old).nesting ≡ 0 }
-    ensures same { IsSame local.old local.new }
-    ensures closed { (own_of local.new).nesting ≡ 0 }
+    requires rests { Rests domain.now local.old }
+    ensures rests { StillRests local.old local.new }
 {
     let mut run = 0;
     for _i in 0..guards {

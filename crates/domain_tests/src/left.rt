@@ -1,7 +1,6 @@
 //! What waits in a place of many slots, and who reclaims what others left there.
 
-ghost use Rattle.std.specs.Prelude.{◌≡◌, []};
-ghost use Rattle.sdd_domain.specs.Tokens.{place_of, home_of, hand_of, own_of, IsSame, IsSameButMisses};
+ghost use Rattle.domain_tests.specs.Steps.{Rests, StillRests};
 
 use crate::domain::{end, member};
 use crate::guard::passes;
@@ -12,10 +11,8 @@ use sdd_plain::sizes::Sizes;
 
 /// Places and releases this many items, as far as slots are free.
 fn retire(domain: &Domain<u64>, local: &mut Local<u64>, items: u32)
-    requires home { (home_of local.old ≡ place_of domain.now) × (hand_of local.old ≡ []) }
-    requires closed { (own_of local.old).nesting ≡ 0 }
-    ensures same { IsSameButMisses local.old local.new }
-    ensures closed { (own_of local.new).nesting ≡ 0 }
+    requires rests { Rests domain.now local.old }
+    ensures rests { StillRests local.old local.new }
 {
     for item in 0..items {
         if let Ok(owner) = Shared::new(domain, u64::from(item), local) {
@@ -26,10 +23,8 @@ fn retire(domain: &Domain<u64>, local: &mut Local<u64>, items: u32)
 
 /// How many slots are in use; and then behind three accelerated guards, and behind the fourth.
 fn in_use(domain: &Domain<u64>, local: &mut Local<u64>) -> [usize; 3]
-    requires home { (home_of local.old ≡ place_of domain.now) × (hand_of local.old ≡ []) }
-    requires closed { (own_of local.old).nesting ≡ 0 }
-    ensures same { IsSame local.old local.new }
-    ensures closed { (own_of local.new).nesting ≡ 0 }
+    requires rests { Rests domain.now local.old }
+    ensures rests { StillRests local.old local.new }
 {
     let before = domain.slots_in_use();
     passes(domain, local, true, 3);

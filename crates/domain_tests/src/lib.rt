@@ -4,8 +4,6 @@
 #[cfg(test)]
 mod cells;
 #[cfg(test)]
-mod clones;
-#[cfg(test)]
 mod collectors;
 #[cfg(test)]
 mod crowd;
@@ -24,8 +22,6 @@ mod left;
 #[cfg(test)]
 mod nested;
 #[cfg(test)]
-mod owners;
-#[cfg(test)]
 mod play;
 #[cfg(test)]
 mod refusals;
@@ -35,8 +31,6 @@ mod shares;
 mod stage;
 #[cfg(test)]
 mod steps;
-#[cfg(test)]
-mod tags;
 #[cfg(test)]
 mod threads;
 #[cfg(test)]

@@ -1,9 +1,10 @@
 //! Items that hold items of their own type.
 
-ghost use Rattle.std.specs.Prelude.{◌≡◌, [], IfOk, IfErr};
+ghost use Rattle.std.specs.Prelude.{◌≡◌, IfOk, IfErr};
 ghost use Rattle.sdd_domain.specs.Holding.{all_told};
 ghost use Rattle.sdd_domain.specs.Sharing.{kept_in};
 ghost use Rattle.sdd_domain.specs.Tokens.{place_of, home_of, hand_of, own_of, IsSame, IsSameButHand, IsSameButMisses};
+ghost use Rattle.domain_tests.specs.Steps.{IsHome, Rests, StillRests};
 
 use crate::crowd::{Work, four};
 use crate::domain::{end, member};
@@ -56,7 +57,7 @@ fn leaf<R: Abort>(
     local: &mut Local<Node>,
     number: u64,
 ) -> Shared<Node>
-    requires home { (home_of local.old ≡ place_of domain.now) × (hand_of local.old ≡ []) }
+    requires home { IsHome domain.now local.old }
     ensures place { kept_in result ≡ (place_of domain.now).0 }
     ensures same { IsSame local.old local.new × (own_of local.new ≡ own_of local.old) }
 {
@@ -94,7 +95,7 @@ fn directory<R: Abort>(
     first: Shared<Node>,
     second: Shared<Node>,
 ) -> Result<Shared<Node>, (Shared<Node>, Shared<Node>)>
-    requires home { (home_of local.old ≡ place_of domain.now) × (hand_of local.old ≡ []) }
+    requires home { IsHome domain.now local.old }
     requires mine { (kept_in first ≡ (place_of domain.now).0) × (kept_in second ≡ (place_of domain.now).0) }
     ensures place { IfOk result (λ s. kept_in s ≡ (place_of domain.now).0) }
     ensures back { IfErr result (λ both. (kept_in both.0 ≡ (place_of domain.now).0) × (kept_in both.1 ≡ (place_of domain.now).0)) }
@@ -130,7 +131,7 @@ fn top<R: Abort>(
     first: Shared<Node>,
     number: u64,
 ) -> Shared<Node>
-    requires home { (home_of local.old ≡ place_of domain.now) × (hand_of local.old ≡ []) }
+    requires home { IsHome domain.now local.old }
     requires mine { kept_in first ≡ (place_of domain.now).0 }
     ensures place { kept_in result ≡ (place_of domain.now).0 }
     ensures same { IsSameButMisses local.old local.new × (own_of local.new ≡ own_of local.old) }
@@ -149,7 +150,7 @@ fn twice<R: Abort>(
     local: &mut Local<Node>,
     owner: Shared<Node>,
 ) -> (Shared<Node>, Shared<Node>)
-    requires home { (home_of local.old ≡ place_of domain.now) × (hand_of local.old ≡ []) }
+    requires home { IsHome domain.now local.old }
     requires mine { kept_in owner ≡ (place_of domain.now).0 }
     ensures place { (kept_in result.0 ≡ (place_of domain.now).0) × (kept_in result.1 ≡ (place_of domain.now).0) }
     ensures same { IsSame local.old local.new × (own_of local.new ≡ own_of local.old) }
@@ -189,10 +190,8 @@ pub(crate) fn sum(node: &Node, task: Task) -> Option<u32> {
 
 /// How many slots are in use behind each of seven accelerated guards.
 fn seven(domain: &Domain<Node>, local: &mut Local<Node>) -> [usize; 7]
-    requires home { (home_of local.old ≡ place_of domain.now) × (hand_of local.old ≡ []) }
-    requires closed { (own_of local.old).nesting ≡ 0 }
-    ensures same { IsSame local.old local.new }
-    ensures closed { (own_of local.new).nesting ≡ 0 }
+    requires rests { Rests domain.now local.old }
+    ensures rests { StillRests local.old local.new }
 {
     let mut seen = [0usize; 7];
     for n in 0..7 {
@@ -210,10 +209,8 @@ fn read_and_reclaimed<R: Threads + Abort + Sync>(
     domain: &Domain<Node>,
     local: &mut Local<Node>,
 ) -> (Option<u32>, bool, [usize; 7])
-    requires home { (home_of local.old ≡ place_of domain.now) × (hand_of local.old ≡ []) }
-    requires closed { (own_of local.old).nesting ≡ 0 }
-    ensures same { IsSameButMisses local.old local.new }
-    ensures closed { (own_of local.new).nesting ≡ 0 }
+    requires rests { Rests domain.now local.old }
+    ensures rests { StillRests local.old local.new }
 {
     let first = leaf(rt, domain, local, 1);
     let top = top(rt, alloc, domain, local, first, 2);
@@ -230,10 +227,8 @@ fn kept<R: Abort>(
     domain: &Domain<Node>,
     local: &mut Local<Node>,
 ) -> (bool, usize, u64, bool)
-    requires home { (home_of local.old ≡ place_of domain.now) × (hand_of local.old ≡ []) }
-    requires closed { (own_of local.old).nesting ≡ 0 }
-    ensures same { IsSameButMisses local.old local.new }
-    ensures closed { (own_of local.new).nesting ≡ 0 }
+    requires rests { Rests domain.now local.old }
+    ensures rests { StillRests local.old local.new }
 {
     let first = leaf(rt, domain, local, 1);
     let (first, kept) = twice(rt, domain, local, first);
@@ -253,10 +248,8 @@ fn given_back<R: Abort>(
     domain: &Domain<Node>,
     local: &mut Local<Node>,
 ) -> ((u64, u64), (bool, bool))
-    requires home { (home_of local.old ≡ place_of domain.now) × (hand_of local.old ≡ []) }
-    requires closed { (own_of local.old).nesting ≡ 0 }
-    ensures same { IsSameButMisses local.old local.new }
-    ensures closed { (own_of local.new).nesting ≡ 0 }
+    requires rests { Rests domain.now local.old }
+    ensures rests { StillRests local.old local.new }
 {
     let first = leaf(rt, domain, local, 1);
     let second = leaf(rt, domain, local, 2);

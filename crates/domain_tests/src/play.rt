@@ -8,7 +8,7 @@ use crate::domain::{self, end};
 use crate::stage::Stage;
 use crate::steps::{Act, Found, Part, Table, Task, View};
 use crate::views::Seen;
-use crate::{cells, clones, collectors, guard, items, owners, shares, tags, threads};
+use crate::{cells, collectors, guard, items, shares, threads};
 use sdd_domain::domain::Domain;
 use sdd_domain::guard::Guard;
 use sdd_domain::pointer::Ptr;
@@ -114,14 +114,15 @@ fn parts<R: Threads + Abort + Sync>(rt: &R, stage: Stage<'_>, parts: &[Part]) ->
 
 /// Plays a table in a new place: whether each row was right, and nothing was left.
 fn play<R: Threads + Abort + Sync>(rt: &R, alloc: Global, table: &Table) -> Count {
-    assert!(rt; table.participants > 0);
+    let (participants, slots, cells, first) = table.place;
+    assert!(rt; participants > 0);
     let sizes = Sizes {
-        participants: usize::from(table.participants),
-        slots: usize::from(table.slots),
-        cells: usize::from(table.cells),
+        participants: usize::from(participants),
+        slots: usize::from(slots),
+        cells: usize::from(cells),
         jobs: 0,
     };
-    let domain = Domain::with_count(alloc, sizes, table.first).expect(rt, "memory is there");
+    let domain = Domain::with_count(alloc, sizes, first).expect(rt, "memory is there");
     let count = parts(rt, Stage::new(rt, &domain), table.parts);
     end(rt, domain);
     count
@@ -143,68 +144,21 @@ fn first_wrong<R: Threads + Abort + Sync>(
     None
 }
 
-/// All tables, by what they are about: counts and guards, participants, items, owners, cells, private collectors, and tags.
-const TABLES: &[Table] = &[
-    guard::EACH_RAISES,
-    guard::ONCE_BESIDE_A_GUARD,
-    guard::NOT_REGISTERED,
-    guard::OUTERMOST_CLOSING,
-    guard::ACCELERATION_ENDS,
-    guard::SIXTY_FOURTH_CLOSING,
-    guard::LATE_FLAG,
-    guard::LAST_COUNTS,
-    guard::LAST_COUNT_BESIDE_A_GUARD,
-    guard::NESTED,
-    domain::ONE_AT_A_TIME,
-    threads::STEADY,
-    threads::COMING_AND_GOING,
-    threads::ONCE_UNDER_A_GUARD,
-    items::READ_BY_ITS_OWNER,
-    items::AFTER_FOUR_GUARDS,
-    items::FULL,
-    items::LEFT_TO_ANOTHER,
-    items::LEFT_TWICE,
-    items::LEFT_BEHIND,
-    items::A_THOUSAND,
-    items::BESIDE_EACH_OTHER,
-    items::LENT_TO_THREADS,
-    owners::THE_LAST,
-    owners::STAYS,
-    owners::CLONED_UNDER_A_GUARD,
-    cells::SWAPPED,
-    cells::READ_UNDER_A_GUARD,
-    cells::LOADED_BY_POINTERS,
-    cells::RELEASED_UNDER_A_GUARD,
-    cells::LOADED_WITHIN,
-    cells::RETIRED,
-    cells::EXCHANGED,
-    cells::FROM_AND_TO_NULL,
-    cells::SWAPPED_BY_THREADS,
-    cells::COUNTED_BY_THREADS,
-    shares::OUTLIVES,
-    shares::NO_MORE,
-    shares::LENT,
-    shares::LENT_BESIDE,
-    shares::CLONED,
-    shares::NO_CELL,
-    shares::MADE,
-    shares::SHARED_BY_THREADS,
-    clones::BY_THREADS,
-    collectors::HANDED_OVER,
-    collectors::THREE_COUNTS,
-    collectors::OTHERS_LEFT,
-    collectors::BESIDE_A_GUARD,
-    collectors::TAKEN_OVER,
-    collectors::BY_THREADS,
-    collectors::HANDED_OVER_BESIDE_SCANS,
-    tags::SWAPPED,
-    tags::EQUAL,
-    tags::REFUSED_FOR_THE_TAG,
-    tags::NOTHING_FOR_NOTHING,
-    tags::SET,
+/// All tables, by what they are about: counts and guards, participants, threads, items and their owners, cells and their tags,
+/// owners of what cells name, and private collectors.
+const TABLES: &[&[Table]] = &[
+    guard::TABLES,
+    domain::TABLES,
+    threads::TABLES,
+    items::TABLES,
+    cells::TABLES,
+    shares::TABLES,
+    collectors::TABLES,
 ];
 
 #[test]
 fn each_row_of_each_table_is_right(rt: HostRuntime) {
-    assert_eq!(rt; first_wrong(&rt, rt.alloc(), TABLES), None);
+    for (file, tables) in TABLES.iter().enumerate() {
+        assert_eq!(rt; first_wrong(&rt, rt.alloc(), tables), None, "tables {file}");
+    }
 }

@@ -1,9 +1,10 @@
 //! Runs in which any one allocation may be refused. A script has each refused in turn: whatever is refused, nothing was
 //! kept, and the same call then succeeds.
 
-ghost use Rattle.std.specs.Prelude.{◌≡◌, []};
+ghost use Rattle.std.specs.Prelude.{◌≡◌};
 ghost use Rattle.sdd_domain.specs.Collecting.{collects_in};
-ghost use Rattle.sdd_domain.specs.Tokens.{home_of, hand_of, own_of, place_of};
+ghost use Rattle.sdd_domain.specs.Tokens.{place_of};
+ghost use Rattle.domain_tests.specs.Steps.{Rests};
 
 use crate::collectors::collected;
 use crate::domain::{end, member};
@@ -19,8 +20,7 @@ use std::process::Abort;
 
 /// A participant, registered at once or, where memory was refused, by a second try; and whether it was refused.
 fn registered<R: Abort>(rt: &R, domain: &Domain<u64>) -> (Local<u64>, bool)
-    ensures home { (home_of result.0 ≡ place_of domain.now) × (hand_of result.0 ≡ []) }
-    ensures closed { (own_of result.0).nesting ≡ 0 }
+    ensures { Rests domain.now result.0 }
 {
     match domain.register() {
         Ok(local) => (local, false),

@@ -129,22 +129,6 @@ impl<'d> Stage<'d> {
         hands::retire(self.domain, &mut self.here, older);
     }
 
-    /// Changes the hand's owner for that of the second place.
-    fn second(&mut self) -> Found
-        ensures stays { Stays self.old.here self.new.here }
-    {
-        mem::swap(&mut self.hand, &mut self.second);
-        Found::Nothing
-    }
-
-    /// Changes the hand's owner for that of the third place.
-    fn third(&mut self) -> Found
-        ensures stays { Stays self.old.here self.new.here }
-    {
-        mem::swap(&mut self.hand, &mut self.third);
-        Found::Nothing
-    }
-
     fn place(&mut self, item: u64) -> Found
         ensures stays { Stays self.old.here self.new.here }
     {
@@ -221,23 +205,24 @@ impl<'d> Stage<'d> {
             Act::PlaceWith(item) => self.place_with(item),
             Act::Read => hands::read(&self.hand),
             Act::Clone => self.clone(),
-            Act::Second => self.second(),
-            Act::Third => self.third(),
-            Act::Change => self.change(),
+            Act::Second => {
+                mem::swap(&mut self.hand, &mut self.second);
+                Found::Nothing
+            }
+            Act::Third => {
+                mem::swap(&mut self.hand, &mut self.third);
+                Found::Nothing
+            }
+            Act::Change => {
+                mem::swap(&mut self.cell, &mut self.spare);
+                Found::Nothing
+            }
             Act::IsNull | Act::Tag => self.ask(act),
             Act::Slots => hands::count(self.domain),
             Act::Number => Found::Is(hands::number(&self.here)),
             Act::Sum => Found::Is(u64::from(self.sum)),
             _ => self.handle(act),
         }
-    }
-
-    /// Changes the two cells for one another.
-    fn change(&mut self) -> Found
-        ensures stays { Stays self.old.here self.new.here }
-    {
-        mem::swap(&mut self.cell, &mut self.spare);
-        Found::Nothing
     }
 
     /// A step while no guard is open.
@@ -265,9 +250,15 @@ impl<'d> Stage<'d> {
             Act::IsSum => told(self.peek() == Found::Is(u64::from(self.sum))),
             Act::Gather => self.gather(),
             Act::Collect(accelerated) => self.collect(accelerated),
-            Act::HandOver => self.hand_over(),
+            Act::HandOver => {
+                self.put_collector(None);
+                Found::Nothing
+            }
             Act::Join => self.join(),
-            Act::Leave => self.leave(),
+            Act::Leave => {
+                self.put_beside(None);
+                Found::Nothing
+            }
             Act::Alternate => self.alternate(),
             _ => self.act(act),
         }
@@ -304,13 +295,6 @@ impl<'d> Stage<'d> {
             }
             Err(_) => Found::No,
         }
-    }
-
-    fn hand_over(&mut self) -> Found
-        ensures stays { Stays self.old.here self.new.here }
-    {
-        self.put_collector(None);
-        Found::Nothing
     }
 
     /// Collects the owner in hand under a guard of its own.
@@ -354,14 +338,6 @@ impl<'d> Stage<'d> {
             Err(RegisterRefused::Full) => Found::No,
             Err(RegisterRefused::Memory) => Found::Nothing,
         }
-    }
-
-    /// Ends the other participant.
-    fn leave(&mut self) -> Found
-        ensures same { self.new.here ≡ self.old.here }
-    {
-        self.put_beside(None);
-        Found::Nothing
     }
 
     /// Changes the two participants for one another.

@@ -183,10 +183,7 @@ pub(crate) enum Part {
 /// What the participant 0 of a new place does. At the end no owner and no cell is left.
 #[derive(Clone, Copy)]
 pub(crate) struct Table {
-    pub(crate) participants: u8,
-    pub(crate) slots: u8,
-    pub(crate) cells: u8,
-    /// The count of raises that the place begins with.
-    pub(crate) first: u64,
+    /// How many participants, slots and cells the place has, and the count of raises that it begins with.
+    pub(crate) place: (u8, u8, u8, u64),
     pub(crate) parts: &'static [Part],
 }

@@ -1,17 +1,16 @@
 //! Threads that share a place. What they find is the same whatever the schedule.
 
-ghost use Rattle.std.specs.Prelude.{◌≡◌, ◌<◌};
+ghost use Rattle.std.specs.Prelude.{◌<◌};
 ghost use Rattle.sdd_domain.specs.Cells.{cell_number};
-ghost use Rattle.sdd_domain.specs.Tokens.{own_of, cell_count, IsSame, IsSameButMisses};
-ghost use Rattle.domain_tests.specs.Steps.{IsHome, IsInside};
+ghost use Rattle.sdd_domain.specs.Tokens.{cell_count};
+ghost use Rattle.domain_tests.specs.Steps.{Rests, StillRests, IsInside};
 
 use crate::cells::{adds_one, keeps};
-use crate::clones::clones;
 use crate::collectors::{collecting, handing_over};
 use crate::guard::pass;
 use crate::hands::{item, told};
 use crate::items::places;
-use crate::shares::shares;
+use crate::shares::{clones, shares};
 use crate::steps::Act::{Raise, Sum};
 use crate::steps::Found::{Is, Yes};
 use crate::steps::Part::{Apart, Beside, Crowd};
@@ -35,10 +34,8 @@ pub(crate) struct Scene<'a> {
 
 /// An accelerated guard under which the epoch is read three times: whether it went on by one at most.
 fn is_steady(domain: &Domain<u64>, local: &mut Local<u64>) -> bool
-    requires home { IsHome domain.now local.old }
-    requires closed { (own_of local.old).nesting ≡ 0 }
-    ensures same { IsSame local.old local.new }
-    ensures closed { (own_of local.new).nesting ≡ 0 }
+    requires rests { Rests domain.now local.old }
+    ensures rests { StillRests local.old local.new }
 {
     let Ok(guard) = Guard::new(domain, local) else {
         unreachable!();
@@ -64,11 +61,9 @@ fn around(
     task: Task,
     turn: u64,
 ) -> Found
-    requires home { IsHome domain.now local.old }
-    requires closed { (own_of local.old).nesting ≡ 0 }
+    requires rests { Rests domain.now local.old }
     requires inside { cell_number cell.now < cell_count domain.now }
-    ensures same { IsSameButMisses local.old local.new }
-    ensures closed { (own_of local.new).nesting ≡ 0 }
+    ensures rests { StillRests local.old local.new }
 {
     let found = match task {
         Task::Swaps(salt) => told(keeps(domain, local, cell, salt.wrapping_add(turn))),
@@ -89,11 +84,9 @@ fn found(
     task: Task,
     turn: u64,
 ) -> Found
-    requires home { IsHome domain.now local.old }
-    requires closed { (own_of local.old).nesting ≡ 0 }
+    requires rests { Rests domain.now local.old }
     requires inside { IsInside domain.now cell.now }
-    ensures same { IsSameButMisses local.old local.new }
-    ensures closed { (own_of local.new).nesting ≡ 0 }
+    ensures rests { StillRests local.old local.new }
 {
     match (cell, task) {
         (_, Task::Stays | Task::ComesAndGoes) => told(is_steady(domain, local)),
@@ -151,35 +144,26 @@ pub(crate) fn done(scene: &Scene, task: Task) -> Option<u32> {
     Some(done)
 }
 
-/// Four threads open a thousand accelerated guards each, and the count continues behind them.
-pub(crate) const STEADY: Table = Table {
-    participants: 4,
-    slots: 0,
-    cells: 0,
-    first: 0,
-    parts: &[Crowd([Stays; 4]), Apart(&[(Sum, Is(4000)), (Raise, Yes)])],
-};
-
-/// Participants come and go beside guards of others.
-pub(crate) const COMING_AND_GOING: Table = Table {
-    participants: 2,
-    slots: 0,
-    cells: 0,
-    first: 0,
-    parts: &[
-        Crowd([Stays, ComesAndGoes, Nothing, Nothing]),
-        Apart(&[(Sum, Is(2000))]),
-    ],
-};
-
-/// The count is raised once under a guard, whatever others do.
-pub(crate) const ONCE_UNDER_A_GUARD: Table = Table {
-    participants: 3,
-    slots: 0,
-    cells: 0,
-    first: 0,
-    parts: &[
-        Beside([Stays, Stays, Nothing, Nothing], &[(TheEpoch, Is(1))]),
-        Apart(&[(Sum, Is(2000))]),
-    ],
-};
+pub(crate) const TABLES: &[Table] = &[
+    // Four threads open a thousand accelerated guards each, and the count continues behind them.
+    Table {
+        place: (4, 0, 0, 0),
+        parts: &[Crowd([Stays; 4]), Apart(&[(Sum, Is(4000)), (Raise, Yes)])],
+    },
+    // Participants come and go beside guards of others.
+    Table {
+        place: (2, 0, 0, 0),
+        parts: &[
+            Crowd([Stays, ComesAndGoes, Nothing, Nothing]),
+            Apart(&[(Sum, Is(2000))]),
+        ],
+    },
+    // The count is raised once under a guard, whatever others do.
+    Table {
+        place: (3, 0, 0, 0),
+        parts: &[
+            Beside([Stays, Stays, Nothing, Nothing], &[(TheEpoch, Is(1))]),
+            Apart(&[(Sum, Is(2000))]),
+        ],
+    },
+];

@@ -1,6 +1,5 @@
-use Rattle.std.proofs.Common.{◌≡◌, []}
-use Rattle.sdd_domain.specs.Tokens.{own_of, hand_of, home_of, place_of}
+use Rattle.domain_tests.specs.Steps.{Rests}
 use Rattle.domain_tests.proofs.jobs.deferring.Given as goal
 
 abbrev pub invariant-loop-i : goal.invariant-loop-i
-invariant-loop-i l = record { home : home_of l.local ≡ place_of l.domain; closed : (own_of l.local).nesting ≡ 0; bare : hand_of l.local ≡ [] }
+invariant-loop-i l = Rests l.domain l.local
