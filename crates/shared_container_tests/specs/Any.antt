@@ -1,6 +1,8 @@
--- containers of any kind, and why there is no clone
-use Rattle.std.specs.Prelude.{ℕ}
+-- containers of any kind, why there is no clone, and participants that rest
+use Rattle.std.specs.Prelude.{◌≡◌, ℕ, []}
+use Rattle.sdd_domain.specs.Tokens.{place_of, home_of, hand_of, own_of}
 use Rattle.sdd_domain.specs.declared.domain.Domain.{Domain}
+use Rattle.sdd_domain.specs.declared.local.Local.{Local}
 use Rattle.shared_containers.specs.Containers.{IsBagOf, IsQueueOf, IsStackOf}
 use Rattle.shared_containers.specs.declared.outcome.NotCloned.{NotCloned}
 use Rattle.shared_containers.specs.declared.outcome.NotCloned.TheVariants.{Memory, Refused}
@@ -18,3 +20,9 @@ IsAnyOf (any.Bag b) d = IsBagOf b d
 abbrev pub IfRefused : {T : Type 0} → NotCloned T → (PushRefused T → Type 0) → Type 0
 IfRefused Memory P = Unit {0}
 IfRefused (Refused r) P = P r
+
+-- the participant is of the place, with no owner in its hand and no guard open
+pub record Rests {T : Type 0} (d : Domain T) (l : Local T) : Type 0 where
+  pub home : home_of l ≡ place_of d
+  pub bare : hand_of l ≡ []
+  pub closed : (own_of l).nesting ≡ 0

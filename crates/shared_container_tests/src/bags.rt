@@ -1,11 +1,10 @@
 //! Bags by one thread.
 
-ghost use Rattle.std.specs.Prelude.{◌≡◌, []};
-ghost use Rattle.sdd_domain.specs.Tokens.{place_of, home_of, hand_of, own_of};
 ghost use Rattle.shared_containers.specs.Containers.{AreLinksOf, IsAsBefore, IsBagOf};
+ghost use Rattle.shared_container_tests.specs.Any.{Rests};
 
 use crate::lists::is_free;
-use crate::scene::{end, four, member, read, sized};
+use crate::scene::{end, four, member, place, read};
 use sdd_domain::domain::Domain;
 use sdd_domain::local::Local;
 use shared_containers::Links;
@@ -13,7 +12,6 @@ use shared_containers::bag::Bag;
 use shared_containers::outcome::{NotMade, PushRefused};
 use std::alloc::Global;
 use std::process::Abort;
-use std::test::Fail;
 
 /// A bag with one place besides its overflow, and what it is used with.
 #[derive(Drop)]
@@ -27,8 +25,7 @@ struct Scene<'a> {
 impl<'a> Scene<'a> {
     /// Pushes a value: it is returned where no slot is free.
     fn push(&self, local: &mut Local<u64>, value: u64) -> Option<u64>
-        requires home { (home_of local.old ≡ place_of self.now.domain.now) × (hand_of local.old ≡ []) }
-        requires closed { (own_of local.old).nesting ≡ 0 }
+        requires { Rests self.now.domain.now local.old }
         ensures same { IsAsBefore local.old local.new }
     {
         match self.bag.push(self.domain, value, self.links, local) {
@@ -39,8 +36,7 @@ impl<'a> Scene<'a> {
 
     /// Pushes a value into the primary: it is returned, and true, where that is full, and back where no slot is free.
     fn try_push(&self, local: &mut Local<u64>, value: u64) -> Option<(u64, bool)>
-        requires home { (home_of local.old ≡ place_of self.now.domain.now) × (hand_of local.old ≡ []) }
-        requires closed { (own_of local.old).nesting ≡ 0 }
+        requires { Rests self.now.domain.now local.old }
         ensures same { IsAsBefore local.old local.new }
     {
         match self.bag.try_push(self.domain, value, local) {
@@ -51,8 +47,7 @@ impl<'a> Scene<'a> {
     }
 
     fn pop(&self, local: &mut Local<u64>) -> Option<u64>
-        requires home { (home_of local.old ≡ place_of self.now.domain.now) × (hand_of local.old ≡ []) }
-        requires closed { (own_of local.old).nesting ≡ 0 }
+        requires { Rests self.now.domain.now local.old }
         ensures same { IsAsBefore local.old local.new }
     {
         let popped = self.bag.pop(self.domain, self.links, local);
@@ -60,8 +55,7 @@ impl<'a> Scene<'a> {
     }
 
     fn len(&self, local: &mut Local<u64>) -> usize
-        requires home { (home_of local.old ≡ place_of self.now.domain.now) × (hand_of local.old ≡ []) }
-        requires closed { (own_of local.old).nesting ≡ 0 }
+        requires { Rests self.now.domain.now local.old }
         ensures same { IsAsBefore local.old local.new }
     {
         self.bag.len(self.domain, self.links, local)
@@ -83,8 +77,7 @@ struct Found {
 
 /// The sum of 5 and 6, which are pushed and then popped with all others.
 fn pops_all(scene: &Scene, local: &mut Local<u64>) -> u64
-    requires home { (home_of local.old ≡ place_of scene.now.domain.now) × (hand_of local.old ≡ []) }
-    requires closed { (own_of local.old).nesting ≡ 0 }
+    requires { Rests scene.now.domain.now local.old }
     ensures same { IsAsBefore local.old local.new }
 {
     let _ = scene.push(local, 5);
@@ -101,8 +94,7 @@ fn pops_all(scene: &Scene, local: &mut Local<u64>) -> u64
 
 /// What a bag of one place and its overflow does in a place of two slots.
 fn plays(scene: &Scene, local: &mut Local<u64>) -> Found
-    requires home { (home_of local.old ≡ place_of scene.now.domain.now) × (hand_of local.old ≡ []) }
-    requires closed { (own_of local.old).nesting ≡ 0 }
+    requires { Rests scene.now.domain.now local.old }
     ensures same { IsAsBefore local.old local.new }
 {
     let before = scene.len(local);
@@ -128,7 +120,9 @@ fn plays(scene: &Scene, local: &mut Local<u64>) -> Found
 }
 
 /// The same with the links and the bag that it takes.
-fn plays_alone<R: Abort>(rt: &R, alloc: Global, domain: &Domain<u64>) -> Found {
+fn plays_alone<R: Abort>(rt: &R, alloc: Global) -> Found {
+    let whole = place(rt, alloc, 2, 4);
+    let domain = &whole;
     let mut local = member(rt, domain);
     let Ok(links) = Links::new(alloc, domain, &mut local) else {
         panic!(rt; "memory is ample, and so are cells");
@@ -146,16 +140,13 @@ fn plays_alone<R: Abort>(rt: &R, alloc: Global, domain: &Domain<u64>) -> Found {
     bag.end(domain, &links, &mut local);
     links.end(domain, &mut local);
     local.end(domain);
+    end(rt, whole);
     found
 }
 
 #[test]
-fn a_bag_fills_its_primary_and_then_its_overflow_and_gives_that_back_first(
-    rt: HostRuntime,
-) -> Result<(), Fail> {
-    let domain = Domain::new(rt.alloc(), sized(1, 2, 4))?;
-    let found = plays_alone(&rt, rt.alloc(), &domain);
-    end(&rt, domain);
+fn a_bag_fills_its_primary_and_then_its_overflow_and_gives_that_back_first(rt: HostRuntime) {
+    let found = plays_alone(&rt, rt.alloc());
     let expected = Found {
         tried: [None, Some((2, true)), Some((4, false))],
         pushed: [None, Some(3)],
@@ -165,12 +156,11 @@ fn a_bag_fills_its_primary_and_then_its_overflow_and_gives_that_back_first(
         sum: 11,
     };
     assert!(rt; found == expected);
-    Ok(())
 }
 
 #[test]
-fn a_bag_wants_a_cell_for_each_place_and_one_more(rt: HostRuntime) -> Result<(), Fail> {
-    let domain = Domain::new(rt.alloc(), sized(1, 0, 2))?;
+fn a_bag_wants_a_cell_for_each_place_and_one_more(rt: HostRuntime) {
+    let domain = place(&rt, rt.alloc(), 0, 2);
     let mut local = member(&rt, &domain);
     let Ok(links) = Links::new(rt.alloc(), &domain, &mut local) else {
         panic!(&rt; "memory is ample, and no cell is needed");
@@ -188,5 +178,4 @@ fn a_bag_wants_a_cell_for_each_place_and_one_more(rt: HostRuntime) -> Result<(),
     local.end(&domain);
     end(&rt, domain);
     assert!(rt; refused == Some(NotMade::NoCell) && free);
-    Ok(())
 }

@@ -1,17 +1,14 @@
 //! Pushes and pops on a condition, looks at the first item, and walks.
 
-ghost use Rattle.std.specs.Prelude.{◌≡◌, []};
-ghost use Rattle.sdd_domain.specs.Tokens.{place_of, home_of, hand_of, own_of};
 ghost use Rattle.shared_containers.specs.Containers.{IsAsBefore, IsOpenIn, IsStill};
+ghost use Rattle.shared_container_tests.specs.Any.{Rests};
 
-use crate::scene::{Kind, Made, Scene, end, member, read, sized};
-use sdd_domain::domain::Domain;
+use crate::scene::{Kind, Made, Scene, end, member, place, read};
 use sdd_domain::guard::Guard;
 use sdd_domain::local::Local;
 use shared_containers::outcome::PushRefused;
 use std::alloc::Global;
 use std::process::Abort;
-use std::test::Fail;
 
 /// Pushes a value where the newest item is this one. What is returned of one that is refused on the condition, or for want of a
 /// slot, and that it was the condition.
@@ -21,8 +18,7 @@ pub(crate) fn push_behind(
     value: u64,
     newest: Option<u64>,
 ) -> Option<(u64, bool)>
-    requires home { (home_of local.old ≡ place_of scene.now.domain.now) × (hand_of local.old ≡ []) }
-    requires closed { (own_of local.old).nesting ≡ 0 }
+    requires { Rests scene.now.domain.now local.old }
     ensures same { IsAsBefore local.old local.new }
 {
     let Scene { domain, links, .. } = *scene;
@@ -45,21 +41,18 @@ pub(crate) fn push_behind(
 
 /// Pops the first item where it is this one: what was popped, or what another owner reads where it wasn't.
 fn pop_this(scene: &Scene, local: &mut Local<u64>, value: u64) -> (Option<u64>, Option<u64>)
-    requires home { (home_of local.old ≡ place_of scene.now.domain.now) × (hand_of local.old ≡ []) }
-    requires closed { (own_of local.old).nesting ≡ 0 }
+    requires { Rests scene.now.domain.now local.old }
     ensures same { IsAsBefore local.old local.new }
 {
-    let Scene {
-        domain,
-        links,
-        stack,
-        queue,
-        ..
-    } = *scene;
+    let Scene { domain, links, .. } = *scene;
     let popped = if scene.kind == Kind::Queue {
-        queue.pop_if(domain, |found| *found == value, links, local)
+        scene
+            .queue
+            .pop_if(domain, |found| *found == value, links, local)
     } else {
-        stack.pop_if(domain, |found| *found == value, links, local)
+        scene
+            .stack
+            .pop_if(domain, |found| *found == value, links, local)
     };
     match popped {
         Ok(popped) => (read(domain, popped, local), None),
@@ -69,21 +62,18 @@ fn pop_this(scene: &Scene, local: &mut Local<u64>, value: u64) -> (Option<u64>, 
 
 /// The first value, as a pointer and as a closure see it.
 fn peeks(scene: &Scene, local: &mut Local<u64>) -> [Option<u64>; 2]
-    requires home { (home_of local.old ≡ place_of scene.now.domain.now) × (hand_of local.old ≡ []) }
-    requires closed { (own_of local.old).nesting ≡ 0 }
+    requires { Rests scene.now.domain.now local.old }
     ensures same { IsAsBefore local.old local.new }
 {
-    let Scene {
-        domain,
-        links,
-        stack,
-        queue,
-        ..
-    } = *scene;
+    let Scene { domain, links, .. } = *scene;
     let seen = if scene.kind == Kind::Queue {
-        queue.peek_with(domain, |found| found.copied(), links, local)
+        scene
+            .queue
+            .peek_with(domain, |found| found.copied(), links, local)
     } else {
-        stack.peek_with(domain, |found| found.copied(), links, local)
+        scene
+            .stack
+            .peek_with(domain, |found| found.copied(), links, local)
     };
     let Ok(guard) = Guard::new(domain, local) else {
         unreachable!();
@@ -98,40 +88,31 @@ fn pointed_at(scene: &Scene, guard: &Guard, local: &mut Local<u64>) -> Option<u6
     requires open { IsOpenIn guard.now local.old scene.now.domain.now }
     ensures same { IsStill local.old local.new }
 {
-    let Scene {
-        domain,
-        links,
-        stack,
-        queue,
-        ..
-    } = *scene;
+    let Scene { domain, links, .. } = *scene;
     if scene.kind == Kind::Queue {
-        return queue.peek(domain, links, guard, local).as_ref().copied();
+        return scene
+            .queue
+            .peek(domain, links, guard, local)
+            .as_ref()
+            .copied();
     }
-    stack.peek(domain, guard, local).as_ref().copied()
+    scene.stack.peek(domain, guard, local).as_ref().copied()
 }
 
 /// The values in the order of a walk, as the digits of a number, and how many there are.
 pub(crate) fn walks(scene: &Scene, local: &mut Local<u64>) -> (u64, usize)
-    requires home { (home_of local.old ≡ place_of scene.now.domain.now) × (hand_of local.old ≡ []) }
-    requires closed { (own_of local.old).nesting ≡ 0 }
+    requires { Rests scene.now.domain.now local.old }
     ensures same { IsAsBefore local.old local.new }
 {
-    let Scene {
-        domain,
-        links,
-        stack,
-        queue,
-        ..
-    } = *scene;
+    let Scene { domain, links, .. } = *scene;
     let mut digits = 0u64;
     let note = |found: &u64| digits = digits.wrapping_mul(10).wrapping_add(*found);
     if scene.kind == Kind::Queue {
-        queue.for_each(domain, note, links, local);
-        (digits, queue.len(domain, links, local))
+        scene.queue.for_each(domain, note, links, local);
+        (digits, scene.queue.len(domain, links, local))
     } else {
-        stack.for_each(domain, note, links, local);
-        (digits, stack.len(domain, links, local))
+        scene.stack.for_each(domain, note, links, local);
+        (digits, scene.stack.len(domain, links, local))
     }
 }
 
@@ -147,8 +128,7 @@ struct Found {
 
 /// Pushes 1, 2 and 3, each behind the one before, and pops the first of a stack, which is 3, or of a queue, 1.
 fn plays(scene: &Scene, local: &mut Local<u64>) -> Found
-    requires home { (home_of local.old ≡ place_of scene.now.domain.now) × (hand_of local.old ≡ []) }
-    requires closed { (own_of local.old).nesting ≡ 0 }
+    requires { Rests scene.now.domain.now local.old }
     ensures same { IsAsBefore local.old local.new }
 {
     let first = if scene.kind == Kind::Queue { 1 } else { 3 };
@@ -167,19 +147,16 @@ fn plays(scene: &Scene, local: &mut Local<u64>) -> Found
 }
 
 /// The same in a place of its own, and what a pop on a condition finds in an empty one.
-fn plays_alone<R: Abort>(
-    rt: &R,
-    alloc: Global,
-    domain: &Domain<u64>,
-    kind: Kind,
-) -> (Found, (Option<u64>, Option<u64>)) {
-    let mut local = member(rt, domain);
-    let made = Made::new(rt, alloc, domain, &mut local);
-    let scene = made.scene(domain, kind);
+fn plays_alone<R: Abort>(rt: &R, alloc: Global, kind: Kind) -> (Found, (Option<u64>, Option<u64>)) {
+    let domain = place(rt, alloc, 5, 13);
+    let mut local = member(rt, &domain);
+    let made = Made::new(rt, alloc, &domain, &mut local);
+    let scene = made.scene(&domain, kind);
     let nothing = pop_this(&scene, &mut local, 1);
     let found = plays(&scene, &mut local);
-    made.end(domain, &mut local);
-    local.end(domain);
+    made.end(&domain, &mut local);
+    local.end(&domain);
+    end(rt, domain);
     (found, nothing)
 }
 
@@ -189,12 +166,8 @@ fn refused() -> [Option<(u64, bool)>; 5] {
 }
 
 #[test]
-fn a_stack_takes_and_gives_what_conditions_say_of_its_first_value(
-    rt: HostRuntime,
-) -> Result<(), Fail> {
-    let domain = Domain::new(rt.alloc(), sized(1, 5, 13))?;
-    let found = plays_alone(&rt, rt.alloc(), &domain, Kind::Stack);
-    end(&rt, domain);
+fn a_stack_takes_and_gives_what_conditions_say_of_its_first_value(rt: HostRuntime) {
+    let found = plays_alone(&rt, rt.alloc(), Kind::Stack);
     let expected = Found {
         pushed: refused(),
         seen: ([Some(3), Some(3)], (321, 3)),
@@ -202,16 +175,13 @@ fn a_stack_takes_and_gives_what_conditions_say_of_its_first_value(
         left: ([Some(2), Some(2)], (21, 2)),
     };
     assert!(rt; found == (expected, (None, None)));
-    Ok(())
 }
 
 #[test]
 fn a_queue_takes_what_conditions_say_of_its_last_value_and_gives_what_they_say_of_its_first(
     rt: HostRuntime,
-) -> Result<(), Fail> {
-    let domain = Domain::new(rt.alloc(), sized(1, 5, 13))?;
-    let found = plays_alone(&rt, rt.alloc(), &domain, Kind::Queue);
-    end(&rt, domain);
+) {
+    let found = plays_alone(&rt, rt.alloc(), Kind::Queue);
     let expected = Found {
         pushed: refused(),
         seen: ([Some(1), Some(1)], (123, 3)),
@@ -219,5 +189,4 @@ fn a_queue_takes_what_conditions_say_of_its_last_value_and_gives_what_they_say_o
         left: ([Some(2), Some(2)], (23, 2)),
     };
     assert!(rt; found == (expected, (None, None)));
-    Ok(())
 }

@@ -2,10 +2,11 @@
 
 ghost use Rattle.std.specs.Prelude.{◌≡◌, ◌<◌, [], IfSome};
 ghost use Rattle.sdd_domain.specs.Cells.{cell_number};
-ghost use Rattle.sdd_domain.specs.Tokens.{place_of, home_of, hand_of, own_of, cell_count};
+ghost use Rattle.sdd_domain.specs.Tokens.{place_of, home_of, hand_of, cell_count};
 ghost use Rattle.shared_containers.specs.Containers.{AreLinksOf, IsAsBefore, IsStackOf};
+ghost use Rattle.shared_container_tests.specs.Any.{Rests};
 
-use crate::scene::{Kind, Made, Scene, end, four, member, read, sized};
+use crate::scene::{Kind, Made, Scene, end, four, member, place, read};
 use sdd_domain::atomic_shared::AtomicShared;
 use sdd_domain::domain::Domain;
 use sdd_domain::guard::Guard;
@@ -15,15 +16,13 @@ use shared_containers::outcome::NotMade;
 use shared_containers::stack::Stack;
 use std::alloc::Global;
 use std::process::Abort;
-use std::test::Fail;
 
 /// What a full place gives back, what is popped, and whether it was empty before, with three values, with one, and behind.
 type Found = ([Option<u64>; 4], [Option<u64>; 4], [bool; 4]);
 
 /// What a participant finds for three slots, in this order.
 fn plays(scene: &Scene, local: &mut Local<u64>) -> Found
-    requires home { (home_of local.old ≡ place_of scene.now.domain.now) × (hand_of local.old ≡ []) }
-    requires closed { (own_of local.old).nesting ≡ 0 }
+    requires { Rests scene.now.domain.now local.old }
     ensures same { IsAsBefore local.old local.new }
 {
     let before = scene.is_empty(local);
@@ -41,46 +40,34 @@ fn plays(scene: &Scene, local: &mut Local<u64>) -> Found
 }
 
 /// What is found so twice, with four guards in between, and whether nothing is left in the end.
-fn plays_again<R: Abort>(
-    rt: &R,
-    alloc: Global,
-    domain: &Domain<u64>,
-    kind: Kind,
-) -> ([Found; 2], bool) {
-    let mut local = member(rt, domain);
-    let made = Made::new(rt, alloc, domain, &mut local);
-    let scene = made.scene(domain, kind);
+fn plays_again<R: Abort>(rt: &R, alloc: Global, kind: Kind) -> ([Found; 2], bool) {
+    let domain = place(rt, alloc, 3, 11);
+    let mut local = member(rt, &domain);
+    let made = Made::new(rt, alloc, &domain, &mut local);
+    let scene = made.scene(&domain, kind);
     let first = plays(&scene, &mut local);
-    four(domain, &mut local);
+    four(&domain, &mut local);
     let again = plays(&scene, &mut local);
-    let empty = made.end(domain, &mut local);
-    local.end(domain);
+    let empty = made.end(&domain, &mut local);
+    local.end(&domain);
+    end(rt, domain);
     ([first, again], empty)
 }
 
 #[test]
-fn a_stack_gives_the_last_value_first_and_a_full_place_one_back(
-    rt: HostRuntime,
-) -> Result<(), Fail> {
-    let domain = Domain::new(rt.alloc(), sized(1, 3, 11))?;
-    let found = plays_again(&rt, rt.alloc(), &domain, Kind::Stack);
-    end(&rt, domain);
+fn a_stack_gives_the_last_value_first_and_a_full_place_one_back(rt: HostRuntime) {
+    let found = plays_again(&rt, rt.alloc(), Kind::Stack);
     let one = (
         [None, None, None, Some(4)],
         [Some(3), Some(2), Some(1), None],
         [true, false, false, true],
     );
     assert!(rt; found == ([one; 2], true));
-    Ok(())
 }
 
 #[test]
-fn a_queue_gives_the_first_value_first_and_a_full_place_one_back(
-    rt: HostRuntime,
-) -> Result<(), Fail> {
-    let domain = Domain::new(rt.alloc(), sized(1, 3, 11))?;
-    let found = plays_again(&rt, rt.alloc(), &domain, Kind::Queue);
-    end(&rt, domain);
+fn a_queue_gives_the_first_value_first_and_a_full_place_one_back(rt: HostRuntime) {
+    let found = plays_again(&rt, rt.alloc(), Kind::Queue);
     let first = (
         [None, None, None, Some(4)],
         [Some(1), Some(2), Some(3), None],
@@ -93,14 +80,12 @@ fn a_queue_gives_the_first_value_first_and_a_full_place_one_back(
         [true, false, true, true],
     );
     assert!(rt; found == ([first, again], true));
-    Ok(())
 }
 
 /// What is read of the first item of a stack of 1, through one pointer: before and behind a push of 2 and two pops, all of
 /// them under the guard that the pointer was loaded under. And what was popped.
 fn reads_on(scene: &Scene, local: &mut Local<u64>) -> ([Option<u64>; 2], [Option<u64>; 2])
-    requires home { (home_of local.old ≡ place_of scene.now.domain.now) × (hand_of local.old ≡ []) }
-    requires closed { (own_of local.old).nesting ≡ 0 }
+    requires { Rests scene.now.domain.now local.old }
     ensures same { IsAsBefore local.old local.new }
 {
     let Scene { domain, stack, .. } = *scene;
@@ -118,10 +103,8 @@ fn reads_on(scene: &Scene, local: &mut Local<u64>) -> ([Option<u64>; 2], [Option
 }
 
 #[test]
-fn under_an_open_guard_others_are_pushed_and_popped_and_what_was_popped_is_read(
-    rt: HostRuntime,
-) -> Result<(), Fail> {
-    let domain = Domain::new(rt.alloc(), sized(1, 2, 10))?;
+fn under_an_open_guard_others_are_pushed_and_popped_and_what_was_popped_is_read(rt: HostRuntime) {
+    let domain = place(&rt, rt.alloc(), 2, 10);
     let mut local = member(&rt, &domain);
     let made = Made::new(&rt, rt.alloc(), &domain, &mut local);
     let found = reads_on(&made.scene(&domain, Kind::Stack), &mut local);
@@ -129,7 +112,6 @@ fn under_an_open_guard_others_are_pushed_and_popped_and_what_was_popped_is_read(
     local.end(&domain);
     end(&rt, domain);
     assert!(rt; found == ([Some(1), Some(1)], [Some(2), Some(1)]));
-    Ok(())
 }
 
 /// What comes out of a stack in front of all others, which is ended.
@@ -139,8 +121,7 @@ pub(crate) fn last_two(
     links: &Links<u64>,
     local: &mut Local<u64>,
 ) -> [Option<u64>; 3]
-    requires home { (home_of local.old ≡ place_of domain.now) × (hand_of local.old ≡ []) }
-    requires closed { (own_of local.old).nesting ≡ 0 }
+    requires rests { Rests domain.now local.old }
     requires stack { IsStackOf stack domain.now × AreLinksOf links.now domain.now }
     ensures same { IsAsBefore local.old local.new }
 {
@@ -161,8 +142,7 @@ fn moves<R: Abort>(
     scene: &Scene,
     local: &mut Local<u64>,
 ) -> ([Option<u64>; 2], [Option<u64>; 3])
-    requires home { (home_of local.old ≡ place_of scene.now.domain.now) × (hand_of local.old ≡ []) }
-    requires closed { (own_of local.old).nesting ≡ 0 }
+    requires { Rests scene.now.domain.now local.old }
     ensures same { IsAsBefore local.old local.new }
 {
     let _ = scene.push(local, 1);
@@ -176,8 +156,8 @@ fn moves<R: Abort>(
 }
 
 #[test]
-fn all_items_of_a_stack_are_taken_out_in_one_step(rt: HostRuntime) -> Result<(), Fail> {
-    let domain = Domain::new(rt.alloc(), sized(1, 3, 12))?;
+fn all_items_of_a_stack_are_taken_out_in_one_step(rt: HostRuntime) {
+    let domain = place(&rt, rt.alloc(), 3, 12);
     let mut local = member(&rt, &domain);
     let made = Made::new(&rt, rt.alloc(), &domain, &mut local);
     let found = moves(&rt, &made.scene(&domain, Kind::Stack), &mut local);
@@ -185,7 +165,6 @@ fn all_items_of_a_stack_are_taken_out_in_one_step(rt: HostRuntime) -> Result<(),
     local.end(&domain);
     end(&rt, domain);
     assert!(rt; found == ([Some(3), None], [Some(2), Some(1), None]));
-    Ok(())
 }
 
 /// Gives a cell back that there may be.
@@ -213,8 +192,8 @@ pub(crate) fn is_free(domain: &Domain<u64>, local: &mut Local<u64>) -> bool
 }
 
 #[test]
-fn links_want_a_cell_for_each_slot(rt: HostRuntime) -> Result<(), Fail> {
-    let domain = Domain::new(rt.alloc(), sized(1, 3, 2))?;
+fn links_want_a_cell_for_each_slot(rt: HostRuntime) {
+    let domain = place(&rt, rt.alloc(), 3, 2);
     let mut local = member(&rt, &domain);
     let refused = match Links::new(rt.alloc(), &domain, &mut local) {
         Ok(links) => {
@@ -228,5 +207,4 @@ fn links_want_a_cell_for_each_slot(rt: HostRuntime) -> Result<(), Fail> {
     local.end(&domain);
     end(&rt, domain);
     assert!(rt; refused == Some(NotMade::NoCell) && free == (true, true));
-    Ok(())
 }

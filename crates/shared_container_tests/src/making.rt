@@ -1,13 +1,13 @@
 //! Containers that are made of values, and their clones.
 
-ghost use Rattle.std.specs.Prelude.{◌≡◌, [], IfErr, IfSome};
-ghost use Rattle.sdd_domain.specs.Tokens.{place_of, home_of, hand_of, own_of};
+ghost use Rattle.std.specs.Prelude.{◌≡◌, IfErr, IfSome};
+ghost use Rattle.sdd_domain.specs.Tokens.{place_of, home_of};
 ghost use Rattle.shared_containers.specs.Containers.{AreLinksOf, IsAsBefore, IsQueueOf};
 ghost use Rattle.shared_containers.specs.Outcomes.{IsKeptIn};
-ghost use Rattle.shared_container_tests.specs.Any.{IfRefused, IsAnyOf};
+ghost use Rattle.shared_container_tests.specs.Any.{IfRefused, IsAnyOf, Rests};
 
 use crate::kinds::Any;
-use crate::scene::{Kind, end, four, member, sized};
+use crate::scene::{Kind, end, four, member, place, sized};
 use sdd_domain::domain::Domain;
 use sdd_domain::local::Local;
 use sdd_domain::plain::Plain;
@@ -18,7 +18,6 @@ use shared_containers::queue::Queue;
 use shared_containers::stack::Stack;
 use std::alloc::{AllocError, Global};
 use std::process::Abort;
-use std::test::Fail;
 
 /// The values of what was made, or made in part, as the digits of a number in the order of a walk or of pops; and the value
 /// that was returned.
@@ -43,8 +42,7 @@ impl<'a> Scene<'a> {
         last: u64,
         local: &mut Local<u64>,
     ) -> (Option<Any>, Option<u64>)
-        requires home { (home_of local.old ≡ place_of self.now.domain.now) × (hand_of local.old ≡ []) }
-        requires closed { (own_of local.old).nesting ≡ 0 }
+        requires { Rests self.now.domain.now local.old }
         ensures made { IfSome result.0 (λ a. IsAnyOf a self.now.domain.now) }
         ensures same { IsAsBefore local.old local.new }
     {
@@ -76,8 +74,7 @@ impl<'a> Scene<'a> {
 
     /// A clone of a stack or a queue, as far as it was made, and the value that was returned.
     fn copy(&self, any: &Any, local: &mut Local<u64>) -> (Option<Any>, Option<u64>)
-        requires home { (home_of local.old ≡ place_of self.now.domain.now) × (hand_of local.old ≡ []) }
-        requires closed { (own_of local.old).nesting ≡ 0 }
+        requires rests { Rests self.now.domain.now local.old }
         requires any { IsAnyOf any.now self.now.domain.now }
         ensures made { IfSome result.0 (λ a. IsAnyOf a self.now.domain.now) }
         ensures same { IsAsBefore local.old local.new }
@@ -116,8 +113,7 @@ impl<'a> Scene<'a> {
 
     /// The values of a container on which 9 is pushed, if there is a slot for it; and ends it.
     fn digits(&self, any: Any, local: &mut Local<u64>) -> u64
-        requires home { (home_of local.old ≡ place_of self.now.domain.now) × (hand_of local.old ≡ []) }
-        requires closed { (own_of local.old).nesting ≡ 0 }
+        requires rests { Rests self.now.domain.now local.old }
         requires any { IsAnyOf any self.now.domain.now }
         ensures same { IsAsBefore local.old local.new }
     {
@@ -160,8 +156,7 @@ impl<'a> Scene<'a> {
 
     /// Has each link have the tag by which an item of a queue was popped, if there are cells for a queue.
     fn pops_all(&self, alloc: Global, local: &mut Local<u64>)
-        requires home { (home_of local.old ≡ place_of self.now.domain.now) × (hand_of local.old ≡ []) }
-        requires closed { (own_of local.old).nesting ≡ 0 }
+        requires { Rests self.now.domain.now local.old }
         ensures same { IsAsBefore local.old local.new }
     {
         if let (Some(any), _) = self.make(alloc, Kind::Queue, 99, local) {
@@ -172,8 +167,7 @@ impl<'a> Scene<'a> {
 
     /// What is made of the values from 1 up to below the last one, and of its clone, where all slots had items before.
     fn plays(&self, alloc: Global, kind: Kind, last: u64, local: &mut Local<u64>) -> (Made, Made)
-        requires home { (home_of local.old ≡ place_of self.now.domain.now) × (hand_of local.old ≡ []) }
-        requires closed { (own_of local.old).nesting ≡ 0 }
+        requires { Rests self.now.domain.now local.old }
         ensures same { IsAsBefore local.old local.new }
     {
         self.pops_all(alloc, local);
@@ -192,70 +186,36 @@ impl<'a> Scene<'a> {
 
 /// A kind of container, and how many slots and cells there are; below which value it is made; and what is made of it and of its
 /// clone.
-type Row = (Kind, u16, u16, u64, (Made, Made));
+type Row = (Kind, u16, u16, u64, Four);
+
+type Four = (Option<u64>, Option<u64>, Option<u64>, Option<u64>);
 
 const ROWS: &[Row] = &[
     // with room for all
-    (
-        Kind::Stack,
-        8,
-        10,
-        4,
-        ((Some(9321), None), (Some(9321), None)),
-    ),
-    (
-        Kind::Queue,
-        8,
-        12,
-        4,
-        ((Some(1239), None), (Some(1239), None)),
-    ),
-    (Kind::Bag, 4, 7, 4, ((Some(9312), None), NOTHING)),
-    (Kind::Bag, 4, 7, 2, ((Some(19), None), NOTHING)),
+    (Kind::Stack, 8, 10, 4, (Some(9321), None, Some(9321), None)),
+    (Kind::Queue, 8, 12, 4, (Some(1239), None, Some(1239), None)),
+    (Kind::Bag, 4, 7, 4, (Some(9312), None, None, None)),
+    (Kind::Bag, 4, 7, 2, (Some(19), None, None, None)),
     // of nothing
-    (Kind::Stack, 2, 4, 1, ((Some(9), None), (Some(9), None))),
-    (Kind::Queue, 2, 6, 1, ((Some(9), None), (Some(9), None))),
+    (Kind::Stack, 2, 4, 1, (Some(9), None, Some(9), None)),
+    (Kind::Queue, 2, 6, 1, (Some(9), None, Some(9), None)),
     // without a slot for a clone, or for a value
-    (
-        Kind::Stack,
-        5,
-        7,
-        4,
-        ((Some(321), None), (Some(32), Some(1))),
-    ),
-    (
-        Kind::Queue,
-        5,
-        9,
-        4,
-        ((Some(123), None), (Some(12), Some(3))),
-    ),
-    (
-        Kind::Stack,
-        2,
-        4,
-        4,
-        ((Some(21), Some(3)), (Some(0), Some(2))),
-    ),
-    (
-        Kind::Queue,
-        2,
-        6,
-        4,
-        ((Some(12), Some(3)), (Some(0), Some(1))),
-    ),
-    (Kind::Bag, 2, 5, 4, ((Some(12), Some(3)), NOTHING)),
+    (Kind::Stack, 5, 7, 4, (Some(321), None, Some(32), Some(1))),
+    (Kind::Queue, 5, 9, 4, (Some(123), None, Some(12), Some(3))),
+    (Kind::Stack, 2, 4, 4, (Some(21), Some(3), Some(0), Some(2))),
+    (Kind::Queue, 2, 6, 4, (Some(12), Some(3), Some(0), Some(1))),
+    (Kind::Bag, 2, 5, 4, (Some(12), Some(3), None, None)),
     // without cells for a clone, or for a container
-    (Kind::Stack, 5, 6, 4, ((Some(9321), None), NOTHING)),
-    (Kind::Queue, 5, 8, 4, ((Some(1239), None), NOTHING)),
-    (Kind::Stack, 2, 2, 4, ((None, Some(1)), NOTHING)),
-    (Kind::Queue, 2, 3, 4, ((None, Some(1)), NOTHING)),
-    (Kind::Bag, 2, 4, 4, ((None, Some(1)), NOTHING)),
+    (Kind::Stack, 5, 6, 4, (Some(9321), None, None, None)),
+    (Kind::Queue, 5, 8, 4, (Some(1239), None, None, None)),
+    (Kind::Stack, 2, 2, 4, (None, Some(1), None, None)),
+    (Kind::Queue, 2, 3, 4, (None, Some(1), None, None)),
+    (Kind::Bag, 2, 4, 4, (None, Some(1), None, None)),
 ];
 
 /// Whether it takes the course that a row says.
-fn is_right<R: Abort>(rt: &R, alloc: Global, row: &Row) -> Result<bool, AllocError> {
-    let domain = Domain::new(alloc, sized(1, row.1, row.2))?;
+fn is_right<R: Abort>(rt: &R, alloc: Global, row: &Row) -> bool {
+    let domain = place(rt, alloc, row.1, row.2);
     let mut local = member(rt, &domain);
     let Ok(links) = Links::new(alloc, &domain, &mut local) else {
         panic!(rt; "memory is ample, and so are cells");
@@ -264,26 +224,23 @@ fn is_right<R: Abort>(rt: &R, alloc: Global, row: &Row) -> Result<bool, AllocErr
         domain: &domain,
         links: &links,
     };
-    let found = scene.plays(alloc, row.0, row.3, &mut local);
+    let (made, copied) = scene.plays(alloc, row.0, row.3, &mut local);
     links.end(&domain, &mut local);
     local.end(&domain);
     end(rt, domain);
-    Ok(found == row.4)
+    (made.0, made.1, copied.0, copied.1) == row.4
 }
 
 #[test]
-fn containers_are_made_of_values_and_cloned_and_what_was_built_comes_back(
-    rt: HostRuntime,
-) -> Result<(), Fail> {
+fn containers_are_made_of_values_and_cloned_and_what_was_built_comes_back(rt: HostRuntime) {
     let mut right = 0usize;
     let rows = ROWS;
     for at in 0..rows.len() {
-        if right == at && is_right(&rt, rt.alloc(), &rows[at])? {
+        if right == at && is_right(&rt, rt.alloc(), &rows[at]) {
             right = right.saturating_add(1);
         }
     }
     assert_eq!(rt; right, rows.len(), "the first row that isn't right");
-    Ok(())
 }
 
 /// A number that can't be cloned where it is 7.
@@ -314,8 +271,7 @@ struct Rares<'a> {
 
 impl<'a> Rares<'a> {
     fn push(&self, local: &mut Local<Plain<Rare>>, number: u64)
-        requires home { (home_of local.old ≡ place_of self.now.domain.now) × (hand_of local.old ≡ []) }
-        requires closed { (own_of local.old).nesting ≡ 0 }
+        requires { Rests self.now.domain.now local.old }
         ensures same { IsAsBefore local.old local.new }
     {
         let value = Plain {
@@ -328,8 +284,7 @@ impl<'a> Rares<'a> {
 
     /// The numbers of its clone, as far as it was made, as the digits of a number; and whether it ends where memory was refused.
     fn clones(&self, local: &mut Local<Plain<Rare>>) -> (u64, bool)
-        requires home { (home_of local.old ≡ place_of self.now.domain.now) × (hand_of local.old ≡ []) }
-        requires closed { (own_of local.old).nesting ≡ 0 }
+        requires { Rests self.now.domain.now local.old }
         ensures same { IsAsBefore local.old local.new }
     {
         let mut digits = 0u64;
@@ -352,8 +307,8 @@ impl<'a> Rares<'a> {
 }
 
 #[test]
-fn a_clone_ends_before_a_value_whose_clone_is_refused_memory(rt: HostRuntime) -> Result<(), Fail> {
-    let domain = Domain::new(rt.alloc(), sized(1, 8, 12))?;
+fn a_clone_ends_before_a_value_whose_clone_is_refused_memory(rt: HostRuntime) {
+    let domain = Domain::new(rt.alloc(), sized(1, 8, 12)).expect(&rt, "memory is ample");
     let mut local = member(&rt, &domain);
     let Ok(links) = Links::new(rt.alloc(), &domain, &mut local) else {
         panic!(&rt; "memory is ample, and so are cells");
@@ -376,7 +331,6 @@ fn a_clone_ends_before_a_value_whose_clone_is_refused_memory(rt: HostRuntime) ->
     local.end(&domain);
     end(&rt, domain);
     assert!(rt; (all, found) == ((6, false), (6, true)));
-    Ok(())
 }
 
 /// Makes a bag of three values and ends it. Where memory is refused instead: whether all of them are returned.
@@ -413,8 +367,7 @@ fn bag_of_three(
     links: &Links<u64>,
     local: &mut Local<u64>,
 ) -> Result<(), bool>
-    requires home { (home_of local.old ≡ place_of domain.now) × (hand_of local.old ≡ []) }
-    requires closed { (own_of local.old).nesting ≡ 0 }
+    requires rests { Rests domain.now local.old }
     requires links { AreLinksOf links.now domain.now }
     ensures same { IsAsBefore local.old local.new }
 {

@@ -6,7 +6,7 @@ ghost use Rattle.shared_containers.specs.Containers.{AreLinksOf, IsAsBefore, IsS
 
 use crate::conditions::{push_behind, walks};
 use crate::lists::last_two;
-use crate::scene::{Kind, Made, end, member, sized};
+use crate::scene::{Kind, Made, end, member, place};
 use sdd_domain::domain::Domain;
 use sdd_domain::local::Local;
 use shared_containers::Links;
@@ -14,7 +14,6 @@ use shared_containers::queue::Queue;
 use shared_containers::stack::Stack;
 use std::alloc::Global;
 use std::process::Abort;
-use std::test::Fail;
 
 /// What comes out of a stack, which is ended, and so are another one and the links.
 fn left_in(
@@ -37,11 +36,9 @@ fn left_in(
 
 /// What is refused where one cell is free beside links and a stack of 1: a queue, one more stack behind another, and a
 /// stack of all items. And what the stack has then.
-fn refused_cells<R: Abort>(
-    rt: &R,
-    alloc: Global,
-    domain: &Domain<u64>,
-) -> ([bool; 4], [Option<u64>; 3]) {
+fn refused_cells<R: Abort>(rt: &R, alloc: Global) -> ([bool; 4], [Option<u64>; 3]) {
+    let whole = place(rt, alloc, 1, 3);
+    let domain = &whole;
     let mut local = member(rt, domain);
     let Ok(links) = Links::new(alloc, domain, &mut local) else {
         panic!(rt; "memory is ample, and a cell is free");
@@ -79,45 +76,40 @@ fn refused_cells<R: Abort>(
     };
     let left = left_in(domain, stack, other, links, &mut local);
     local.end(domain);
+    end(rt, whole);
     ([is_pushed, queue, third, all], left)
 }
 
 #[test]
-fn stacks_want_a_cell_each_and_queues_two(rt: HostRuntime) -> Result<(), Fail> {
-    let domain = Domain::new(rt.alloc(), sized(1, 1, 3))?;
-    let found = refused_cells(&rt, rt.alloc(), &domain);
-    end(&rt, domain);
+fn stacks_want_a_cell_each_and_queues_two(rt: HostRuntime) {
+    let found = refused_cells(&rt, rt.alloc());
     assert!(rt; found == ([true; 4], [Some(1), None, None]));
-    Ok(())
 }
 
 /// What is returned of 1 and 2, whose conditions hold, in a place of one slot; and the digits and the count of what is in.
 type Found = ([Option<(u64, bool)>; 2], (u64, usize));
 
-fn pushes_two<R: Abort>(rt: &R, alloc: Global, domain: &Domain<u64>, kind: Kind) -> Found {
-    let mut local = member(rt, domain);
-    let made = Made::new(rt, alloc, domain, &mut local);
-    let scene = made.scene(domain, kind);
+fn pushes_two<R: Abort>(rt: &R, alloc: Global, kind: Kind) -> Found {
+    let domain = place(rt, alloc, 1, 9);
+    let mut local = member(rt, &domain);
+    let made = Made::new(rt, alloc, &domain, &mut local);
+    let scene = made.scene(&domain, kind);
     let pushed = [
         push_behind(&scene, &mut local, 1, None),
         push_behind(&scene, &mut local, 2, Some(1)),
     ];
     let left = walks(&scene, &mut local);
-    made.end(domain, &mut local);
-    local.end(domain);
+    made.end(&domain, &mut local);
+    local.end(&domain);
+    end(rt, domain);
     (pushed, left)
 }
 
 #[test]
-fn what_a_condition_lets_in_wants_a_slot(rt: HostRuntime) -> Result<(), Fail> {
-    let domain = Domain::new(rt.alloc(), sized(1, 1, 9))?;
-    let stack = pushes_two(&rt, rt.alloc(), &domain, Kind::Stack);
-    end(&rt, domain);
-    let domain = Domain::new(rt.alloc(), sized(1, 1, 9))?;
-    let queue = pushes_two(&rt, rt.alloc(), &domain, Kind::Queue);
-    end(&rt, domain);
+fn what_a_condition_lets_in_wants_a_slot(rt: HostRuntime) {
+    let stack = pushes_two(&rt, rt.alloc(), Kind::Stack);
+    let queue = pushes_two(&rt, rt.alloc(), Kind::Queue);
     // it isn't the condition
     let one = ([None, Some((2, false))], (1, 1));
     assert!(rt; stack == one && queue == one);
-    Ok(())
 }

@@ -5,6 +5,7 @@ ghost use Rattle.sdd_domain.specs.Layout.{IsSized};
 ghost use Rattle.sdd_domain.specs.Sharing.{kept_in};
 ghost use Rattle.sdd_domain.specs.Tokens.{place_of, home_of, hand_of, own_of, IsInNest};
 ghost use Rattle.shared_containers.specs.Containers.{AreLinksOf, IsBagOf, IsQueueOf, IsStackOf, IsAsBefore};
+ghost use Rattle.shared_container_tests.specs.Any.{Rests};
 
 use sdd_domain::domain::Domain;
 use sdd_domain::guard::Guard;
@@ -33,13 +34,17 @@ pub(crate) fn sized(participants: u8, slots: u16, cells: u16) -> Sizes
 }
 
 pub(crate) fn member<T: Holds, R: Abort>(rt: &R, domain: &Domain<T>) -> Local<T>
-    ensures home { (home_of result ≡ place_of domain.now) × (hand_of result ≡ []) }
-    ensures closed { (own_of result).nesting ≡ 0 }
+    ensures { Rests domain.now result }
 {
     match domain.register() {
         Ok(local) => local,
         Err(_) => panic!(rt; "a participant is free"),
     }
+}
+
+/// A place for one participant, with this many slots and cells.
+pub(crate) fn place<R: Abort>(rt: &R, alloc: Global, slots: u16, cells: u16) -> Domain<u64> {
+    Domain::new(alloc, sized(1, slots, cells)).expect(rt, "memory is ample")
 }
 
 /// Ends a place in which nobody is registered.
@@ -52,8 +57,7 @@ pub(crate) fn end<T: Holds, R: Abort>(rt: &R, domain: Domain<T>) {
 
 /// Opens and closes an accelerated guard.
 fn pass(domain: &Domain<u64>, local: &mut Local<u64>)
-    requires home { (home_of local.old ≡ place_of domain.now) × (hand_of local.old ≡ []) }
-    requires closed { (own_of local.old).nesting ≡ 0 }
+    requires { Rests domain.now local.old }
     ensures same { IsAsBefore local.old local.new }
 {
     let Ok(guard) = Guard::new(domain, local) else {
@@ -65,8 +69,7 @@ fn pass(domain: &Domain<u64>, local: &mut Local<u64>)
 
 /// Four of them: what was retired before is reclaimed.
 pub(crate) fn four(domain: &Domain<u64>, local: &mut Local<u64>)
-    requires home { (home_of local.old ≡ place_of domain.now) × (hand_of local.old ≡ []) }
-    requires closed { (own_of local.old).nesting ≡ 0 }
+    requires { Rests domain.now local.old }
     ensures same { IsAsBefore local.old local.new }
 {
     pass(domain, local);
@@ -157,8 +160,7 @@ impl Made {
 
     /// Ends them: whether the stack, the queue and the bag were found empty before.
     pub(crate) fn end(self, domain: &Domain<u64>, local: &mut Local<u64>) -> bool
-        requires home { (home_of local.old ≡ place_of domain.now) × (hand_of local.old ≡ []) }
-        requires closed { (own_of local.old).nesting ≡ 0 }
+        requires rests { Rests domain.now local.old }
         requires made { IsStackOf self.stack domain.now × IsQueueOf self.queue domain.now × IsBagOf self.bag domain.now × AreLinksOf self.links domain.now }
         ensures same { IsAsBefore local.old local.new }
     {

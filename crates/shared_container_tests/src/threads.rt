@@ -1,17 +1,17 @@
 //! Stacks, queues and bags by two threads that push and two that pop.
 
-ghost use Rattle.std.specs.Prelude.{◌≡◌, []};
-ghost use Rattle.sdd_domain.specs.Tokens.{place_of, home_of, hand_of, own_of};
 ghost use Rattle.shared_containers.specs.Containers.{IsAsBefore};
+ghost use Rattle.shared_container_tests.specs.Any.{Rests};
 
 use crate::scene::{Kind, Made, Scene, end, member, sized};
 use sdd_domain::domain::Domain;
 use sdd_domain::local::Local;
-use std::alloc::{AllocError, Global};
+use std::alloc::Global;
 use std::process::Abort;
 use std::sync::atomic::{AtomicU64, Ordering};
-use std::test::Fail;
 use std::thread::{Threads, join};
+
+const ROOM: &str = "memory is ample";
 
 /// Pushes the values from one on up to below another, and returns how many there were.
 fn pushing(scene: &Scene, first: u64, last: u64) -> Option<u64> {
@@ -113,68 +113,55 @@ fn crowd<R: Abort + Threads + Sync>(
     rt: &R,
     alloc: Global,
     kind: Kind,
-) -> Result<([Option<u64>; 2], [u64; 2], u64, bool), AllocError> {
+) -> ([Option<u64>; 2], [u64; 2], u64, bool) {
     let mut of: Vec<AtomicU64> = Vec::new(alloc);
     for _i in 0..2000u32 {
-        of.push(AtomicU64::new(0))?;
+        of.push(AtomicU64::new(0)).expect(rt, ROOM);
     }
     let all = AtomicU64::new(0);
     let counts = Counts {
         of: of.as_slice(),
         all: &all,
     };
-    let domain = Domain::new(alloc, sized(5, 2048, 2056))?;
+    let domain = Domain::new(alloc, sized(5, 2048, 2056)).expect(rt, ROOM);
     let mut local = member(rt, &domain);
     let made = Made::new(rt, alloc, &domain, &mut local);
     let (pushed, out) = four_threads(rt, &made.scene(&domain, kind), &counts);
     let empty = made.end(&domain, &mut local);
     local.end(&domain);
     end(rt, domain);
-    Ok((pushed, out, once(of.as_slice()), empty))
+    (pushed, out, once(of.as_slice()), empty)
 }
 
 #[test]
-fn two_threads_push_and_two_pop_a_stack_and_each_value_comes_out_once(
-    rt: HostRuntime,
-) -> Result<(), Fail> {
-    let (pushed, [out, _late], once, empty) = crowd(&rt, rt.alloc(), Kind::Stack)?;
+fn two_threads_push_and_two_pop_a_stack_and_each_value_comes_out_once(rt: HostRuntime) {
+    let (pushed, [out, _late], once, empty) = crowd(&rt, rt.alloc(), Kind::Stack);
     assert!(rt; (pushed, out, once, empty) == ([Some(1000); 2], 2000, 2000, true));
-    Ok(())
 }
 
 #[test]
-fn two_threads_push_and_two_pop_a_queue_and_each_value_comes_out_once_in_order(
-    rt: HostRuntime,
-) -> Result<(), Fail> {
-    let found = crowd(&rt, rt.alloc(), Kind::Queue)?;
+fn two_threads_push_and_two_pop_a_queue_and_each_value_comes_out_once_in_order(rt: HostRuntime) {
+    let found = crowd(&rt, rt.alloc(), Kind::Queue);
     assert!(rt; found == ([Some(1000); 2], [2000, 0], 2000, true));
-    Ok(())
 }
 
 #[test]
-fn two_threads_push_and_two_pop_a_bag_and_each_value_comes_out_once(
-    rt: HostRuntime,
-) -> Result<(), Fail> {
-    let (pushed, [out, _late], once, empty) = crowd(&rt, rt.alloc(), Kind::Bag)?;
+fn two_threads_push_and_two_pop_a_bag_and_each_value_comes_out_once(rt: HostRuntime) {
+    let (pushed, [out, _late], once, empty) = crowd(&rt, rt.alloc(), Kind::Bag);
     assert!(rt; (pushed, out, once, empty) == ([Some(1000); 2], 2000, 2000, true));
-    Ok(())
 }
 
 /// Pushes the number that follows the newest one of a stack, where that is still the newest then.
 fn push_next(scene: &Scene, local: &mut Local<u64>) -> bool
-    requires home { (home_of local.old ≡ place_of scene.now.domain.now) × (hand_of local.old ≡ []) }
-    requires closed { (own_of local.old).nesting ≡ 0 }
+    requires { Rests scene.now.domain.now local.old }
     ensures same { IsAsBefore local.old local.new }
 {
-    let Scene {
-        domain,
-        links,
-        stack,
-        ..
-    } = *scene;
-    let newest = stack.peek_with(domain, |found| found.copied().unwrap_or(0), links, local);
+    let Scene { domain, links, .. } = *scene;
+    let newest = scene
+        .stack
+        .peek_with(domain, |found| found.copied().unwrap_or(0), links, local);
     let next = newest.saturating_add(1);
-    let pushed = stack.push_if(
+    let pushed = scene.stack.push_if(
         domain,
         next,
         |found| found.copied().unwrap_or(0) == newest,
@@ -210,8 +197,7 @@ fn counting(scene: &Scene) -> Option<u64> {
 
 /// How many numbers of a stack are in front of the one before them, from the thousandth on.
 fn in_order(scene: &Scene, local: &mut Local<u64>) -> u64
-    requires home { (home_of local.old ≡ place_of scene.now.domain.now) × (hand_of local.old ≡ []) }
-    requires closed { (own_of local.old).nesting ≡ 0 }
+    requires { Rests scene.now.domain.now local.old }
     ensures same { IsAsBefore local.old local.new }
 {
     let mut next = 1000u64;
@@ -225,10 +211,8 @@ fn in_order(scene: &Scene, local: &mut Local<u64>) -> u64
 }
 
 #[test]
-fn two_threads_count_on_a_stack_by_a_condition_and_no_number_is_there_twice(
-    rt: HostRuntime,
-) -> Result<(), Fail> {
-    let domain = Domain::new(rt.alloc(), sized(3, 2048, 2056))?;
+fn two_threads_count_on_a_stack_by_a_condition_and_no_number_is_there_twice(rt: HostRuntime) {
+    let domain = Domain::new(rt.alloc(), sized(3, 2048, 2056)).expect(&rt, ROOM);
     let mut local = member(&rt, &domain);
     let made = Made::new(&rt, rt.alloc(), &domain, &mut local);
     let scene = made.scene(&domain, Kind::Stack);
@@ -241,5 +225,4 @@ fn two_threads_count_on_a_stack_by_a_condition_and_no_number_is_there_twice(
     local.end(&domain);
     end(&rt, domain);
     assert!(rt; (pushed, found) == ((Some(500), Some(500)), (1000, 1000)));
-    Ok(())
 }

@@ -1,10 +1,9 @@
 //! Walks with pops in between, and bags that are taken apart.
 
-ghost use Rattle.std.specs.Prelude.{◌≡◌, []};
-ghost use Rattle.sdd_domain.specs.Tokens.{place_of, home_of, hand_of, own_of};
 ghost use Rattle.shared_containers.specs.Containers.{AreLinksOf, IsAsBefore, IsBagOf};
+ghost use Rattle.shared_container_tests.specs.Any.{Rests};
 
-use crate::scene::{Kind, Made, Scene, end, member, read, sized};
+use crate::scene::{Kind, Made, Scene, end, member, place, read};
 use sdd_domain::domain::Domain;
 use sdd_domain::guard::Guard;
 use sdd_domain::local::Local;
@@ -12,7 +11,6 @@ use shared_containers::Links;
 use shared_containers::bag::Bag;
 use std::alloc::Global;
 use std::process::Abort;
-use std::test::Fail;
 
 /// What a walk gives at each of its steps, and what is popped behind it.
 #[derive(Clone, Copy, PartialEq, Eq)]
@@ -24,17 +22,10 @@ struct Walked {
 /// A walk along 1, 2 and 3, which were pushed in this order. Behind its first step two of them are popped, that which it gave
 /// and that which it is at: this it still gives, and ends.
 fn walks(scene: &Scene, local: &mut Local<u64>) -> Walked
-    requires home { (home_of local.old ≡ place_of scene.now.domain.now) × (hand_of local.old ≡ []) }
-    requires closed { (own_of local.old).nesting ≡ 0 }
+    requires { Rests scene.now.domain.now local.old }
     ensures same { IsAsBefore local.old local.new }
 {
-    let Scene {
-        domain,
-        links,
-        stack,
-        queue,
-        ..
-    } = *scene;
+    let Scene { domain, links, .. } = *scene;
     let _ = (
         scene.push(local, 1),
         scene.push(local, 2),
@@ -44,9 +35,9 @@ fn walks(scene: &Scene, local: &mut Local<u64>) -> Walked
         unreachable!();
     };
     let mut items = if scene.kind == Kind::Queue {
-        queue.iter(domain, links, &guard, local)
+        scene.queue.iter(domain, links, &guard, local)
     } else {
-        stack.iter(domain, links, &guard, local)
+        scene.stack.iter(domain, links, &guard, local)
     };
     let first = items.next(domain, links, &guard, local).copied();
     let _ = (scene.pop(local), scene.pop(local));
@@ -61,26 +52,26 @@ fn walks(scene: &Scene, local: &mut Local<u64>) -> Walked
 }
 
 /// The same in a place of its own.
-fn walks_alone<R: Abort>(rt: &R, alloc: Global, domain: &Domain<u64>, kind: Kind) -> Walked {
-    let mut local = member(rt, domain);
-    let made = Made::new(rt, alloc, domain, &mut local);
-    let found = walks(&made.scene(domain, kind), &mut local);
-    made.end(domain, &mut local);
-    local.end(domain);
+fn walks_alone<R: Abort>(rt: &R, alloc: Global, kind: Kind) -> Walked {
+    let domain = place(rt, alloc, 5, 13);
+    let mut local = member(rt, &domain);
+    let made = Made::new(rt, alloc, &domain, &mut local);
+    let found = walks(&made.scene(&domain, kind), &mut local);
+    made.end(&domain, &mut local);
+    local.end(&domain);
+    end(rt, domain);
     found
 }
 
 #[test]
-fn a_walk_gives_what_is_popped_meanwhile_and_ends_there(rt: HostRuntime) -> Result<(), Fail> {
+fn a_walk_gives_what_is_popped_meanwhile_and_ends_there(rt: HostRuntime) {
     let table = [
         (Kind::Stack, [Some(3), Some(2), None, None], Some(1)),
         (Kind::Queue, [Some(1), Some(2), None, None], Some(3)),
     ];
     let mut right = true;
     for (kind, gives, left) in table {
-        let domain = Domain::new(rt.alloc(), sized(1, 5, 13))?;
-        let found = walks_alone(&rt, rt.alloc(), &domain, kind);
-        end(&rt, domain);
+        let found = walks_alone(&rt, rt.alloc(), kind);
         let expected = Walked {
             gives,
             left: [left, None],
@@ -88,7 +79,6 @@ fn a_walk_gives_what_is_popped_meanwhile_and_ends_there(rt: HostRuntime) -> Resu
         right = right && found == expected;
     }
     assert!(rt; right);
-    Ok(())
 }
 
 /// Pushes a value on a bag of two places.
@@ -99,8 +89,7 @@ fn push(
     links: &Links<u64>,
     local: &mut Local<u64>,
 )
-    requires home { (home_of local.old ≡ place_of domain.now) × (hand_of local.old ≡ []) }
-    requires closed { (own_of local.old).nesting ≡ 0 }
+    requires rests { Rests domain.now local.old }
     requires made { IsBagOf bag.now domain.now × AreLinksOf links.now domain.now }
     ensures same { IsAsBefore local.old local.new }
 {
@@ -118,8 +107,7 @@ fn takes_apart(
     steps: u8,
     local: &mut Local<u64>,
 ) -> (u64, u64)
-    requires home { (home_of local.old ≡ place_of domain.now) × (hand_of local.old ≡ []) }
-    requires closed { (own_of local.old).nesting ≡ 0 }
+    requires rests { Rests domain.now local.old }
     requires made { IsBagOf bag domain.now × AreLinksOf links.now domain.now }
     ensures same { IsAsBefore local.old local.new }
 {
@@ -140,34 +128,28 @@ fn takes_apart(
 }
 
 /// The same in a place of its own.
-fn takes_apart_alone<R: Abort>(
-    rt: &R,
-    alloc: Global,
-    domain: &Domain<u64>,
-    steps: u8,
-) -> (u64, u64) {
-    let mut local = member(rt, domain);
-    let Ok(links) = Links::new(alloc, domain, &mut local) else {
+fn takes_apart_alone<R: Abort>(rt: &R, alloc: Global, steps: u8) -> (u64, u64) {
+    let domain = place(rt, alloc, 3, 6);
+    let mut local = member(rt, &domain);
+    let Ok(links) = Links::new(alloc, &domain, &mut local) else {
         panic!(rt; "memory is ample, and so are cells");
     };
-    let Ok(bag) = Bag::<u64, 2>::new(alloc, domain, &mut local) else {
+    let Ok(bag) = Bag::<u64, 2>::new(alloc, &domain, &mut local) else {
         panic!(rt; "three cells are free");
     };
-    let found = takes_apart(domain, bag, &links, steps, &mut local);
-    links.end(domain, &mut local);
-    local.end(domain);
+    let found = takes_apart(&domain, bag, &links, steps, &mut local);
+    links.end(&domain, &mut local);
+    local.end(&domain);
+    end(rt, domain);
     found
 }
 
 #[test]
-fn a_bag_that_is_taken_apart_gives_each_value_once(rt: HostRuntime) -> Result<(), Fail> {
+fn a_bag_that_is_taken_apart_gives_each_value_once(rt: HostRuntime) {
     let mut right = true;
     for (steps, expected) in [(0, (0, 0)), (3, (6, 0)), (5, (6, 2))] {
-        let domain = Domain::new(rt.alloc(), sized(1, 3, 6))?;
-        let found = takes_apart_alone(&rt, rt.alloc(), &domain, steps);
-        end(&rt, domain);
+        let found = takes_apart_alone(&rt, rt.alloc(), steps);
         right = right && found == expected;
     }
     assert!(rt; right);
-    Ok(())
 }
