@@ -3,18 +3,14 @@
 ghost use Rattle.std.specs.Prelude.{◌≡◌};
 
 use crate::reads::{begin, shut};
-use crate::task::Task;
-use local_index::{LocalIndex, Receipt, Write};
+use crate::task::{Index, Task};
+use local_index::{Receipt, Write};
 use std::alloc::Global;
 use std::mem;
 use std::ops::Bound;
 
 /// Upserts each key, with itself as value, by commits of a thousand.
-pub(crate) fn build<const S: usize>(
-    index: &mut LocalIndex<u64, u64, S>,
-    alloc: Global,
-    keys: &[u64],
-)
+pub(crate) fn build<const S: usize>(index: &mut Index<S>, alloc: Global, keys: &[u64])
     ensures { index.new.places ≡ index.old.places }
 {
     let mut writes = Vec::new(alloc);
@@ -33,7 +29,7 @@ pub(crate) fn build<const S: usize>(
 /// Runs a round of a task that commits; each commit is made beside a session that opened before it, and the index
 /// reclaims when that is closed.
 pub(crate) fn commit_task<const S: usize>(
-    index: &mut LocalIndex<u64, u64, S>,
+    index: &mut Index<S>,
     alloc: Global,
     probes: &[u64],
     task: Task,
@@ -41,8 +37,7 @@ pub(crate) fn commit_task<const S: usize>(
     ensures { index.new.places ≡ index.old.places }
 {
     match task {
-        Task::CommitEach => commit_each::<S>(index, alloc, probes, task),
-        Task::Cut => commit_each::<S>(index, alloc, probes, task),
+        Task::CommitEach | Task::Cut => commit_each::<S>(index, alloc, probes, task),
         Task::CommitAll => commit_beside::<S>(index, alloc, upserts(alloc, probes)),
         Task::Clear => commit_beside::<S>(index, alloc, one(alloc, Write::Clear)),
         _ => {}
@@ -50,12 +45,7 @@ pub(crate) fn commit_task<const S: usize>(
 }
 
 /// Makes a commit for each probe.
-fn commit_each<const S: usize>(
-    index: &mut LocalIndex<u64, u64, S>,
-    alloc: Global,
-    probes: &[u64],
-    task: Task,
-)
+fn commit_each<const S: usize>(index: &mut Index<S>, alloc: Global, probes: &[u64], task: Task)
     ensures { index.new.places ≡ index.old.places }
 {
     for probe in probes {
@@ -85,11 +75,7 @@ fn upserts(alloc: Global, probes: &[u64]) -> Vec<Write<u64, u64>> {
 
 /// Makes a commit beside a session that opened before it, and reclaims when that is closed.
 #[inline(never)]
-fn commit_beside<const S: usize>(
-    index: &mut LocalIndex<u64, u64, S>,
-    alloc: Global,
-    writes: Vec<Write<u64, u64>>,
-)
+fn commit_beside<const S: usize>(index: &mut Index<S>, alloc: Global, writes: Vec<Write<u64, u64>>)
     ensures { index.new.places ≡ index.old.places }
 {
     if let Some(session) = begin::<S>(index) {
@@ -100,11 +86,7 @@ fn commit_beside<const S: usize>(
 }
 
 /// Makes a commit of no recorded reads.
-fn commit<const S: usize>(
-    index: &mut LocalIndex<u64, u64, S>,
-    alloc: Global,
-    writes: Vec<Write<u64, u64>>,
-)
+fn commit<const S: usize>(index: &mut Index<S>, alloc: Global, writes: Vec<Write<u64, u64>>)
     ensures { index.new.places ≡ index.old.places }
 {
     match index.commit(&Receipt::blank(alloc), writes) {

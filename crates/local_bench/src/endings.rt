@@ -5,7 +5,8 @@ ghost use Rattle.local_index.specs.State.{HasNoSession};
 
 use crate::commits::one;
 use crate::reads::{begin, shut};
-use local_index::{Answer, Cause, LocalIndex, Query, Receipt, Write};
+use crate::task::Index;
+use local_index::{Answer, Cause, Query, Receipt, Write};
 use std::alloc::Global;
 
 /// How a commit ends.
@@ -32,11 +33,7 @@ pub(crate) fn ending_of(number: u32) -> Ending {
 }
 
 /// An index that begins with these keys, which must rise, each its own value.
-pub(crate) fn begun<const S: usize>(
-    alloc: Global,
-    keys: &[u64],
-    slots: usize,
-) -> Option<LocalIndex<u64, u64, S>>
+pub(crate) fn begun<const S: usize>(alloc: Global, keys: &[u64], slots: usize) -> Option<Index<S>>
     requires least { 1 ≤ S }
     requires most { S ≤ 225 }
     ensures { IfSome result (λ index. HasNoSession index) }
@@ -48,7 +45,7 @@ pub(crate) fn begun<const S: usize>(
     for key in keys {
         let _ = pairs.push((*key, *key));
     }
-    match LocalIndex::<u64, u64, S>::from_base(alloc, 0, pairs, 1, slots) {
+    match Index::<S>::from_base(alloc, 0, pairs, 1, slots) {
         Ok(index) => Some(index),
         Err(_) => None,
     }
@@ -65,7 +62,7 @@ pub(crate) fn slots_of(ending: Ending, used: usize) -> usize {
 /// Makes a commit for each probe, each beside a session that opened before it, and reclaims when that is closed: how many
 /// ended so.
 pub(crate) fn commit_each<const S: usize>(
-    index: &mut LocalIndex<u64, u64, S>,
+    index: &mut Index<S>,
     alloc: Global,
     probes: &[u64],
     ending: Ending,
@@ -83,12 +80,7 @@ pub(crate) fn commit_each<const S: usize>(
 
 /// Whether an upsert of a probe ends so.
 #[inline(never)]
-fn ends_so<const S: usize>(
-    index: &mut LocalIndex<u64, u64, S>,
-    alloc: Global,
-    probe: u64,
-    ending: Ending,
-) -> bool
+fn ends_so<const S: usize>(index: &mut Index<S>, alloc: Global, probe: u64, ending: Ending) -> bool
     ensures { index.new.places ≡ index.old.places }
 {
     let mut right = false;
@@ -101,12 +93,7 @@ fn ends_so<const S: usize>(
 }
 
 /// How an upsert of a probe ends that rests on one read of it.
-fn ended<const S: usize>(
-    index: &mut LocalIndex<u64, u64, S>,
-    alloc: Global,
-    probe: u64,
-    ending: Ending,
-) -> Ending
+fn ended<const S: usize>(index: &mut Index<S>, alloc: Global, probe: u64, ending: Ending) -> Ending
     ensures { index.new.places ≡ index.old.places }
 {
     let receipt = receipt_of(alloc, probe, ending != Ending::Conflict);

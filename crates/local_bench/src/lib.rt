@@ -17,8 +17,7 @@ mod task;
 use crate::commits::{build, commit_task};
 use crate::endings::{Ending, begun, commit_each, ending_of, slots_of};
 use crate::reads::read_task;
-use crate::task::task_of;
-use local_index::LocalIndex;
+use crate::task::{Index, task_of};
 use std::alloc::Global;
 
 /// Runs a task on an index whose segments have at most 16 pairs. The number of a task is that of [`task_of`].
@@ -87,7 +86,7 @@ pub extern "C" fn local_bench_endings(
 
 /// How many commits end as wanted in some rounds.
 fn count_endings(
-    index: &mut LocalIndex<u64, u64, 64>,
+    index: &mut Index<64>,
     alloc: Global,
     probes: &[u64],
     ending: Ending,
@@ -118,7 +117,7 @@ fn run<const S: usize>(
     if slots == 0 || slots > 1_000_000_000 {
         return 0;
     }
-    let Ok(mut index) = LocalIndex::<u64, u64, S>::new(alloc, 1, slots) else {
+    let Ok(mut index) = Index::<S>::new(alloc, 1, slots) else {
         return 0;
     };
     build::<S>(&mut index, alloc, keys);
@@ -130,7 +129,7 @@ fn run<const S: usize>(
 /// Runs a task some rounds. It stays a function of its own, so that what it runs can be counted by itself.
 #[inline(never)]
 fn repeat<const S: usize>(
-    index: &mut LocalIndex<u64, u64, S>,
+    index: &mut Index<S>,
     alloc: Global,
     probes: &[u64],
     task: u32,
@@ -149,7 +148,7 @@ fn repeat<const S: usize>(
 }
 
 /// Ends an index that has no session.
-fn end<const S: usize>(index: LocalIndex<u64, u64, S>)
+fn end<const S: usize>(index: Index<S>)
     requires { HasNoSession index }
 {
     match index.close() {

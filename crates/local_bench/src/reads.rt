@@ -3,33 +3,26 @@
 ghost use Rattle.std.specs.Prelude.{◌≡◌, None, IfSome, IfNone, slice_set};
 ghost use Rattle.local_index.specs.State.{IsSessionOf};
 
-use crate::task::Task;
-use local_index::{Answer, LocalIndex, Query, Receipt, Session};
+use crate::task::{Index, Open, Task};
+use local_index::{Answer, Query, Receipt};
 use std::ops::Bound;
 
 /// Runs a round of a task that reads; gives the sum of the values that it met, a key that isn't there counting 1.
-pub(crate) fn read_task<const S: usize>(
-    index: &mut LocalIndex<u64, u64, S>,
-    probes: &[u64],
-    task: Task,
-) -> u64
+pub(crate) fn read_task<const S: usize>(index: &mut Index<S>, probes: &[u64], task: Task) -> u64
     ensures { index.new.places ≡ index.old.places }
 {
     match task {
         Task::Open => open_all::<S>(index, probes),
-        Task::Get => in_session::<S>(index, probes, task),
-        Task::Range => in_session::<S>(index, probes, task),
-        Task::Walk => in_session::<S>(index, probes, task),
-        Task::Record => in_session::<S>(index, probes, task),
+        Task::Get | Task::Range | Task::Walk | Task::Record => {
+            in_session::<S>(index, probes, task)
+        }
         _ => 0,
     }
 }
 
 /// Opens a session; where it is closed again, the places are as before.
 #[inline]
-pub(crate) fn begin<const S: usize>(
-    index: &mut LocalIndex<u64, u64, S>,
-) -> Option<Session<u64, u64>>
+pub(crate) fn begin<const S: usize>(index: &mut Index<S>) -> Option<Open>
     ensures open { IfSome result (λ s. IsSessionOf index.new s) }
     ensures places { IfSome result (λ s. slice_set index.new.places s.place None ≡ index.old.places) }
     ensures refused { IfNone result (index.new.places ≡ index.old.places) }
@@ -42,10 +35,7 @@ pub(crate) fn begin<const S: usize>(
 
 /// Closes a session.
 #[inline]
-pub(crate) fn shut<const S: usize>(
-    index: &mut LocalIndex<u64, u64, S>,
-    session: Session<u64, u64>,
-) -> Receipt<u64, u64>
+pub(crate) fn shut<const S: usize>(index: &mut Index<S>, session: Open) -> Receipt<u64, u64>
     requires { IsSessionOf index.old session }
     ensures { index.new.places ≡ slice_set index.old.places session.place None }
 {
@@ -54,7 +44,7 @@ pub(crate) fn shut<const S: usize>(
 
 /// Opens and closes a session for each probe.
 #[inline(never)]
-fn open_all<const S: usize>(index: &mut LocalIndex<u64, u64, S>, probes: &[u64]) -> u64
+fn open_all<const S: usize>(index: &mut Index<S>, probes: &[u64]) -> u64
     ensures { index.new.places ≡ index.old.places }
 {
     for _probe in probes {
@@ -65,7 +55,7 @@ fn open_all<const S: usize>(index: &mut LocalIndex<u64, u64, S>, probes: &[u64])
 
 /// Opens and closes a session.
 #[inline(always)]
-fn open_one<const S: usize>(index: &mut LocalIndex<u64, u64, S>)
+fn open_one<const S: usize>(index: &mut Index<S>)
     ensures { index.new.places ≡ index.old.places }
 {
     if let Some(session) = begin::<S>(index) {
@@ -74,11 +64,7 @@ fn open_one<const S: usize>(index: &mut LocalIndex<u64, u64, S>)
 }
 
 /// Runs a round of a task within one session.
-fn in_session<const S: usize>(
-    index: &mut LocalIndex<u64, u64, S>,
-    probes: &[u64],
-    task: Task,
-) -> u64
+fn in_session<const S: usize>(index: &mut Index<S>, probes: &[u64], task: Task) -> u64
     ensures { index.new.places ≡ index.old.places }
 {
     let Some(mut session) = begin::<S>(index) else {
@@ -96,11 +82,7 @@ fn in_session<const S: usize>(
 
 /// Looks each probe up.
 #[inline(never)]
-fn get_all<const S: usize>(
-    index: &LocalIndex<u64, u64, S>,
-    session: &Session<u64, u64>,
-    probes: &[u64],
-) -> u64
+fn get_all<const S: usize>(index: &Index<S>, session: &Open, probes: &[u64]) -> u64
     requires { IsSessionOf index.now session.now }
 {
     let mut sum = 0u64;
@@ -116,11 +98,7 @@ fn get_all<const S: usize>(
 
 /// Reads a hundred pairs from each probe on.
 #[inline(never)]
-fn range_all<const S: usize>(
-    index: &LocalIndex<u64, u64, S>,
-    session: &Session<u64, u64>,
-    probes: &[u64],
-) -> u64
+fn range_all<const S: usize>(index: &Index<S>, session: &Open, probes: &[u64]) -> u64
     requires { IsSessionOf index.now session.now }
 {
     let mut sum = 0u64;
@@ -133,11 +111,7 @@ fn range_all<const S: usize>(
 
 /// Reads a hundred pairs from a probe on.
 #[inline(always)]
-fn range_one<'t, const S: usize>(
-    index: &'t LocalIndex<u64, u64, S>,
-    session: &Session<u64, u64>,
-    from: &'t u64,
-) -> u64
+fn range_one<'t, const S: usize>(index: &'t Index<S>, session: &Open, from: &'t u64) -> u64
     requires { IsSessionOf index.now session.now }
 {
     let mut sum = 0u64;
@@ -152,7 +126,7 @@ fn range_one<'t, const S: usize>(
 
 /// Reads all pairs.
 #[inline(never)]
-fn walk<const S: usize>(index: &LocalIndex<u64, u64, S>, session: &Session<u64, u64>) -> u64
+fn walk<const S: usize>(index: &Index<S>, session: &Open) -> u64
     requires { IsSessionOf index.now session.now }
 {
     let mut sum = 0u64;
@@ -164,11 +138,7 @@ fn walk<const S: usize>(index: &LocalIndex<u64, u64, S>, session: &Session<u64, 
 
 /// Looks each probe up, and records it.
 #[inline(never)]
-fn record_all<const S: usize>(
-    index: &LocalIndex<u64, u64, S>,
-    session: &mut Session<u64, u64>,
-    probes: &[u64],
-) -> u64
+fn record_all<const S: usize>(index: &Index<S>, session: &mut Open, probes: &[u64]) -> u64
     requires { IsSessionOf index.now session.old }
     ensures open { IsSessionOf index.now session.new }
     ensures place { session.new.place ≡ session.old.place }

@@ -1,4 +1,11 @@
-//! What is measured.
+//! What is measured, and of which index.
+
+use local_index::{LocalIndex, Session};
+
+/// The index, with this many pairs in a segment at most, and a session of it.
+pub(crate) type Index<const S: usize> = LocalIndex<u64, u64, S>;
+
+pub(crate) type Open = Session<u64, u64>;
 
 /// What a round does with its probes.
 #[derive(Clone, Copy, PartialEq, Eq)]
