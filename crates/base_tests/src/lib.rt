@@ -4,11 +4,7 @@
 #[cfg(test)]
 mod cells;
 #[cfg(test)]
-mod groups;
-#[cfg(test)]
 mod guards;
-#[cfg(test)]
-mod in_place;
 #[cfg(test)]
 mod items;
 #[cfg(test)]

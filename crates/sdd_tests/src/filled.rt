@@ -2,19 +2,17 @@
 
 ghost use Rattle.std.specs.Prelude.{◌<◌, length, IfSome};
 ghost use Rattle.world_containers.specs.Bags.{IsLength, IsSomeBag, bag_cells};
-ghost use Rattle.world_containers.specs.Entries.{entry_link};
-ghost use Rattle.world_containers.specs.Queues.{IsSomeQueue, oldest_cell, newest_cell};
-ghost use Rattle.world_containers.specs.Stacks.{IsSomeStack, stack_cell};
+ghost use Rattle.sdd_tests.specs.Lines.{IsSomeLine};
 
+use crate::each_call::Kind;
+use crate::lines::Line;
 use sdd_world::world::World;
 use std::alloc::Global;
 use std::ops::Range;
 use std::process::Abort;
 use world_containers::bag::Bag;
 use world_containers::linked_entry::LinkedEntry;
-use world_containers::queue::Queue;
 use world_containers::refusal::{FromIterRefused, NotMade};
-use world_containers::stack::Stack;
 use world_containers::world;
 
 /// Why a container hasn't all numbers of a range.
@@ -26,65 +24,51 @@ pub(crate) enum Lack {
     Unmade(NotMade, usize),
 }
 
-/// A stack of the numbers of a range, as far as it was made.
-pub(crate) fn some_stack(
+/// A stack or a queue of the numbers of a range, as far as it was made.
+pub(crate) fn some_line(
     w: &mut World<LinkedEntry<u64>>,
+    kind: Kind,
     numbers: Range<u64>,
-) -> (Option<Stack<u64>>, Option<Lack>)
+) -> (Option<Line<u64>>, Option<Lack>)
     requires { 0 < length w.old.participants }
     ensures participant { 0 < length w.new.participants }
-    ensures list { IfSome result.0 (λ s. IsSomeStack w.new (stack_cell s)) }
+    ensures list { IfSome result.0 (IsSomeLine w.new) }
 {
-    match world::stack::from_iter(w, numbers) {
-        Ok(stack) => (Some(stack), None),
-        Err(FromIterRefused::NoSlot(stack, number)) => (Some(stack), Some(Lack::Of(number))),
-        Err(FromIterRefused::Unmade(why, back)) => (None, Some(Lack::Unmade(why, back.count()))),
+    match kind {
+        Kind::Stack => match world::stack::from_iter(w, numbers) {
+            Ok(stack) => (Some(Line::Stack(stack)), None),
+            Err(FromIterRefused::NoSlot(stack, number)) => {
+                (Some(Line::Stack(stack)), Some(Lack::Of(number)))
+            }
+            Err(FromIterRefused::Unmade(why, back)) => {
+                (None, Some(Lack::Unmade(why, back.count())))
+            }
+        },
+        Kind::Queue => match world::queue::from_iter(w, numbers) {
+            Ok(queue) => (Some(Line::Queue(queue)), None),
+            Err(FromIterRefused::NoSlot(queue, number)) => {
+                (Some(Line::Queue(queue)), Some(Lack::Of(number)))
+            }
+            Err(FromIterRefused::Unmade(why, back)) => {
+                (None, Some(Lack::Unmade(why, back.count())))
+            }
+        },
     }
 }
 
-/// A stack of all of them.
-pub(crate) fn stack_of<R: Abort>(
+/// One of all of them.
+pub(crate) fn line_of<R: Abort>(
     rt: &R,
     w: &mut World<LinkedEntry<u64>>,
+    kind: Kind,
     numbers: Range<u64>,
-) -> Stack<u64>
+) -> Line<u64>
     requires { 0 < length w.old.participants }
     ensures participant { 0 < length w.new.participants }
-    ensures list { IsSomeStack w.new (stack_cell result) }
+    ensures list { IsSomeLine w.new result }
 {
-    match some_stack(w, numbers) {
-        (Some(stack), None) => stack,
-        _ => panic!(rt; "there is room"),
-    }
-}
-
-/// The same of a queue.
-pub(crate) fn some_queue(
-    w: &mut World<LinkedEntry<u64>>,
-    numbers: Range<u64>,
-) -> (Option<Queue<u64>>, Option<Lack>)
-    requires { 0 < length w.old.participants }
-    ensures participant { 0 < length w.new.participants }
-    ensures list { IfSome result.0 (λ q. IsSomeQueue entry_link w.new (oldest_cell q) (newest_cell q)) }
-{
-    match world::queue::from_iter(w, numbers) {
-        Ok(queue) => (Some(queue), None),
-        Err(FromIterRefused::NoSlot(queue, number)) => (Some(queue), Some(Lack::Of(number))),
-        Err(FromIterRefused::Unmade(why, back)) => (None, Some(Lack::Unmade(why, back.count()))),
-    }
-}
-
-pub(crate) fn queue_of<R: Abort>(
-    rt: &R,
-    w: &mut World<LinkedEntry<u64>>,
-    numbers: Range<u64>,
-) -> Queue<u64>
-    requires { 0 < length w.old.participants }
-    ensures participant { 0 < length w.new.participants }
-    ensures list { IsSomeQueue entry_link w.new (oldest_cell result) (newest_cell result) }
-{
-    match some_queue(w, numbers) {
-        (Some(queue), None) => queue,
+    match some_line(w, kind, numbers) {
+        (Some(line), None) => line,
         _ => panic!(rt; "there is room"),
     }
 }

@@ -1,25 +1,22 @@
-//! Containers of the values of an iterator, and clones of containers.
+//! Containers of the values of an iterator, a hundred thousand among them, and clones of containers.
 
 ghost use Rattle.std.specs.Prelude.{◌≡◌, ◌<◌, length, IfSome};
 ghost use Rattle.world_containers.specs.Copies.{ClonesAreSame};
-ghost use Rattle.world_containers.specs.Entries.{entry_link};
-ghost use Rattle.world_containers.specs.Stacks.{IsSomeStack, stack_cell};
-ghost use Rattle.world_containers.specs.Queues.{IsSomeQueue, oldest_cell, newest_cell};
+ghost use Rattle.sdd_tests.specs.Lines.{IsSomeLine};
 
-use crate::entries::retire;
-use crate::filled::{Lack, queue_of, some_bag, some_queue, some_stack, stack_of};
+use crate::each_call::{Kind, count, pop, push, retire};
+use crate::entries;
+use crate::filled::{Lack, bag_of, line_of, some_bag, some_line};
+use crate::lines::Line;
 use crate::places::{close, end, guarded, place_of};
-use crate::queues::{append, take};
 use crate::stacks::Change::Delete;
-use crate::stacks::{change_first, pop, push};
-use crate::walks::{three_of_queue, three_of_stack};
+use crate::stacks::change_first;
+use crate::walks::{Three, three_of};
 use sdd_world::world::World;
-use std::alloc::AllocError;
+use std::alloc::{AllocError, Global};
 use std::process::Abort;
 use world_containers::linked_entry::LinkedEntry;
-use world_containers::queue::Queue;
 use world_containers::refusal::{CloneRefused, NotMade};
-use world_containers::stack::Stack;
 use world_containers::world;
 
 /// A number that can't be cloned where it is 3.
@@ -43,134 +40,97 @@ impl Clone for Rare {
     }
 }
 
-/// A clone of a queue, which ends, as far as it was made, and why no further.
-pub(crate) fn copied_queue<T: Clone>(
+/// A clone of a stack or a queue, which ends, as far as it was made, and why no further.
+pub(crate) fn copied<T: Clone>(
     w: &mut World<LinkedEntry<T>>,
-    queue: Queue<T>,
-) -> (Option<Queue<T>>, Option<NotMade>)
+    line: Line<T>,
+) -> (Option<Line<T>>, Option<NotMade>)
     requires clones { ClonesAreSame T.is_clone }
     requires participant { 0 < length w.old.participants }
-    requires list { IsSomeQueue entry_link w.old (oldest_cell queue) (newest_cell queue) }
+    requires list { IsSomeLine w.old line }
     ensures participant { 0 < length w.new.participants }
-    ensures list { IfSome result.0 (λ q. IsSomeQueue entry_link w.new (oldest_cell q) (newest_cell q)) }
+    ensures list { IfSome result.0 (IsSomeLine w.new) }
 {
-    match world::queue::clone(w, &queue) {
-        Ok(copy) => {
-            world::queue::retire(w, queue, 0);
-            (Some(copy), None)
+    match line {
+        Line::Stack(stack) => {
+            let cloned = world::stack::clone(w, &stack);
+            world::stack::retire(w, stack, 0);
+            match cloned {
+                Ok(copy) => (Some(Line::Stack(copy)), None),
+                Err(CloneRefused::Partly(copy, why)) => (Some(Line::Stack(copy)), Some(why)),
+                Err(CloneRefused::Unmade(why)) => (None, Some(why)),
+            }
         }
-        Err(refused) => {
+        Line::Queue(queue) => {
+            let cloned = world::queue::clone(w, &queue);
             world::queue::retire(w, queue, 0);
-            match refused {
-                CloneRefused::Partly(copy, why) => (Some(copy), Some(why)),
-                CloneRefused::Unmade(why) => (None, Some(why)),
+            match cloned {
+                Ok(copy) => (Some(Line::Queue(copy)), None),
+                Err(CloneRefused::Partly(copy, why)) => (Some(Line::Queue(copy)), Some(why)),
+                Err(CloneRefused::Unmade(why)) => (None, Some(why)),
             }
         }
     }
 }
 
-/// The same of a stack.
-pub(crate) fn copied_stack<T: Clone>(
-    w: &mut World<LinkedEntry<T>>,
-    stack: Stack<T>,
-) -> (Option<Stack<T>>, Option<NotMade>)
-    requires clones { ClonesAreSame T.is_clone }
-    requires participant { 0 < length w.old.participants }
-    requires list { IsSomeStack w.old (stack_cell stack) }
-    ensures participant { 0 < length w.new.participants }
-    ensures list { IfSome result.0 (λ s. IsSomeStack w.new (stack_cell s)) }
-{
-    match world::stack::clone(w, &stack) {
-        Ok(copy) => {
-            world::stack::retire(w, stack, 0);
-            (Some(copy), None)
-        }
-        Err(refused) => {
-            world::stack::retire(w, stack, 0);
-            match refused {
-                CloneRefused::Partly(copy, why) => (Some(copy), Some(why)),
-                CloneRefused::Unmade(why) => (None, Some(why)),
-            }
-        }
-    }
-}
-
-/// A queue of the numbers below `n` gives them back in their order.
-fn queue_round<R: Abort>(rt: &R, w: &mut World<LinkedEntry<u64>>, n: u64)
+/// A stack of the numbers below `n` gives the last one first, and a queue gives them back in their order.
+fn round<R: Abort>(rt: &R, w: &mut World<LinkedEntry<u64>>, kind: Kind, n: u64)
     requires { 0 < length w.old.participants }
     ensures { 0 < length w.new.participants }
 {
-    let queue = queue_of(rt, w, 0..n);
+    let line = line_of(rt, w, kind, 0..n);
     for number in 0..n {
-        assert!(rt; take(w, &queue) == Some(number));
+        let wanted = match kind {
+            Kind::Stack => n - 1 - number,
+            Kind::Queue => number,
+        };
+        assert!(rt; pop(w, &line) == Some(wanted));
     }
-    assert!(rt; take(w, &queue).is_none());
-    world::queue::retire(w, queue, 0);
+    assert!(rt; pop(w, &line).is_none());
+    retire(w, line);
 }
 
-/// A stack of the numbers below `n` gives the last one first.
-fn stack_round<R: Abort>(rt: &R, w: &mut World<LinkedEntry<u64>>, n: u64)
-    requires { 0 < length w.old.participants }
-    ensures { 0 < length w.new.participants }
-{
-    let stack = stack_of(rt, w, 0..n);
-    for number in (0..n).rev() {
-        assert!(rt; pop(w, &stack) == Some(number));
-    }
-    assert!(rt; pop(w, &stack).is_none());
-    world::stack::retire(w, stack, 0);
+/// Values that become a stack or a queue: three of them, and how many there are with one more; then rounds of others.
+fn filled<R: Abort>(rt: &R, alloc: Global, kind: Kind) -> (Three, usize) {
+    let mut w = place_of(rt, alloc, 400, 402);
+    let line = line_of(rt, &mut w, kind, 1..4);
+    let three = three_of(&w, &line);
+    assert!(rt; push(&mut w, &line, 4).is_ok());
+    let (len, _) = count(&w, &line);
+    retire(&mut w, line);
+    round(rt, &mut w, kind, 0);
+    round(rt, &mut w, kind, 1);
+    round(rt, &mut w, kind, 17);
+    round(rt, &mut w, kind, 100);
+    end(rt, w);
+    (three, len)
 }
 
 #[test]
-fn values_become_a_queue(rt: HostRuntime) {
-    let mut w = place_of(&rt, rt.alloc(), 400, 402);
-    let queue = queue_of(&rt, &mut w, 1..4);
-    let three = three_of_queue(&w, &queue);
-    let appended = append(&mut w, &queue, 4);
-    let len = world::queue::len(&w, &queue);
-    world::queue::retire(&mut w, queue, 0);
-    queue_round(&rt, &mut w, 0);
-    queue_round(&rt, &mut w, 1);
-    queue_round(&rt, &mut w, 17);
-    queue_round(&rt, &mut w, 100);
-    end(&rt, w);
-    assert!(rt; three == (Some(1), Some(2), Some(3)) && appended.is_ok() && len == 4);
+fn values_become_a_stack_or_a_queue(rt: HostRuntime) {
+    let stacked = filled(&rt, rt.alloc(), Kind::Stack);
+    let queued = filled(&rt, rt.alloc(), Kind::Queue);
+    assert!(rt; stacked == ((Some(3), Some(2), Some(1)), 4));
+    assert!(rt; queued == ((Some(1), Some(2), Some(3)), 4));
 }
 
-#[test]
-fn values_become_a_stack(rt: HostRuntime) {
-    let mut w = place_of(&rt, rt.alloc(), 400, 402);
-    let stack = stack_of(&rt, &mut w, 1..4);
-    let three = three_of_stack(&w, &stack);
-    let pushed = push(&mut w, &stack, 4);
-    let len = world::stack::len(&w, &stack);
-    world::stack::retire(&mut w, stack, 0);
-    stack_round(&rt, &mut w, 0);
-    stack_round(&rt, &mut w, 1);
-    stack_round(&rt, &mut w, 17);
-    stack_round(&rt, &mut w, 100);
-    end(&rt, w);
-    assert!(rt; three == (Some(3), Some(2), Some(1)) && pushed.is_ok() && len == 4);
+/// What was built of four values, where the third finds no slot or no cell.
+fn built<R: Abort>(rt: &R, alloc: Global, kind: Kind, sizes: (usize, usize)) -> Three {
+    let mut w = place_of(rt, alloc, sizes.0, sizes.1);
+    let line = match some_line(&mut w, kind, 1..5) {
+        (Some(line), Some(Lack::Of(3))) => line,
+        _ => panic!(rt; "there is room for two values"),
+    };
+    let three = three_of(&w, &line);
+    retire(&mut w, line);
+    end(rt, w);
+    three
 }
 
 #[test]
 fn values_without_room_hand_back_what_was_built(rt: HostRuntime) {
-    let mut w = place_of(&rt, rt.alloc(), 2, 5);
-    let queue = match some_queue(&mut w, 1..5) {
-        (Some(queue), Some(Lack::Of(3))) => queue,
-        _ => panic!(rt; "two cells are free, and no slot for the third"),
-    };
-    let queued = three_of_queue(&w, &queue);
-    world::queue::retire(&mut w, queue, 0);
-    end(&rt, w);
-    let mut w = place_of(&rt, rt.alloc(), 5, 3);
-    let stack = match some_stack(&mut w, 1..5) {
-        (Some(stack), Some(Lack::Of(3))) => stack,
-        _ => panic!(rt; "a cell is free, and none for the third"),
-    };
-    let stacked = three_of_stack(&w, &stack);
-    world::stack::retire(&mut w, stack, 0);
-    end(&rt, w);
+    let queued = built(&rt, rt.alloc(), Kind::Queue, (2, 5));
+    let stacked = built(&rt, rt.alloc(), Kind::Stack, (5, 3));
     assert!(rt; queued == (Some(1), Some(2), None) && stacked == (Some(2), Some(1), None));
 }
 
@@ -185,13 +145,13 @@ fn unmade<R: Abort, C>(rt: &R, made: Option<C>, lack: Option<Lack>) -> (NotMade,
 #[test]
 fn values_come_back_where_nothing_is_made(rt: HostRuntime) {
     let mut w = place_of(&rt, rt.alloc(), 2, 1);
-    let (made, lack) = some_queue(&mut w, 1..5);
+    let (made, lack) = some_line(&mut w, Kind::Queue, 1..5);
     let queue = unmade(&rt, made, lack);
     let (made, lack) = some_bag::<1>(rt.alloc(), &mut w, 1..5);
     let bag = unmade(&rt, made, lack);
     end(&rt, w);
     let mut w = place_of(&rt, rt.alloc(), 2, 0);
-    let (made, lack) = some_stack(&mut w, 1..5);
+    let (made, lack) = some_line(&mut w, Kind::Stack, 1..5);
     let stack = unmade(&rt, made, lack);
     end(&rt, w);
     let wanted = (NotMade::NoSlot, 4);
@@ -202,41 +162,42 @@ fn values_come_back_where_nothing_is_made(rt: HostRuntime) {
 fn a_clone_of_a_stack_outlasts_it(rt: HostRuntime) {
     let mut w = place_of(&rt, rt.alloc(), 8, 10);
     let guard = guarded(&rt, &mut w);
-    let stack = stack_of(&rt, &mut w, 1..4);
+    let line = line_of(&rt, &mut w, Kind::Stack, 1..4);
+    let Line::Stack(stack) = line else {
+        panic!(rt; "it is a stack");
+    };
     let deleted = change_first(&mut w, &stack, &guard, Delete);
-    let pushed = push(&mut w, &stack, 4);
-    let copy = match copied_stack(&mut w, stack) {
+    let line = Line::Stack(stack);
+    let pushed = push(&mut w, &line, 4);
+    let copy = match copied(&mut w, line) {
         (Some(copy), None) => copy,
         _ => panic!(rt; "there is room"),
     };
-    let three = three_of_stack(&w, &copy);
-    let len = world::stack::len(&w, &copy);
-    world::stack::retire(&mut w, copy, 0);
+    let (three, len) = (three_of(&w, &copy), count(&w, &copy).0);
+    retire(&mut w, copy);
     close(&rt, &mut w, guard);
     end(&rt, w);
     assert!(rt; deleted && pushed.is_ok() && len == 3 && three == (Some(4), Some(2), Some(1)));
 }
 
+/// What was built of a clone of three values, where one finds no slot or no cell.
+fn copied_in_part<R: Abort>(rt: &R, alloc: Global, kind: Kind, sizes: (usize, usize)) -> Three {
+    let mut w = place_of(rt, alloc, sizes.0, sizes.1);
+    let line = line_of(rt, &mut w, kind, 1..4);
+    let copy = match copied(&mut w, line) {
+        (Some(copy), Some(NotMade::NoSlot)) => copy,
+        _ => panic!(rt; "there is room for one value"),
+    };
+    let three = three_of(&w, &copy);
+    retire(&mut w, copy);
+    end(rt, w);
+    three
+}
+
 #[test]
 fn a_clone_without_room_hands_back_what_was_built(rt: HostRuntime) {
-    let mut w = place_of(&rt, rt.alloc(), 5, 10);
-    let queue = queue_of(&rt, &mut w, 1..4);
-    let copy = match copied_queue(&mut w, queue) {
-        (Some(copy), Some(NotMade::NoSlot)) => copy,
-        _ => panic!(rt; "two slots are free"),
-    };
-    let queued = three_of_queue(&w, &copy);
-    world::queue::retire(&mut w, copy, 0);
-    end(&rt, w);
-    let mut w = place_of(&rt, rt.alloc(), 8, 6);
-    let stack = stack_of(&rt, &mut w, 1..4);
-    let copy = match copied_stack(&mut w, stack) {
-        (Some(copy), Some(NotMade::NoSlot)) => copy,
-        _ => panic!(rt; "two cells are free"),
-    };
-    let stacked = three_of_stack(&w, &copy);
-    world::stack::retire(&mut w, copy, 0);
-    end(&rt, w);
+    let queued = copied_in_part(&rt, rt.alloc(), Kind::Queue, (5, 10));
+    let stacked = copied_in_part(&rt, rt.alloc(), Kind::Stack, (8, 6));
     assert!(rt; queued == (Some(1), Some(2), None) && stacked == (Some(3), None, None));
 }
 
@@ -244,12 +205,12 @@ fn a_clone_without_room_hands_back_what_was_built(rt: HostRuntime) {
 fn a_refused_clone_of_a_value_ends_a_clone(rt: HostRuntime) {
     let mut w: World<LinkedEntry<Rare>> = place_of(&rt, rt.alloc(), 9, 13);
     let values = [Rare { number: 1 }, Rare { number: 2 }, Rare { number: 3 }];
-    let queue = match world::queue::from_iter(&mut w, values) {
-        Ok(queue) => queue,
+    let line = match world::queue::from_iter(&mut w, values) {
+        Ok(queue) => Line::Queue(queue),
         _ => panic!(rt; "there is room"),
     };
-    let copy = match copied_queue(&mut w, queue) {
-        (Some(copy), Some(NotMade::Memory)) => copy,
+    let copy = match copied(&mut w, line) {
+        (Some(Line::Queue(copy)), Some(NotMade::Memory)) => copy,
         _ => panic!(rt; "the third one isn't cloned"),
     };
     let len = world::queue::len(&w, &copy);
@@ -261,7 +222,53 @@ fn a_refused_clone_of_a_value_ends_a_clone(rt: HostRuntime) {
         Err(refused) => refused,
         _ => panic!(rt; "the third one isn't cloned"),
     };
-    retire(&rt, &mut w, entry);
+    entries::retire(&rt, &mut w, entry);
     end(&rt, w);
     assert!(rt; len == 2 && refused == NotMade::Memory);
+}
+
+const MANY: u64 = 100_000;
+
+/// A stack or a queue of many values: how many it has.
+fn many_in<R: Abort>(rt: &R, w: &mut World<LinkedEntry<u64>>, kind: Kind) -> usize
+    requires { 0 < length w.old.participants }
+    ensures { 0 < length w.new.participants }
+{
+    let line = line_of(rt, w, kind, 0..MANY);
+    let (len, _) = count(w, &line);
+    retire(w, line);
+    len
+}
+
+#[test]
+fn a_stack_of_a_hundred_thousand_values(rt: HostRuntime) {
+    let mut w = place_of(&rt, rt.alloc(), 100_000, 100_002);
+    let len = many_in(&rt, &mut w, Kind::Stack);
+    let full = match some_line(&mut w, Kind::Stack, 0..MANY) {
+        (Some(full), Some(Lack::Of(0))) => full,
+        _ => panic!(rt; "a cell is free, and all slots wait"),
+    };
+    retire(&mut w, full);
+    end(&rt, w);
+    assert!(rt; len == 100_000);
+}
+
+#[test]
+fn a_queue_of_a_hundred_thousand_values(rt: HostRuntime) {
+    let mut w = place_of(&rt, rt.alloc(), 100_000, 100_002);
+    let len = many_in(&rt, &mut w, Kind::Queue);
+    end(&rt, w);
+    assert!(rt; len == 100_000);
+}
+
+#[test]
+fn a_bag_of_a_hundred_thousand_values(rt: HostRuntime) {
+    let mut w = place_of(&rt, rt.alloc(), 100_000, 100_033);
+    let bag = bag_of::<_, 32>(&rt, rt.alloc(), &mut w, 0..MANY);
+    let len = world::bag::len(&w, &bag);
+    let seven = world::bag::try_push(&mut w, &bag, 7);
+    let eight = world::bag::push(&mut w, &bag, 8);
+    world::bag::retire(&mut w, bag, 0);
+    end(&rt, w);
+    assert!(rt; len == 100_000 && seven == Err(7) && eight == Err(8));
 }

@@ -4,19 +4,18 @@
 #[cfg(test)]
 mod bags;
 #[cfg(test)]
+mod each_call;
+#[cfg(test)]
 mod entries;
 #[cfg(test)]
 mod filled;
 #[cfg(test)]
 mod fillings;
+pub mod lines;
 #[cfg(test)]
-mod large;
-#[cfg(test)]
-mod peeks;
+mod lists;
 #[cfg(test)]
 mod places;
-#[cfg(test)]
-mod queues;
 #[cfg(test)]
 mod random_calls;
 #[cfg(test)]

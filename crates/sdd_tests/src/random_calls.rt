@@ -1,22 +1,17 @@
 //! Random lists of calls beside plain lists.
 
 ghost use Rattle.std.specs.Prelude.{◌<◌, length};
-ghost use Rattle.world_containers.specs.Entries.{entry_link};
-ghost use Rattle.world_containers.specs.Stacks.{IsSomeStack, stack_cell};
-ghost use Rattle.world_containers.specs.Queues.{IsSomeQueue, oldest_cell, newest_cell};
+ghost use Rattle.sdd_tests.specs.Lines.{IsSomeLine};
 
-use crate::filled::{queue_of, stack_of};
-use crate::fillings::{copied_queue, copied_stack};
+use crate::each_call::{Kind, count, pop, push, retire};
+use crate::filled::line_of;
+use crate::fillings::copied;
+use crate::lines::Line;
 use crate::places::{end, place_of};
-use crate::queues::{append, take};
-use crate::stacks::{pop, push};
 use sdd_world::world::World;
 use std::alloc::Global;
 use std::process::Abort;
 use world_containers::linked_entry::LinkedEntry;
-use world_containers::queue::Queue;
-use world_containers::stack::Stack;
-use world_containers::world;
 
 /// The next of a run of numbers, each far from the one before.
 pub(crate) fn next(seed: u64) -> u64 {
@@ -42,12 +37,12 @@ impl List {
         Ok(())
     }
 
-    /// The oldest value, which is taken out.
-    fn oldest(&mut self) -> Option<u64> {
-        if self.values.is_empty() {
-            return None;
+    /// The newest value, of a stack, or the oldest one, of a queue, which is taken out.
+    fn pop(&mut self, kind: Kind) -> Option<u64> {
+        match kind {
+            Kind::Queue if !self.values.is_empty() => Some(self.values.remove(0)),
+            _ => self.values.pop(),
         }
-        Some(self.values.remove(0))
     }
 
     /// A clone takes as many slots as there are values.
@@ -61,9 +56,9 @@ impl List {
     }
 }
 
-/// How many slots there are, how many values in the beginning, how many calls are made, and by which number. Where there are
-/// values, their clones take their place now and then.
-type Run = (usize, u64, u32, u64);
+/// Of which kind it is, how many slots there are, how many values in the beginning, how many calls are made, and by which
+/// number. Where there are values, their clones take their place now and then.
+type Run = (Kind, usize, u64, u32, u64);
 
 /// A list of the numbers below one, with room for this many values in all.
 fn list_of(alloc: Global, room: usize, filled: u64) -> List {
@@ -78,148 +73,80 @@ fn list_of(alloc: Global, room: usize, filled: u64) -> List {
     list
 }
 
-/// One call of a stack, as `seed` says, and the same of a list: whether both answer alike.
-fn stack_call(
+/// One call of a stack or a queue, as `seed` says, and the same of a list: whether both answer alike.
+fn call(
     w: &mut World<LinkedEntry<u64>>,
-    stack: &Stack<u64>,
+    line: &Line<u64>,
     list: &mut List,
+    kind: Kind,
     seed: u64,
 ) -> bool
     requires participant { 0 < length w.old.participants }
-    requires list { IsSomeStack w.old (stack_cell stack.now) }
+    requires list { IsSomeLine w.old line.now }
     ensures participant { 0 < length w.new.participants }
-    ensures list { IsSomeStack w.new (stack_cell stack.now) }
+    ensures list { IsSomeLine w.new line.now }
 {
     let alike = if seed >> 60 < 9 {
-        push(w, stack, seed) == list.push(seed)
+        push(w, line, seed) == list.push(seed)
     } else {
-        pop(w, stack) == list.values.pop()
+        pop(w, line) == list.pop(kind)
     };
-    list.agrees((
-        world::stack::len(w, stack),
-        world::stack::is_empty(w, stack),
-    )) && alike
+    list.agrees(count(w, line)) && alike
 }
 
-/// One call of a queue, as `seed` says, and the same of a list: whether both answer alike.
-fn queue_call(
-    w: &mut World<LinkedEntry<u64>>,
-    queue: &Queue<u64>,
-    list: &mut List,
-    seed: u64,
-) -> bool
-    requires participant { 0 < length w.old.participants }
-    requires list { IsSomeQueue entry_link w.old (oldest_cell queue.now) (newest_cell queue.now) }
-    ensures participant { 0 < length w.new.participants }
-    ensures list { IsSomeQueue entry_link w.new (oldest_cell queue.now) (newest_cell queue.now) }
-{
-    let alike = if seed >> 60 < 9 {
-        append(w, queue, seed) == list.push(seed)
-    } else {
-        take(w, queue) == list.oldest()
-    };
-    list.agrees((
-        world::queue::len(w, queue),
-        world::queue::is_empty(w, queue),
-    )) && alike
-}
-
-/// As `stack_call`, or the stack's clone in its place, as `seed` says.
-fn stack_turn<R: Abort>(
+/// The same, or a clone takes its place, as `seed` says.
+fn turn<R: Abort>(
     rt: &R,
     w: &mut World<LinkedEntry<u64>>,
-    stack: Stack<u64>,
+    line: Line<u64>,
     list: &mut List,
+    kind: Kind,
     seed: u64,
-) -> (Stack<u64>, bool)
+) -> (Line<u64>, bool)
     requires participant { 0 < length w.old.participants }
-    requires list { IsSomeStack w.old (stack_cell stack) }
+    requires list { IsSomeLine w.old line }
     ensures participant { 0 < length w.new.participants }
-    ensures list { IsSomeStack w.new (stack_cell result.0) }
+    ensures list { IsSomeLine w.new result.0 }
 {
     if !list.is_cloned || seed >> 60 != 8 {
-        let alike = stack_call(w, &stack, list, seed);
-        return (stack, alike);
+        let alike = call(w, &line, list, kind, seed);
+        return (line, alike);
     }
-    let copy = match copied_stack(w, stack) {
+    let copy = match copied(w, line) {
         (Some(copy), None) => copy,
         _ => panic!(rt; "there is room"),
     };
     list.cloned();
-    let len = world::stack::len(w, &copy);
+    let (len, _) = count(w, &copy);
     (copy, len == list.values.len())
 }
 
-/// As `queue_call`, or the queue's clone in its place, as `seed` says.
-fn queue_turn<R: Abort>(
-    rt: &R,
-    w: &mut World<LinkedEntry<u64>>,
-    queue: Queue<u64>,
-    list: &mut List,
-    seed: u64,
-) -> (Queue<u64>, bool)
-    requires participant { 0 < length w.old.participants }
-    requires list { IsSomeQueue entry_link w.old (oldest_cell queue) (newest_cell queue) }
-    ensures participant { 0 < length w.new.participants }
-    ensures list { IsSomeQueue entry_link w.new (oldest_cell result.0) (newest_cell result.0) }
-{
-    if !list.is_cloned || seed >> 60 != 8 {
-        let alike = queue_call(w, &queue, list, seed);
-        return (queue, alike);
-    }
-    let copy = match copied_queue(w, queue) {
-        (Some(copy), None) => copy,
-        _ => panic!(rt; "there is room"),
-    };
-    list.cloned();
-    let len = world::queue::len(w, &copy);
-    (copy, len == list.values.len())
-}
-
-/// Calls of a stack and of a list: whether both answer alike, and how much room the list has then.
-fn stack_run<R: Abort>(rt: &R, alloc: Global, run: Run) -> (bool, u64) {
-    let (room, filled, calls, mut seed) = run;
-    let mut w = place_of(rt, alloc, room, room.saturating_add(2));
-    let mut list = list_of(alloc, room, filled);
-    let mut stack = stack_of(rt, &mut w, 0..filled);
-    let mut right = true;
-    for _call in 0..calls {
-        seed = next(seed);
-        let (left, alike) = stack_turn(rt, &mut w, stack, &mut list, seed);
-        stack = left;
-        right = right && alike;
-    }
-    world::stack::retire(&mut w, stack, 0);
-    end(rt, w);
-    (right, list.room)
-}
-
-/// Calls of a queue and of a list: whether both answer alike, and how much room the list has then.
-fn queue_run<R: Abort>(rt: &R, alloc: Global, run: Run) -> (bool, u64) {
-    let (room, filled, calls, mut seed) = run;
+/// Calls of a stack or a queue, and of a list: whether both answer alike, and how much room the list has then.
+fn played<R: Abort>(rt: &R, alloc: Global, run: Run) -> (bool, u64) {
+    let (kind, room, filled, calls, mut seed) = run;
     let mut w = place_of(rt, alloc, room, room.saturating_add(4));
     let mut list = list_of(alloc, room, filled);
-    let mut queue = queue_of(rt, &mut w, 0..filled);
+    let mut line = line_of(rt, &mut w, kind, 0..filled);
     let mut right = true;
     for _call in 0..calls {
         seed = next(seed);
-        let (left, alike) = queue_turn(rt, &mut w, queue, &mut list, seed);
-        queue = left;
+        let (left, alike) = turn(rt, &mut w, line, &mut list, kind, seed);
+        line = left;
         right = right && alike;
     }
-    world::queue::retire(&mut w, queue, 0);
+    retire(&mut w, line);
     end(rt, w);
     (right, list.room)
 }
 
 #[test]
 fn a_stack_is_a_list_whose_end_comes_first(rt: HostRuntime) {
-    assert!(rt; stack_run(&rt, rt.alloc(), (400, 0, 1000, 1)) == (true, 0));
-    assert!(rt; stack_run(&rt, rt.alloc(), (3000, 20, 500, 3)).0);
+    assert!(rt; played(&rt, rt.alloc(), (Kind::Stack, 400, 0, 1000, 1)) == (true, 0));
+    assert!(rt; played(&rt, rt.alloc(), (Kind::Stack, 3000, 20, 500, 3)).0);
 }
 
 #[test]
 fn a_queue_is_a_list(rt: HostRuntime) {
-    assert!(rt; queue_run(&rt, rt.alloc(), (400, 0, 1000, 2)) == (true, 0));
-    assert!(rt; queue_run(&rt, rt.alloc(), (3000, 20, 500, 4)).0);
+    assert!(rt; played(&rt, rt.alloc(), (Kind::Queue, 400, 0, 1000, 2)) == (true, 0));
+    assert!(rt; played(&rt, rt.alloc(), (Kind::Queue, 3000, 20, 500, 4)).0);
 }

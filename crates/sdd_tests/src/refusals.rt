@@ -4,11 +4,11 @@
 
 ghost use Rattle.std.specs.Prelude.{◌<◌, length};
 
+use crate::each_call::{Kind, new_line, push, retire};
 use crate::filled::{Lack, bag_of, some_bag};
-use crate::places::{end, new_bag, new_queue, new_stack, place_of, sizes};
-use crate::queues::append;
-use crate::stacks::push;
-use crate::walks::{three_of_queue, three_of_stack};
+use crate::lines::Line;
+use crate::places::{end, new_bag, new_stack, place_of, sizes};
+use crate::walks::three_of;
 use sdd_lists::world::entries;
 use sdd_world::refusal::NoSlot;
 use sdd_world::world::World;
@@ -65,8 +65,11 @@ fn neither_entry_nor_stack_is_made_without_a_slot_or_a_cell(rt: HostRuntime) {
 #[test]
 fn a_stack_is_neither_moved_nor_cloned_without_a_cell(rt: HostRuntime) {
     let mut w = place_of(&rt, rt.alloc(), 2, 2);
-    let stack = new_stack(&rt, &mut w);
-    let pushed = push(&mut w, &stack, 5);
+    let line = new_line(&rt, &mut w, Kind::Stack);
+    let pushed = push(&mut w, &line, 5);
+    let Line::Stack(stack) = line else {
+        panic!(rt; "it is a stack");
+    };
     match world::stack::pop_all(&mut w, &stack, 0) {
         Err(NoSlot) => {}
         _ => panic!(rt; "no cell is free"),
@@ -75,8 +78,9 @@ fn a_stack_is_neither_moved_nor_cloned_without_a_cell(rt: HostRuntime) {
         Err(CloneRefused::Unmade(NotMade::NoSlot)) => {}
         _ => panic!(rt; "no cell is free"),
     }
-    let left = (three_of_stack(&w, &stack), w.slots_in_use());
-    world::stack::retire(&mut w, stack, 0);
+    let line = Line::Stack(stack);
+    let left = (three_of(&w, &line), w.slots_in_use());
+    retire(&mut w, line);
     end(&rt, w);
     assert!(rt; pushed.is_ok());
     assert!(rt; left == ((Some(5), None, None), 1));
@@ -85,16 +89,20 @@ fn a_stack_is_neither_moved_nor_cloned_without_a_cell(rt: HostRuntime) {
 #[test]
 fn a_queue_is_not_cloned_with_one_cell(rt: HostRuntime) {
     let mut w = place_of(&rt, rt.alloc(), 3, 4);
-    let queue = new_queue(&rt, &mut w);
-    let first = append(&mut w, &queue, 5);
+    let line = new_line(&rt, &mut w, Kind::Queue);
+    let first = push(&mut w, &line, 5);
+    let Line::Queue(queue) = line else {
+        panic!(rt; "it is a queue");
+    };
     match world::queue::clone(&mut w, &queue) {
         Err(CloneRefused::Unmade(NotMade::NoSlot)) => {}
         _ => panic!(rt; "one cell is free"),
     }
     // that cell is free still
-    let second = append(&mut w, &queue, 6);
-    let left = three_of_queue(&w, &queue);
-    world::queue::retire(&mut w, queue, 0);
+    let line = Line::Queue(queue);
+    let second = push(&mut w, &line, 6);
+    let left = three_of(&w, &line);
+    retire(&mut w, line);
     end(&rt, w);
     assert!(rt; first.is_ok() && second.is_ok());
     assert!(rt; left == (Some(5), Some(6), None));

@@ -16,13 +16,6 @@ pub(crate) enum Reply {
     Count(usize),
 }
 
-/// Calls that are made in a new place of so many slots and cells, and what each of them returns.
-pub(crate) struct Table<C: 'static> {
-    pub(crate) about: &'static str,
-    pub(crate) sizes: (usize, usize),
-    pub(crate) rows: &'static [(C, Reply)],
-}
-
 /// Whether a value was put in, or was returned.
 pub(crate) fn told(pushed: Result<(), u64>) -> Reply {
     match pushed {

@@ -4,11 +4,12 @@ ghost use Rattle.std.specs.Prelude.{◌<◌, length};
 ghost use Rattle.world_containers.specs.Chain.{Hangs};
 ghost use Rattle.world_containers.specs.Entries.{entry_link};
 ghost use Rattle.world_containers.specs.Iters.{iter_cell};
-ghost use Rattle.world_containers.specs.Stacks.{IsSomeStack, stack_cell};
-ghost use Rattle.world_containers.specs.Queues.{IsSomeQueue, oldest_cell, newest_cell};
+ghost use Rattle.sdd_tests.specs.Lines.{IsSomeLine};
 
+use crate::each_call::Kind;
 use crate::entries::retire;
-use crate::filled::{queue_of, stack_of};
+use crate::filled::line_of;
+use crate::lines::Line;
 use crate::places::{close, end, give, guarded, place_of};
 use sdd_world::guard::WorldGuard;
 use sdd_world::owner::Shared;
@@ -17,8 +18,6 @@ use std::alloc::Global;
 use std::process::Abort;
 use world_containers::iter::Iter;
 use world_containers::linked_entry::LinkedEntry;
-use world_containers::queue::Queue;
-use world_containers::stack::Stack;
 use world_containers::world;
 
 /// Three values of a container, or fewer.
@@ -34,29 +33,29 @@ fn three(w: &World<LinkedEntry<u64>>, mut iter: Iter<u64>) -> Three
     (first, second, third)
 }
 
-pub(crate) fn three_of_stack(w: &World<LinkedEntry<u64>>, stack: &Stack<u64>) -> Three
-    requires { IsSomeStack w.now (stack_cell stack.now) }
+pub(crate) fn three_of(w: &World<LinkedEntry<u64>>, line: &Line<u64>) -> Three
+    requires { IsSomeLine w.now line.now }
 {
-    three(w, world::stack::iter(w, stack))
-}
-
-pub(crate) fn three_of_queue(w: &World<LinkedEntry<u64>>, queue: &Queue<u64>) -> Three
-    requires { IsSomeQueue entry_link w.now (oldest_cell queue.now) (newest_cell queue.now) }
-{
-    three(w, world::queue::iter(w, queue))
+    match line {
+        Line::Stack(stack) => three(w, world::stack::iter(w, stack)),
+        Line::Queue(queue) => three(w, world::queue::iter(w, queue)),
+    }
 }
 
 /// Whether there is an owner of the second undeleted entry to be had, which is given back.
 fn second_is_shared<R: Abort>(
     rt: &R,
     w: &mut World<LinkedEntry<u64>>,
-    stack: Stack<u64>,
+    line: Line<u64>,
     guard: &WorldGuard,
 ) -> bool
     requires participant { 0 < length w.old.participants }
-    requires list { IsSomeStack w.old (stack_cell stack) }
+    requires list { IsSomeLine w.old line }
     ensures participant { 0 < length w.new.participants }
 {
+    let Line::Stack(stack) = line else {
+        panic!(rt; "it is a stack");
+    };
     let first = world::stack::peek(w, &stack, guard);
     match w.read(&first) {
         None => panic!(rt; "there is a first one"),
@@ -77,7 +76,7 @@ fn second_is_shared<R: Abort>(
 fn the_next_entry_is_shared(rt: HostRuntime) {
     let mut w = place_of(&rt, rt.alloc(), 4, 6);
     let guard = guarded(&rt, &mut w);
-    let stack = stack_of(&rt, &mut w, 1..3);
+    let stack = line_of(&rt, &mut w, Kind::Stack, 1..3);
     let shared = second_is_shared(&rt, &mut w, stack, &guard);
     close(&rt, &mut w, guard);
     end(&rt, w);
@@ -111,19 +110,22 @@ fn entries_are_equal_by_value(rt: HostRuntime) {
 #[test]
 fn a_queue_is_popped_on_a_condition(rt: HostRuntime) {
     let mut w = place_of(&rt, rt.alloc(), 2, 5);
-    let queue = queue_of(&rt, &mut w, 5..7);
+    let line = line_of(&rt, &mut w, Kind::Queue, 5..7);
+    let Line::Queue(queue) = line else {
+        panic!(rt; "it is a queue");
+    };
     let six = |entry: &LinkedEntry<u64>| *entry.as_ref() == 6;
     let refused = match world::queue::pop_if(&mut w, &queue, 0, six) {
         Err(refused) => refused,
         _ => panic!(rt; "the oldest is another"),
     };
-    let before = three_of_queue(&w, &queue);
+    let before = three(&w, world::queue::iter(&w, &queue));
     let five = |entry: &LinkedEntry<u64>| *entry.as_ref() == 5;
     let popped = match world::queue::pop_if(&mut w, &queue, 0, five) {
         Ok(Some(popped)) => popped,
         _ => panic!(rt; "the oldest is this one"),
     };
-    let after = three_of_queue(&w, &queue);
+    let after = three(&w, world::queue::iter(&w, &queue));
     world::queue::retire(&mut w, queue, 0);
     give(&rt, &mut w, refused);
     give(&rt, &mut w, popped);

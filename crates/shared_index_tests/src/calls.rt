@@ -7,7 +7,7 @@ ghost use Rattle.sdd_domain.specs.Tokens.{place_of, home_of, own_of, nest_in, Is
 ghost use Rattle.shared_index.specs.SharedInvariant.{IsUnengaged};
 ghost use Rattle.shared_index_tests.specs.Scenes.{CanBegin};
 
-use crate::place::Item;
+use crate::place::{Item, member};
 use sdd_domain::domain::Domain;
 use sdd_domain::local::Local;
 use sdd_plain::sizes::Sizes;
@@ -112,51 +112,141 @@ pub(crate) fn held<'d, L: Naming, const S: usize>(
     SharedIndex::from_base(alloc, domain, local, blank, shares, base)
 }
 
-/// Makes the list of a number the base, and copies it.
-pub(crate) fn based<L: Naming, R: Wait, const S: usize>(
-    rt: &R,
-    index: &Index<'_, L, S>,
-    upto: u64,
-) -> (
-    Result<(), CheckpointRefused>,
-    Result<BaseList<u64, u64>, AllocError>,
-) {
-    let told = index.checkpoint(rt, upto);
-    (told, index.base(rt))
+/// An index as somebody calls it.
+#[derive(Drop)]
+pub(crate) struct Desk<'a, 'd, L: Naming, R, const S: usize> {
+    pub(crate) rt: &'a R,
+    pub(crate) alloc: Global,
+    pub(crate) index: &'a Index<'d, L, S>,
 }
 
-/// A session for at least this number, or why there is none.
-pub(crate) fn tried<L: Naming, const S: usize>(
-    index: &Index<'_, L, S>,
-    local: &mut Local<Item>,
-    at_least: u64,
-) -> Result<Session<S>, OpenRefused>
-    requires home { home_of local.old ≡ L.place }
-    requires closed { (own_of local.old).nesting ≡ 0 }
-    ensures nest { IfOk result (λ s. s.nest ≡ nest_in local.new) }
-    ensures open { OnOk result ((own_of local.new).nesting ≡ 1) }
-    ensures closed { OnErr result ((own_of local.new).nesting ≡ 0) }
-    ensures same { IsSame local.old local.new }
-{
-    index.open(local, at_least)
+impl<'a, 'd, L: Naming, R: Wait, const S: usize> Desk<'a, 'd, L, R, S> {
+    pub(crate) fn of(rt: &'a R, alloc: Global, index: &'a Index<'d, L, S>) -> Self {
+        Desk { rt, alloc, index }
+    }
+
+    /// A participant of the place, if one is free.
+    pub(crate) fn registered(&self) -> Option<Local<Item>>
+        ensures { IfSome result (IsUnengaged L.place) }
+    {
+        registered(self.index.domain())
+    }
+
+    /// Ends a participant.
+    pub(crate) fn leave(&self, local: Local<Item>)
+        requires { IsUnengaged L.place local }
+    {
+        leave(self.index.domain(), local);
+    }
+
+    /// Makes the list of a number the base, and copies it.
+    pub(crate) fn based(
+        &self,
+        upto: u64,
+    ) -> (
+        Result<(), CheckpointRefused>,
+        Result<BaseList<u64, u64>, AllocError>,
+    ) {
+        let told = self.index.checkpoint(self.rt, upto);
+        (told, self.index.base(self.rt))
+    }
+
+    /// A session for at least this number, or why there is none.
+    pub(crate) fn tried(
+        &self,
+        local: &mut Local<Item>,
+        at_least: u64,
+    ) -> Result<Session<S>, OpenRefused>
+        requires { IsUnengaged L.place local.old }
+        ensures nest { IfOk result (λ s. s.nest ≡ nest_in local.new) }
+        ensures open { OnOk result ((own_of local.new).nesting ≡ 1) }
+        ensures closed { OnErr result ((own_of local.new).nesting ≡ 0) }
+        ensures same { IsSame local.old local.new }
+    {
+        self.index.open(local, at_least)
+    }
+
+    /// A session for at least this number, if it is there.
+    pub(crate) fn opened(&self, local: &mut Local<Item>, at_least: u64) -> Option<Session<S>>
+        requires { IsUnengaged L.place local.old }
+        ensures nest { IfSome result (λ s. s.nest ≡ nest_in local.new) }
+        ensures open { IfSome result (λ s. (own_of local.new).nesting ≡ 1) }
+        ensures closed { IfNone result ((own_of local.new).nesting ≡ 0) }
+        ensures same { IsSame local.old local.new }
+    {
+        match self.tried(local, at_least) {
+            Ok(session) => Some(session),
+            Err(_) => None,
+        }
+    }
+
+    /// Closes a session: its receipt.
+    pub(crate) fn ended(&self, session: Session<S>, local: &mut Local<Item>) -> Receipt<u64, u64>
+        requires home { home_of local.old ≡ L.place }
+        requires mine { session.nest ≡ nest_in local.old }
+        requires open { (own_of local.old).nesting ≡ 1 }
+        ensures same { IsSame local.old local.new }
+        ensures closed { (own_of local.new).nesting ≡ 0 }
+    {
+        session.close(self.index.domain(), local)
+    }
+
+    /// Commits writes that rest on a receipt.
+    pub(crate) fn commit(
+        &self,
+        share: &mut Share<L>,
+        receipt: &Receipt<u64, u64>,
+        writes: Vec<Write<u64, u64>>,
+    ) -> Result<Accepted, Refused<u64, u64>>
+        ensures counted { OnOk result (share.new ≡ share.old + 1) }
+        ensures uncounted { OnErr result (share.new ≡ share.old) }
+    {
+        self.index.commit(self.rt, share, receipt, writes)
+    }
+
+    /// Audits a receipt.
+    pub(crate) fn audit(&self, receipt: &Receipt<u64, u64>) -> Result<Audit, AllocError> {
+        self.index.audit(self.rt, receipt)
+    }
+
+    /// Makes the list of a number the base.
+    pub(crate) fn checkpoint(&self, upto: u64) -> Result<(), CheckpointRefused> {
+        self.index.checkpoint(self.rt, upto)
+    }
+
+    /// How many transactions came behind a number.
+    pub(crate) fn fed(&self, number: u64) -> Result<usize, FeedRefused> {
+        let rest = self.index.since(self.rt, number)?;
+        Ok(rest.len())
+    }
+
+    /// The numbers of the base and the present list, and of the slots how many are in use, and all.
+    pub(crate) fn counted(&self) -> ((u64, u64), (usize, usize)) {
+        (
+            self.index.numbers(self.rt),
+            (self.index.slots_in_use(), self.index.slots()),
+        )
+    }
+
+    /// This many rounds of a reclaim.
+    pub(crate) fn rounds(&self, count: u32) {
+        for _ in 0..count {
+            self.index.reclaim_once(self.rt);
+        }
+    }
+
+    /// Reclaims what nobody reads.
+    pub(crate) fn reclaim(&self) {
+        self.index.reclaim(self.rt);
+    }
 }
 
-/// A session for at least this number, if it is there.
-pub(crate) fn opened<L: Naming, const S: usize>(
-    index: &Index<'_, L, S>,
-    local: &mut Local<Item>,
-    at_least: u64,
-) -> Option<Session<S>>
-    requires home { home_of local.old ≡ L.place }
-    requires closed { (own_of local.old).nesting ≡ 0 }
-    ensures nest { IfSome result (λ s. s.nest ≡ nest_in local.new) }
-    ensures open { IfSome result (λ s. (own_of local.new).nesting ≡ 1) }
-    ensures closed { IfNone result ((own_of local.new).nesting ≡ 0) }
-    ensures same { IsSame local.old local.new }
-{
-    match tried(index, local, at_least) {
-        Ok(session) => Some(session),
-        Err(_) => None,
+impl<L: Naming, R: Abort, const S: usize> Desk<'_, '_, L, R, S> {
+    /// A participant of the place, which has one that is free.
+    pub(crate) fn entered(&self) -> Local<Item>
+        ensures { IsUnengaged L.place result }
+    {
+        member(self.rt, self.index.domain())
     }
 }
 
@@ -168,87 +258,6 @@ pub(crate) fn asked<const S: usize>(
     ensures { session.new.nest ≡ session.old.nest }
 {
     session.read(query)
-}
-
-/// Closes a session: its receipt.
-pub(crate) fn ended<L: Naming, const S: usize>(
-    session: Session<S>,
-    index: &Index<'_, L, S>,
-    local: &mut Local<Item>,
-) -> Receipt<u64, u64>
-    requires home { home_of local.old ≡ L.place }
-    requires mine { session.nest ≡ nest_in local.old }
-    requires open { (own_of local.old).nesting ≡ 1 }
-    ensures same { IsSame local.old local.new }
-    ensures closed { (own_of local.new).nesting ≡ 0 }
-{
-    session.close(index.domain(), local)
-}
-
-/// Commits writes that rest on a receipt.
-pub(crate) fn commit<L: Naming, R: Wait, const S: usize>(
-    rt: &R,
-    index: &Index<'_, L, S>,
-    share: &mut Share<L>,
-    receipt: &Receipt<u64, u64>,
-    writes: Vec<Write<u64, u64>>,
-) -> Result<Accepted, Refused<u64, u64>>
-    ensures counted { OnOk result (share.new ≡ share.old + 1) }
-    ensures uncounted { OnErr result (share.new ≡ share.old) }
-{
-    index.commit(rt, share, receipt, writes)
-}
-
-/// Audits a receipt.
-pub(crate) fn audit<L: Naming, R: Wait, const S: usize>(
-    rt: &R,
-    index: &Index<'_, L, S>,
-    receipt: &Receipt<u64, u64>,
-) -> Result<Audit, AllocError> {
-    index.audit(rt, receipt)
-}
-
-/// Makes the list of a number the base.
-pub(crate) fn checkpoint<L: Naming, R: Wait, const S: usize>(
-    rt: &R,
-    index: &Index<'_, L, S>,
-    upto: u64,
-) -> Result<(), CheckpointRefused> {
-    index.checkpoint(rt, upto)
-}
-
-/// How many transactions came behind a number.
-pub(crate) fn fed<L: Naming, R: Wait, const S: usize>(
-    rt: &R,
-    index: &Index<'_, L, S>,
-    number: u64,
-) -> Result<usize, FeedRefused> {
-    let rest = index.since(rt, number)?;
-    Ok(rest.len())
-}
-
-/// The numbers of the base and the present list, and of the slots how many are in use, and all.
-pub(crate) fn counted<L: Naming, R: Wait, const S: usize>(
-    rt: &R,
-    index: &Index<'_, L, S>,
-) -> ((u64, u64), (usize, usize)) {
-    (index.numbers(rt), (index.slots_in_use(), index.slots()))
-}
-
-/// This many rounds of a reclaim.
-pub(crate) fn rounds<L: Naming, R: Wait, const S: usize>(
-    rt: &R,
-    index: &Index<'_, L, S>,
-    count: u32,
-) {
-    for _ in 0..count {
-        index.reclaim_once(rt);
-    }
-}
-
-/// Reclaims what nobody reads.
-pub(crate) fn reclaim<L: Naming, R: Wait, const S: usize>(rt: &R, index: &Index<'_, L, S>) {
-    index.reclaim(rt);
 }
 
 /// Ends an index with these shares: its number, or both back where a share is missing.

@@ -1,12 +1,11 @@
 //! An index of one thread that continues in two threads, and back: each begins with the base of the one before.
 
 ghost use Rattle.std.specs.Prelude.{◌≡◌};
-ghost use Rattle.sdd_domain.specs.Tokens.{place_of};
 ghost use Rattle.shared_index_tests.specs.Scenes.{CanBegin};
 
-use crate::calls::{Numbers, asked, audit, based, ended, held, leave, opened, place};
+use crate::calls::{Desk, asked, held, leave, place};
+use crate::joined::Task;
 use crate::joined::Task::{Raises, Rests};
-use crate::joined::{Task, six};
 use crate::place::{Item, ROOM, end, got, member};
 use crate::tasks::{all, closed, place_for};
 use local_index::LocalIndex;
@@ -81,26 +80,24 @@ fn alone<R: Abort>(rt: &R, alloc: Global) -> BaseList<u64, u64> {
 /// What a session reads: its number, and all pairs.
 type Seen = (u64, Answer<u64, u64>);
 
-/// What a session of a new participant reads, and what audits of the number before it and of its own say of its first pair.
-fn seen<L: Naming, R: Wait + Abort>(
-    rt: &R,
-    alloc: Global,
-    index: &Numbers<'_, L>,
-) -> (Seen, [Audit; 2]) {
-    let domain = index.domain();
-    let mut local = member(rt, domain);
-    let Some(mut session) = opened(index, &mut local, 0) else {
-        panic!(rt; "a version is there");
-    };
-    let told = asked(&mut session, all()).expect(rt, ROOM);
-    let receipt = ended(session, index, &mut local);
-    leave(domain, local);
-    let before = receipt.number.saturating_sub(1);
-    let audits = [
-        audit(rt, index, &got(rt, alloc, before, 1, Some(10))).expect(rt, ROOM),
-        audit(rt, index, &receipt).expect(rt, ROOM),
-    ];
-    ((receipt.number, told), audits)
+impl<L: Naming, R: Wait + Abort, const S: usize> Desk<'_, '_, L, R, S> {
+    /// What a session of a new participant reads, and what audits of the number before it and of its own say of its first pair.
+    fn seen(&self) -> (Seen, [Audit; 2]) {
+        let mut local = self.entered();
+        let Some(mut session) = self.opened(&mut local, 0) else {
+            panic!(self.rt; "a version is there");
+        };
+        let told = asked(&mut session, all()).expect(self.rt, ROOM);
+        let receipt = self.ended(session, &mut local);
+        self.leave(local);
+        let before = receipt.number.saturating_sub(1);
+        let audits = [
+            self.audit(&got(self.rt, self.alloc, before, 1, Some(10)))
+                .expect(self.rt, ROOM),
+            self.audit(&receipt).expect(self.rt, ROOM),
+        ];
+        ((receipt.number, told), audits)
+    }
 }
 
 /// Whether a session read this list at this number.
@@ -146,10 +143,11 @@ fn shared<L: Naming + Send + Sync, R: Threads + Wait + Abort + Sync>(
         Ok(made) => made,
         Err(_) => panic!(rt; "there is memory, and there are slots and a cell"),
     };
-    let first = seen(rt, alloc, &index);
-    let told = six(rt, alloc, &index, &mut shares, TASKS);
-    let last = seen(rt, alloc, &index);
-    let (checked, list) = based(rt, &index, 103);
+    let desk = Desk::of(rt, alloc, &index);
+    let first = desk.seen();
+    let told = desk.six(&mut shares, TASKS);
+    let last = desk.seen();
+    let (checked, list) = desk.based(103);
     let list = list.expect(rt, ROOM);
     let number = closed(rt, domain, index, shares);
     ([first, last], told, (checked, list), number)

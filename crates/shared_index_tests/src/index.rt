@@ -3,13 +3,15 @@
 ghost use Rattle.std.specs.Prelude.{◌≡◌};
 ghost use Rattle.shared_index_tests.specs.Scenes.{CanBegin};
 
-use crate::calls::{audit, close, commit, counted, leave, made, place, reclaim, rounds};
+use crate::calls::{Desk, close, leave, made, place};
 use crate::place::{Item, ROOM, end, got, member, one, two};
-use crate::tasks::{begun, closed, listed, place_for, put, swap, taken};
+use crate::tasks::{begun, closed, place_for, put, taken};
 use sdd_domain::domain::Domain;
 use sdd_domain::local::Local;
 use sdd_plain::sizes::Sizes;
-use serial_history::{Accepted, Answer, Audit, Cause, Receipt, Refused, Reply, Seq};
+use serial_history::{
+    Accepted, Answer, Audit, Cause, CheckpointRefused, Receipt, Refused, Reply, Seq,
+};
 use shared_index::{Naming, NewRefused};
 use std::alloc::{AllocError, Global};
 use std::marker::Brand;
@@ -34,14 +36,15 @@ fn missing_share<L: Naming, R: Wait + Abort>(
     requires last { L.last ≡ 18446744073709551615 }
 {
     let (index, mut shares) = begun::<L, R, 2>(rt, alloc, domain, local, blank, 2);
+    let desk = Desk::of(rt, alloc, &index);
     let all = shares.len();
     let mut first = taken(rt, &mut shares);
     let mut second = taken(rt, &mut shares);
     let told = [
-        swap(rt, alloc, &index, &mut first, 1, (None, 10)),
-        swap(rt, alloc, &index, &mut first, 1, (None, 11)),
-        swap(rt, alloc, &index, &mut second, 1, (Some(10), 11)),
-        swap(rt, alloc, &index, &mut second, 1, (Some(11), 12)),
+        desk.swap(&mut first, 1, (None, 10)),
+        desk.swap(&mut first, 1, (None, 11)),
+        desk.swap(&mut second, 1, (Some(10), 11)),
+        desk.swap(&mut second, 1, (Some(11), 12)),
     ];
     let counts = [first.count(), second.count()];
     put(rt, &mut shares, first);
@@ -89,19 +92,20 @@ fn told_under_the_lock<L: Naming, R: Wait + Abort>(
     requires last { L.last ≡ 18446744073709551615 }
 {
     let (index, mut shares) = begun::<L, R, 2>(rt, alloc, domain, local, blank, 1);
+    let desk = Desk::of(rt, alloc, &index);
     let mut share = taken(rt, &mut shares);
     let writes = two(rt, alloc, Write::Insert(1, 10), Write::Insert(1, 11));
-    let told = commit(rt, &index, &mut share, &Receipt::blank(alloc), writes);
-    let before = counted(rt, &index);
-    rounds(rt, &index, 1);
-    let once = counted(rt, &index);
-    rounds(rt, &index, 7);
-    let after = counted(rt, &index);
-    reclaim(rt, &index);
+    let told = desk.commit(&mut share, &Receipt::blank(alloc), writes);
+    let before = desk.counted();
+    desk.rounds(1);
+    let once = desk.counted();
+    desk.rounds(7);
+    let after = desk.counted();
+    desk.reclaim();
     let audits = [
-        audit(rt, &index, &got(rt, alloc, 1, 1, Some(10))),
-        audit(rt, &index, &got(rt, alloc, 1, 1, Some(11))),
-        audit(rt, &index, &got(rt, alloc, 2, 1, Some(10))),
+        desk.audit(&got(rt, alloc, 1, 1, Some(10))),
+        desk.audit(&got(rt, alloc, 1, 1, Some(11))),
+        desk.audit(&got(rt, alloc, 2, 1, Some(10))),
     ];
     put(rt, &mut shares, share);
     let number = closed(rt, domain, index, shares);
@@ -199,12 +203,13 @@ fn too_small<L: Naming, R: Wait + Abort>(
     requires last { L.last ≡ 18446744073709551615 }
 {
     let (index, mut shares) = begun::<L, R, 2>(rt, alloc, domain, local, blank, 1);
+    let desk = Desk::of(rt, alloc, &index);
     let mut share = taken(rt, &mut shares);
     let writes = one(rt, alloc, Write::Insert(1, 10));
-    let told = commit(rt, &index, &mut share, &Receipt::blank(alloc), writes);
-    let mut reader = member(rt, domain);
-    let list = listed(rt, &index, &mut reader, 0);
-    leave(domain, reader);
+    let told = desk.commit(&mut share, &Receipt::blank(alloc), writes);
+    let mut reader = desk.entered();
+    let list = desk.listed(&mut reader, 0);
+    desk.leave(reader);
     put(rt, &mut shares, share);
     (told, list, closed(rt, domain, index, shares))
 }
@@ -227,4 +232,62 @@ fn a_place_too_small_for_a_commit_keeps_the_list_before(rt: HostRuntime) {
     let (told, list, number) = found;
     assert!(rt; is_without_slots(&told));
     assert!(rt; list == Answer::Range(Seq::new(rt.alloc())) && number == 0);
+}
+
+/// What is found: whether three commits are accepted, the answers to four checkpoints, what audits say of numbers below the
+/// base, at it, above it and above the present one, and the number.
+type Cut = (
+    [Option<bool>; 3],
+    [Result<(), CheckpointRefused>; 4],
+    [Result<Audit, AllocError>; 4],
+    u64,
+);
+
+/// The key 1 is 10, 11 and 12 by the numbers 1, 2 and 3, and the list of 2 becomes the base.
+fn cut<L: Naming, R: Wait + Abort>(
+    rt: &R,
+    alloc: Global,
+    domain: &Domain<Item>,
+    local: Local<Item>,
+    blank: Blank,
+) -> Cut
+    requires begins { CanBegin L.place L.name L.parts 1 domain.now local blank }
+    requires last { L.last ≡ 18446744073709551615 }
+{
+    let (index, mut shares) = begun::<L, R, 2>(rt, alloc, domain, local, blank, 1);
+    let desk = Desk::of(rt, alloc, &index);
+    let mut share = taken(rt, &mut shares);
+    let commits = [
+        desk.swap(&mut share, 1, (None, 10)),
+        desk.swap(&mut share, 1, (Some(10), 11)),
+        desk.swap(&mut share, 1, (Some(11), 12)),
+    ];
+    let told = [
+        desk.checkpoint(4),
+        desk.checkpoint(2),
+        desk.checkpoint(1),
+        desk.checkpoint(2),
+    ];
+    let audits = [
+        desk.audit(&got(rt, alloc, 1, 1, Some(10))),
+        desk.audit(&got(rt, alloc, 2, 1, Some(11))),
+        desk.audit(&got(rt, alloc, 3, 1, Some(11))),
+        desk.audit(&got(rt, alloc, 4, 1, Some(12))),
+    ];
+    put(rt, &mut shares, share);
+    (commits, told, audits, closed(rt, domain, index, shares))
+}
+
+#[test]
+fn the_list_of_a_number_becomes_the_base_under_the_lock(rt: HostRuntime) {
+    let domain = place(rt.alloc(), place_for(2, 64)).expect(&rt, ROOM);
+    let local = member(&rt, &domain);
+    let found = cut::<Brand, _>(&rt, rt.alloc(), &domain, local, Blank::new(1));
+    end(&rt, domain);
+    let (commits, told, audits, number) = found;
+    assert_eq!(rt; (commits, number), ([Some(true); 3], 3));
+    let behind = Err(CheckpointRefused::Behind(2));
+    assert!(rt; told == [Err(CheckpointRefused::Ahead(3)), Ok(()), behind, Ok(())]);
+    let (below, above) = (Ok(Audit::TooOld(2)), Ok(Audit::Unknown));
+    assert!(rt; audits == [below, Ok(Audit::Yes), Ok(Audit::No(0)), above]);
 }

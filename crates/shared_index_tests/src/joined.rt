@@ -5,18 +5,14 @@
 //! all commits of its threads, also where nothing is reclaimed, or a session that is open keeps each version.
 
 ghost use Rattle.std.specs.Prelude.{◌≡◌, ◌<◌, ◌≤◌};
-ghost use Rattle.sdd_domain.specs.Tokens.{place_of, home_of, own_of, IsSame};
 ghost use Rattle.shared_index_tests.specs.Scenes.{CanBegin};
 
-use crate::calls::{Index, audit, leave, place};
-use crate::crowd::sums;
-use crate::own_commits::read_often;
+use crate::calls::{Desk, leave, place};
 use crate::place::{Item, ROOM, end, got, member};
-use crate::tasks::{begun, closed, listed, own_key, place_for, put, readings, upserts, writings};
-use crate::threads::same_key;
+use crate::tasks::{begun, closed, place_for, put};
 use sdd_domain::domain::Domain;
 use sdd_domain::local::Local;
-use serial_history::{Answer, Audit, Seq};
+use serial_history::{Answer, Audit};
 use shared_index::{Naming, Share, join_over};
 use std::alloc::Global;
 use std::marker::Brand;
@@ -81,36 +77,55 @@ fn found_back<L: Naming>(right: Option<u32>, share: &Share<L>) -> Option<u64> {
     }
 }
 
-/// Does it with a share: what is answered.
-fn committed<L: Naming, R: Wait + Abort, const S: usize>(
-    rt: &R,
-    alloc: Global,
-    index: &Index<'_, L, S>,
-    task: Task,
-    share: &mut Share<L>,
-) -> Option<u64> {
-    match task {
-        Task::Raises(key, last) => {
-            let is_done = own_key(rt, alloc, index, share, key, last);
-            counted(is_done, share)
+impl<L: Naming, R: Wait + Abort, const S: usize> Desk<'_, '_, L, R, S> {
+    /// Does it with a share: what is answered.
+    fn committed(&self, task: Task, share: &mut Share<L>) -> Option<u64> {
+        match task {
+            Task::Raises(key, last) => {
+                let is_done = self.own_key(share, key, last);
+                counted(is_done, share)
+            }
+            Task::Upserts(key, last) => {
+                let is_done = self.upserts(share, key, last);
+                counted(is_done, share)
+            }
+            Task::CountsUp => {
+                let wrote = self.same_key(share);
+                counted_up(wrote, share)
+            }
+            Task::Writes => {
+                let is_done = self.writings(share);
+                counted(is_done, share)
+            }
+            Task::ReadsBack(key) => {
+                let right = self.read_often(share, key);
+                found_back(right, share)
+            }
+            Task::Reads | Task::Sums | Task::Rests => None,
         }
-        Task::Upserts(key, last) => {
-            let is_done = upserts(rt, alloc, index, share, key, last);
-            counted(is_done, share)
+    }
+
+    /// Does it: what is answered.
+    fn done(&self, work: &mut Work<L>) -> Option<u64> {
+        let task = work.task;
+        if let Some(share) = &mut work.share {
+            return self.committed(task, share);
         }
-        Task::CountsUp => {
-            let wrote = same_key(rt, alloc, index, share);
-            counted_up(wrote, share)
+        match task {
+            Task::Reads => self.readings().map(u64::from),
+            Task::Sums => self.sums().map(u64::from),
+            _ => None,
         }
-        Task::Writes => {
-            let is_done = writings(rt, alloc, index, share);
-            counted(is_done, share)
+    }
+
+    /// Whether each of these pairs is in the list of this number, by the audit of a receipt of it.
+    fn are_audited(&self, number: u64, list: &[(u64, u64)]) -> bool {
+        let mut all = true;
+        for (key, value) in list {
+            let receipt = got(self.rt, self.alloc, number, *key, Some(*value));
+            all = self.audit(&receipt).expect(self.rt, ROOM) == Audit::Yes && all;
         }
-        Task::ReadsBack(key) => {
-            let right = read_often(rt, alloc, index, share, key);
-            found_back(right, share)
-        }
-        Task::Reads | Task::Sums | Task::Rests => None,
+        all
     }
 }
 
@@ -126,60 +141,61 @@ struct Both<L: Naming> {
     other: Work<L>,
 }
 
-/// Does it: what is answered.
-fn done<L: Naming, R: Wait + Abort, const S: usize>(
-    rt: &R,
-    alloc: Global,
-    index: &Index<'_, L, S>,
-    work: &mut Work<L>,
-) -> Option<u64> {
-    let task = work.task;
-    if let Some(share) = &mut work.share {
-        return committed(rt, alloc, index, task, share);
+impl<L: Naming, R: Wait + Abort, const S: usize> Desk<'_, '_, L, R, S>
+where
+    L: Send + Sync,
+    R: Threads + Sync,
+{
+    /// Two threads.
+    fn two(&self, both: &mut Both<L>) -> (Option<u64>, Option<u64>) {
+        let Desk { rt, alloc, index } = *self;
+        let (first, second) = (&mut both.one, &mut both.other);
+        let (one, other) = join_over(
+            rt,
+            index,
+            |index| Desk { rt, alloc, index }.done(first),
+            |index| Desk { rt, alloc, index }.done(second),
+        );
+        (one, other)
     }
-    match task {
-        Task::Reads => readings(rt, index).map(u64::from),
-        Task::Sums => sums(rt, index).map(u64::from),
-        _ => None,
+
+    /// Four threads.
+    fn four(
+        &self,
+        first: &mut Both<L>,
+        second: &mut Both<L>,
+    ) -> ((Option<u64>, Option<u64>), (Option<u64>, Option<u64>)) {
+        let Desk { rt, alloc, index } = *self;
+        let (some, others) = join_over(
+            rt,
+            index,
+            |index| Desk { rt, alloc, index }.two(first),
+            |index| Desk { rt, alloc, index }.two(second),
+        );
+        (some, others)
     }
-}
 
-/// Two threads.
-fn two<L: Naming + Send + Sync, R: Threads + Wait + Abort + Sync, const S: usize>(
-    rt: &R,
-    alloc: Global,
-    index: &Index<'_, L, S>,
-    both: &mut Both<L>,
-) -> (Option<u64>, Option<u64>) {
-    let (first, second) = (&mut both.one, &mut both.other);
-    let (one, other) = join_over(
-        rt,
-        index,
-        |index| done(rt, alloc, index, first),
-        |index| done(rt, alloc, index, second),
-    );
-    (one, other)
-}
-
-/// Four threads.
-fn four<L: Naming + Send + Sync, R: Threads + Wait + Abort + Sync, const S: usize>(
-    rt: &R,
-    alloc: Global,
-    index: &Index<'_, L, S>,
-    first: &mut Both<L>,
-    second: &mut Both<L>,
-) -> ((Option<u64>, Option<u64>), (Option<u64>, Option<u64>)) {
-    let (some, others) = join_over(
-        rt,
-        index,
-        |index| two(rt, alloc, index, first),
-        |index| two(rt, alloc, index, second),
-    );
-    (some, others)
+    /// What six threads get as answers that do these.
+    pub(crate) fn six(&self, shares: &mut Vec<Share<L>>, tasks: [Task; 6]) -> [Option<u64>; 6] {
+        let Desk { rt, alloc, index } = *self;
+        let mut first = with_shares(tasks[0], tasks[1], shares);
+        let mut second = with_shares(tasks[2], tasks[3], shares);
+        let mut third = with_shares(tasks[4], tasks[5], shares);
+        let (((a, b), (c, d)), (e, f)) = join_over(
+            rt,
+            index,
+            |index| Desk { rt, alloc, index }.four(&mut first, &mut second),
+            |index| Desk { rt, alloc, index }.two(&mut third),
+        );
+        put_both_back(rt, shares, first);
+        put_both_back(rt, shares, second);
+        put_both_back(rt, shares, third);
+        [a, b, c, d, e, f]
+    }
 }
 
 /// A task, with a share if it commits.
-fn work<L: Naming>(task: Task, shares: &mut Vec<Share<L>>) -> Work<L> {
+fn with_share<L: Naming>(task: Task, shares: &mut Vec<Share<L>>) -> Work<L> {
     let share = match task {
         Task::Rests | Task::Reads | Task::Sums => None,
         _ => shares.pop(),
@@ -196,9 +212,9 @@ fn put_back<L: Naming, R: Abort>(rt: &R, shares: &mut Vec<Share<L>>, work: Work<
 }
 
 /// Two tasks, with their shares.
-fn both<L: Naming>(one: Task, other: Task, shares: &mut Vec<Share<L>>) -> Both<L> {
-    let one = work(one, shares);
-    let other = work(other, shares);
+fn with_shares<L: Naming>(one: Task, other: Task, shares: &mut Vec<Share<L>>) -> Both<L> {
+    let one = with_share(one, shares);
+    let other = with_share(other, shares);
     Both { one, other }
 }
 
@@ -207,45 +223,6 @@ fn put_both_back<L: Naming, R: Abort>(rt: &R, shares: &mut Vec<Share<L>>, both: 
     let Both { one, other } = both;
     put_back(rt, shares, one);
     put_back(rt, shares, other);
-}
-
-/// What six threads get as answers that do these.
-pub(crate) fn six<L: Naming + Send + Sync, R: Threads + Wait + Abort + Sync, const S: usize>(
-    rt: &R,
-    alloc: Global,
-    index: &Index<'_, L, S>,
-    shares: &mut Vec<Share<L>>,
-    tasks: [Task; 6],
-) -> [Option<u64>; 6] {
-    let mut first = both(tasks[0], tasks[1], shares);
-    let mut second = both(tasks[2], tasks[3], shares);
-    let mut third = both(tasks[4], tasks[5], shares);
-    let (((a, b), (c, d)), (e, f)) = join_over(
-        rt,
-        index,
-        |index| four(rt, alloc, index, &mut first, &mut second),
-        |index| two(rt, alloc, index, &mut third),
-    );
-    put_both_back(rt, shares, first);
-    put_both_back(rt, shares, second);
-    put_both_back(rt, shares, third);
-    [a, b, c, d, e, f]
-}
-
-/// Whether each of these pairs is in the list of this number, by the audit of a receipt of it.
-fn are_audited<L: Naming, R: Wait + Abort, const S: usize>(
-    rt: &R,
-    alloc: Global,
-    index: &Index<'_, L, S>,
-    number: u64,
-    list: &[(u64, u64)],
-) -> bool {
-    let mut all = true;
-    for (key, value) in list {
-        let receipt = got(rt, alloc, number, *key, Some(*value));
-        all = audit(rt, index, &receipt).expect(rt, ROOM) == Audit::Yes && all;
-    }
-    all
 }
 
 /// Whether an answer is this list.
@@ -280,11 +257,12 @@ fn crowded<L: Naming + Send + Sync, R: Threads + Wait + Abort + Sync, const S: u
         blank,
         usize::from(crowd.shares),
     );
-    let told = six(rt, alloc, &index, &mut shares, crowd.tasks);
-    let are_audited = are_audited(rt, alloc, &index, crowd.number, crowd.list);
-    let mut reader = member(rt, domain);
-    let list = listed(rt, &index, &mut reader, crowd.number);
-    leave(domain, reader);
+    let desk = Desk::of(rt, alloc, &index);
+    let told = desk.six(&mut shares, crowd.tasks);
+    let are_audited = desk.are_audited(crowd.number, crowd.list);
+    let mut reader = desk.entered();
+    let list = desk.listed(&mut reader, crowd.number);
+    desk.leave(reader);
     let is_read = is_list(&list, crowd.list);
     (
         told,
@@ -294,8 +272,8 @@ fn crowded<L: Naming + Send + Sync, R: Threads + Wait + Abort + Sync, const S: u
     )
 }
 
-/// What is found where a segment has 64 pairs at most.
-fn wide<L: Naming + Send + Sync, R: Threads + Wait + Abort + Sync>(
+/// The same with 64 pairs in a segment at most, or with two.
+fn by_width<L: Naming + Send + Sync, R: Threads + Wait + Abort + Sync>(
     rt: &R,
     alloc: Global,
     domain: &Domain<Item>,
@@ -307,23 +285,11 @@ fn wide<L: Naming + Send + Sync, R: Threads + Wait + Abort + Sync>(
     requires last { L.last ≡ 18446744073709551615 }
     requires some { 0 < crowd.now.shares }
 {
-    crowded::<L, R, 64>(rt, alloc, domain, local, blank, crowd)
-}
-
-/// What is found where it has two.
-fn narrow<L: Naming + Send + Sync, R: Threads + Wait + Abort + Sync>(
-    rt: &R,
-    alloc: Global,
-    domain: &Domain<Item>,
-    local: Local<Item>,
-    blank: Blank,
-    crowd: &Crowd,
-) -> Found
-    requires begins { CanBegin L.place L.name L.parts crowd.now.shares domain.now local blank }
-    requires last { L.last ≡ 18446744073709551615 }
-    requires some { 0 < crowd.now.shares }
-{
-    crowded::<L, R, 2>(rt, alloc, domain, local, blank, crowd)
+    if crowd.is_wide {
+        crowded::<L, R, 64>(rt, alloc, domain, local, blank, crowd)
+    } else {
+        crowded::<L, R, 2>(rt, alloc, domain, local, blank, crowd)
+    }
 }
 
 /// Whether a crowd finds what it is to.
@@ -335,12 +301,9 @@ fn is_right<R: Threads + Wait + Abort + Sync>(rt: &R, alloc: Global, crowd: &Cro
     let domain = place(alloc, sizes).expect(rt, ROOM);
     let local = member(rt, &domain);
     let blank = Blank::new(u64::from(crowd.shares));
-    let (told, are_audited, is_read, number) = if crowd.is_wide {
-        wide::<Brand, R>(rt, alloc, &domain, local, blank, crowd)
-    } else {
-        narrow::<Brand, R>(rt, alloc, &domain, local, blank, crowd)
-    };
+    let found = by_width::<Brand, R>(rt, alloc, &domain, local, blank, crowd);
     end(rt, domain);
+    let (told, are_audited, is_read, number) = found;
     told == crowd.told && are_audited && is_read && number == crowd.number
 }
 

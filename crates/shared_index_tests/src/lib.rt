@@ -4,8 +4,6 @@
 #[cfg(test)]
 mod calls;
 #[cfg(test)]
-mod checkpoints;
-#[cfg(test)]
 mod crowd;
 #[cfg(test)]
 mod from_base;
@@ -15,8 +13,6 @@ mod index;
 mod joined;
 #[cfg(test)]
 mod large;
-#[cfg(test)]
-mod own_commits;
 #[cfg(test)]
 mod participants;
 #[cfg(test)]
@@ -33,8 +29,6 @@ mod steps;
 mod tasks;
 #[cfg(test)]
 mod texts;
-#[cfg(test)]
-mod threads;
 #[cfg(test)]
 mod transact;
 #[cfg(test)]

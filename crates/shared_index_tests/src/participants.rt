@@ -1,5 +1,6 @@
 //! Participants and readers that end by themselves, and tasks over an index.
 
+use crate::calls::Desk;
 use crate::place::ROOM;
 use crate::transact::raised;
 use serial_history::{Answer, Audit, Cause, Query, Receipt, Refused};
@@ -16,11 +17,9 @@ use std::test::Fail;
 use std::thread::Threads;
 use version_views::Write;
 
-type Index<'d, L> = SharedIndex<'d, L, u64, u64, 64>;
+type Member<'i, 'd, L, const S: usize> = Participant<'i, 'd, L, u64, u64, S>;
 
-type Member<'i, 'd, L> = Participant<'i, 'd, L, u64, u64, 64>;
-
-type Reader<'a, 'i, 'd, L> = SharedReading<'a, 'i, 'd, L, u64, u64, 64>;
+type Reader<'a, 'i, 'd, L, const S: usize> = SharedReading<'a, 'i, 'd, L, u64, u64, S>;
 
 /// What a task does, and what it comes to.
 #[derive(Drop)]
@@ -59,68 +58,20 @@ impl Task<u64, u64> for Work {
         share: &mut Share<L>,
     ) {
         match self {
-            Work::Looks(alloc, found) => *found = looked(rt, *alloc, index, share),
-            Work::Counts(alloc, key, upto) => counted(rt, *alloc, index, share, *key, *upto),
-            Work::Raises(alloc, count) => raised_often(rt, *alloc, index, share, *count),
+            Work::Looks(alloc, found) => *found = Desk::of(rt, *alloc, index).looked(share),
+            Work::Counts(alloc, key, upto) => {
+                Desk::of(rt, *alloc, index).count_up(share, *key, *upto)
+            }
+            Work::Raises(alloc, count) => {
+                Desk::of(rt, *alloc, index).raised_often(share, *count)
+            }
             Work::Rests => {}
         }
     }
 }
 
-/// Commits one write on these reads: why it is refused.
-fn wrote<L: Naming, R: Wait>(
-    rt: &R,
-    alloc: Global,
-    index: &Index<'_, L>,
-    share: &mut Share<L>,
-    receipt: &Receipt<u64, u64>,
-    write: Write<u64, u64>,
-) -> Option<Cause> {
-    let Ok(writes) = vec![in alloc; write] else {
-        return Some(Cause::Memory);
-    };
-    match index.commit(rt, share, receipt, writes) {
-        Ok(_) => None,
-        Err(Refused { cause, writes: _ }) => Some(cause),
-    }
-}
-
-/// Upserts of one key from 1 to a number.
-fn counted<L: Naming, R: Wait>(
-    rt: &R,
-    alloc: Global,
-    index: &Index<'_, L>,
-    share: &mut Share<L>,
-    key: u64,
-    upto: u64,
-) {
-    let none = Receipt::blank(alloc);
-    for number in 1..=upto {
-        let _refused = wrote(rt, alloc, index, share, &none, Write::Upsert(key, number));
-        index.reclaim(rt);
-    }
-}
-
-/// This many transactions, each of which raises key 1.
-fn raised_often<L: Naming, R: Wait>(
-    rt: &R,
-    alloc: Global,
-    index: &Index<'_, L>,
-    share: &mut Share<L>,
-    count: u32,
-) {
-    let Ok(mut member) = index.participant() else {
-        return;
-    };
-    for _turn in 0..count {
-        let queries = [Query::Get(1)];
-        let _told = member.transact(rt, share, &queries, 99, |reads| raised(alloc, reads));
-        index.reclaim(rt);
-    }
-}
-
 /// Each unrecorded read.
-fn told<L: Naming>(reader: &Reader<'_, '_, '_, L>) -> [u64; 8] {
+fn told<L: Naming, const S: usize>(reader: &Reader<'_, '_, '_, L, S>) -> [u64; 8] {
     let value = match reader.get(&2) {
         Some(value) => *value,
         None => 0,
@@ -149,68 +100,96 @@ fn told<L: Naming>(reader: &Reader<'_, '_, '_, L>) -> [u64; 8] {
     ]
 }
 
-/// Reads a list of three pairs while key 2 is removed from the next one.
-fn looked<L: Naming, R: Wait>(
-    rt: &R,
-    alloc: Global,
-    index: &Index<'_, L>,
-    share: &mut Share<L>,
-) -> Option<Found> {
-    let none = Receipt::blank(alloc);
-    for key in [1u64, 2, 4] {
-        let _refused = wrote(rt, alloc, index, share, &none, Write::Insert(key, 10 * key));
+impl<L: Naming, R: Wait, const S: usize> Desk<'_, '_, L, R, S> {
+    /// Commits one write on these reads: why it is refused.
+    fn wrote(
+        &self,
+        share: &mut Share<L>,
+        receipt: &Receipt<u64, u64>,
+        write: Write<u64, u64>,
+    ) -> Option<Cause> {
+        let Ok(writes) = vec![in self.alloc; write] else {
+            return Some(Cause::Memory);
+        };
+        match self.commit(share, receipt, writes) {
+            Ok(_) => None,
+            Err(Refused { cause, writes: _ }) => Some(cause),
+        }
     }
-    let Ok(mut member) = index.participant() else {
-        return None;
-    };
-    let is_full = index.participant().is_err();
-    let is_early = matches!(member.reading(4), Err(OpenRefused::Earlier(3)));
-    let Ok(mut reader) = member.reading(3) else {
-        return None;
-    };
-    let _refused = wrote(rt, alloc, index, share, &none, Write::Remove(2));
-    let told = told(&reader);
-    let answer = reader.read(Query::Get(2));
-    let receipt = reader.close();
-    let is_right = answer == Ok(Answer::Get(Some(20)))
-        && receipt.reads.as_slice().len() == 1
-        && index.audit(rt, &receipt) == Ok(Audit::Yes);
-    let cause = wrote(rt, alloc, index, share, &receipt, Write::Clear);
-    Some(Found {
-        told,
-        is_right,
-        is_conflict: cause == Some(Cause::Conflict(0)),
-        are_refused: (is_full, is_early),
-        is_closed: closes(rt, alloc, index, share, &mut member),
-    })
-}
 
-/// Whether slots are reclaimed that a reader kept, once it is let go.
-fn closes<L: Naming, R: Wait>(
-    rt: &R,
-    alloc: Global,
-    index: &Index<'_, L>,
-    share: &mut Share<L>,
-    member: &mut Member<'_, '_, L>,
-) -> bool {
-    let kept = kept_by_a_reader(rt, alloc, index, share, member);
-    index.reclaim(rt);
-    index.domain().slots_in_use() < kept
-}
+    /// Upserts of one key from 1 to a number.
+    fn count_up(&self, share: &mut Share<L>, key: u64, upto: u64) {
+        let none = Receipt::blank(self.alloc);
+        for number in 1..=upto {
+            let _refused = self.wrote(share, &none, Write::Upsert(key, number));
+            self.reclaim();
+        }
+    }
 
-/// How many slots have an item while a reader is there, beside six commits.
-fn kept_by_a_reader<L: Naming, R: Wait>(
-    rt: &R,
-    alloc: Global,
-    index: &Index<'_, L>,
-    share: &mut Share<L>,
-    member: &mut Member<'_, '_, L>,
-) -> usize {
-    let Ok(_reader) = member.reading(0) else {
-        return 0;
-    };
-    counted(rt, alloc, index, share, 7, 6);
-    index.domain().slots_in_use()
+    /// This many transactions, each of which raises key 1.
+    fn raised_often(&self, share: &mut Share<L>, count: u32) {
+        let Ok(mut member) = self.index.participant() else {
+            return;
+        };
+        for _turn in 0..count {
+            let queries = [Query::Get(1)];
+            let _told = member.transact(
+                self.rt,
+                share,
+                &queries,
+                99,
+                |reads| raised(self.alloc, reads),
+            );
+            self.reclaim();
+        }
+    }
+
+    /// Reads a list of three pairs while key 2 is removed from the next one.
+    fn looked(&self, share: &mut Share<L>) -> Option<Found> {
+        let none = Receipt::blank(self.alloc);
+        for key in [1u64, 2, 4] {
+            let _refused = self.wrote(share, &none, Write::Insert(key, 10 * key));
+        }
+        let Ok(mut member) = self.index.participant() else {
+            return None;
+        };
+        let is_full = self.index.participant().is_err();
+        let is_early = matches!(member.reading(4), Err(OpenRefused::Earlier(3)));
+        let Ok(mut reader) = member.reading(3) else {
+            return None;
+        };
+        let _refused = self.wrote(share, &none, Write::Remove(2));
+        let told = told(&reader);
+        let answer = reader.read(Query::Get(2));
+        let receipt = reader.close();
+        let is_right = answer == Ok(Answer::Get(Some(20)))
+            && receipt.reads.as_slice().len() == 1
+            && self.audit(&receipt) == Ok(Audit::Yes);
+        let cause = self.wrote(share, &receipt, Write::Clear);
+        Some(Found {
+            told,
+            is_right,
+            is_conflict: cause == Some(Cause::Conflict(0)),
+            are_refused: (is_full, is_early),
+            is_closed: self.closes(share, &mut member),
+        })
+    }
+
+    /// Whether slots are reclaimed that a reader kept, once it is let go.
+    fn closes(&self, share: &mut Share<L>, member: &mut Member<'_, '_, L, S>) -> bool {
+        let kept = self.kept_by_a_reader(share, member);
+        self.reclaim();
+        self.index.domain().slots_in_use() < kept
+    }
+
+    /// How many slots have an item while a reader is there, beside six commits.
+    fn kept_by_a_reader(&self, share: &mut Share<L>, member: &mut Member<'_, '_, L, S>) -> usize {
+        let Ok(_reader) = member.reading(0) else {
+            return 0;
+        };
+        self.count_up(share, 7, 6);
+        self.index.domain().slots_in_use()
+    }
 }
 
 /// What was run in a place of this many slots.

@@ -1,6 +1,5 @@
 //! The place of an index, participants of it, and what commits are made of.
 
-ghost use Rattle.std.specs.Prelude.{◌≡◌};
 ghost use Rattle.sdd_domain.specs.Tokens.{place_of};
 ghost use Rattle.shared_index.specs.SharedInvariant.{IsUnengaged};
 

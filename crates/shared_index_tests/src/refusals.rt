@@ -5,9 +5,7 @@ ghost use Rattle.sdd_domain.specs.Tokens.{place_of};
 ghost use Rattle.shared_index.specs.SharedInvariant.{IsUnengaged};
 ghost use Rattle.shared_index_tests.specs.Scenes.{CanBegin};
 
-use crate::calls::{
-    Numbers, audit, based, checkpoint, commit, counted, fed, in_use, made, place, registered,
-};
+use crate::calls::{Desk, Numbers, in_use, made, place, registered};
 use crate::place::{Item, end, member};
 use crate::tasks::{begun, closed, place_for, put, taken};
 use sdd_domain::domain::Domain;
@@ -68,98 +66,84 @@ fn two_writes(alloc: Global) -> Result<Vec<Write<u64, u64>>, AllocError> {
     Ok(writes)
 }
 
-/// Commits two writes of one key. Where memory was refused, they are returned, and index and share are as before.
-fn commit_by_two<L: Naming, R: Wait + Abort>(
-    rt: &R,
-    alloc: Global,
-    index: &Numbers<'_, L>,
-    share: &mut Share<L>,
-    receipt: &Receipt<u64, u64>,
-) -> Accepted {
-    let before = (counted(rt, index), share.count());
-    let writes = match two_writes(alloc) {
-        Ok(writes) => writes,
-        Err(AllocError) => two_writes(alloc).expect(rt, TWICE),
-    };
-    let Refused { cause, writes } = match commit(rt, index, share, receipt, writes) {
-        Ok(accepted) => return accepted,
-        Err(refused) => refused,
-    };
-    assert!(rt; cause == Cause::Memory);
-    assert!(rt; writes.as_slice() == &[Write::Insert(1, 10), Write::Upsert(1, 11)][..]);
-    assert!(rt; (counted(rt, index), share.count()) == before);
-    match commit(rt, index, share, receipt, writes) {
-        Ok(accepted) => accepted,
-        Err(_) => panic!(rt; "{TWICE}"),
-    }
-}
-
-fn participant_by_two<'i, 'd, L: Naming, R: Abort>(
-    rt: &R,
-    index: &'i Numbers<'d, L>,
-) -> Participant<'i, 'd, L, u64, u64, 2> {
-    match index.participant() {
-        Ok(participant) => return participant,
-        Err(RegisterRefused::Memory) => {}
-        Err(RegisterRefused::Full) => panic!(rt; "a participant is free"),
-    }
-    match index.participant() {
-        Ok(participant) => participant,
-        Err(_) => panic!(rt; "{TWICE}"),
-    }
-}
-
-/// A recorded read of the key, and the receipt, which has this read alone.
-fn read_by_two<L: Naming, R: Abort>(
-    rt: &R,
-    index: &Numbers<'_, L>,
-) -> (Answer<u64, u64>, Receipt<u64, u64>) {
-    let mut participant = participant_by_two(rt, index);
-    let Ok(mut reader) = participant.reading(0) else {
-        panic!(rt; "a session is opened");
-    };
-    let answer = match reader.read(Query::Get(1)) {
-        Ok(answer) => answer,
-        Err(AllocError) => reader.read(Query::Get(1)).expect(rt, TWICE),
-    };
-    (answer, reader.close())
-}
-
-fn audit_by_two<L: Naming, R: Wait + Abort>(
-    rt: &R,
-    index: &Numbers<'_, L>,
-    receipt: &Receipt<u64, u64>,
-) -> Audit {
-    match audit(rt, index, receipt) {
-        Ok(found) => found,
-        Err(AllocError) => audit(rt, index, receipt).expect(rt, TWICE),
-    }
-}
-
-/// How many transactions came behind the first list.
-fn fed_by_two<L: Naming, R: Wait + Abort>(rt: &R, index: &Numbers<'_, L>) -> usize {
-    match fed(rt, index, 1) {
-        Ok(count) => count,
-        Err(why) => {
-            assert!(rt; why == FeedRefused::Memory);
-            fed(rt, index, 1).expect(rt, TWICE)
+impl<'d, L: Naming, R: Wait + Abort, const S: usize> Desk<'_, 'd, L, R, S> {
+    /// Commits two writes of one key. Where memory was refused, they are returned, and index and share are as before.
+    fn commit_by_two(&self, share: &mut Share<L>, receipt: &Receipt<u64, u64>) -> Accepted {
+        let before = (self.counted(), share.count());
+        let writes = match two_writes(self.alloc) {
+            Ok(writes) => writes,
+            Err(AllocError) => two_writes(self.alloc).expect(self.rt, TWICE),
+        };
+        let Refused { cause, writes } = match self.commit(share, receipt, writes) {
+            Ok(accepted) => return accepted,
+            Err(refused) => refused,
+        };
+        assert!(self.rt; cause == Cause::Memory);
+        assert!(self.rt; writes.as_slice() == &[Write::Insert(1, 10), Write::Upsert(1, 11)][..]);
+        assert!(self.rt; (self.counted(), share.count()) == before);
+        match self.commit(share, receipt, writes) {
+            Ok(accepted) => accepted,
+            Err(_) => panic!(self.rt; "{TWICE}"),
         }
     }
-}
 
-/// Makes the first list the base, and gives its pair. The base is the one before where memory was refused.
-fn base_by_two<L: Naming, R: Wait + Abort>(rt: &R, index: &Numbers<'_, L>) -> Option<(u64, u64)> {
-    if let Err(why) = checkpoint(rt, index, 1) {
-        assert!(rt; why == CheckpointRefused::Memory);
-        assert!(rt; counted(rt, index).0 == (0, 2));
+    fn participant_by_two(&self) -> Participant<'_, 'd, L, u64, u64, S> {
+        match self.index.participant() {
+            Ok(participant) => return participant,
+            Err(RegisterRefused::Memory) => {}
+            Err(RegisterRefused::Full) => panic!(self.rt; "a participant is free"),
+        }
+        match self.index.participant() {
+            Ok(participant) => participant,
+            Err(_) => panic!(self.rt; "{TWICE}"),
+        }
     }
-    let (told, list) = based(rt, index, 1);
-    assert!(rt; told.is_ok());
-    let list = match list {
-        Ok(list) => list,
-        Err(AllocError) => based(rt, index, 1).1.expect(rt, TWICE),
-    };
-    list.pairs.as_slice().first().copied()
+
+    /// A recorded read of the key, and the receipt, which has this read alone.
+    fn read_by_two(&self) -> (Answer<u64, u64>, Receipt<u64, u64>) {
+        let mut participant = self.participant_by_two();
+        let Ok(mut reader) = participant.reading(0) else {
+            panic!(self.rt; "a session is opened");
+        };
+        let answer = match reader.read(Query::Get(1)) {
+            Ok(answer) => answer,
+            Err(AllocError) => reader.read(Query::Get(1)).expect(self.rt, TWICE),
+        };
+        (answer, reader.close())
+    }
+
+    fn audit_by_two(&self, receipt: &Receipt<u64, u64>) -> Audit {
+        match self.audit(receipt) {
+            Ok(found) => found,
+            Err(AllocError) => self.audit(receipt).expect(self.rt, TWICE),
+        }
+    }
+
+    /// How many transactions came behind the first list.
+    fn fed_by_two(&self) -> usize {
+        match self.fed(1) {
+            Ok(count) => count,
+            Err(why) => {
+                assert!(self.rt; why == FeedRefused::Memory);
+                self.fed(1).expect(self.rt, TWICE)
+            }
+        }
+    }
+
+    /// Makes the first list the base, and gives its pair. The base is the one before where memory was refused.
+    fn base_by_two(&self) -> Option<(u64, u64)> {
+        if let Err(why) = self.checkpoint(1) {
+            assert!(self.rt; why == CheckpointRefused::Memory);
+            assert!(self.rt; self.counted().0 == (0, 2));
+        }
+        let (told, list) = self.based(1);
+        assert!(self.rt; told.is_ok());
+        let list = match list {
+            Ok(list) => list,
+            Err(AllocError) => self.based(1).1.expect(self.rt, TWICE),
+        };
+        list.pairs.as_slice().first().copied()
+    }
 }
 
 /// What is found: what two commits answer, the answer of a recorded read and how many its receipt has, what an audit of it says
@@ -185,14 +169,15 @@ fn used<L: Naming, R: Wait + Abort>(
     requires last { L.last ≡ 18446744073709551615 }
 {
     let (index, mut shares) = made_by_two::<L, R>(rt, alloc, domain, local, blank);
+    let desk = Desk::of(rt, alloc, &index);
     let mut share = taken(rt, &mut shares);
-    let first = commit_by_two(rt, alloc, &index, &mut share, &Receipt::blank(alloc));
-    let (answer, receipt) = read_by_two(rt, &index);
-    let second = commit_by_two(rt, alloc, &index, &mut share, &receipt);
-    let replayed = audit_by_two(rt, &index, &receipt);
-    let rest = fed_by_two(rt, &index);
-    let pair = base_by_two(rt, &index);
-    let kept = audit_by_two(rt, &index, &receipt);
+    let first = desk.commit_by_two(&mut share, &Receipt::blank(alloc));
+    let (answer, receipt) = desk.read_by_two();
+    let second = desk.commit_by_two(&mut share, &receipt);
+    let replayed = desk.audit_by_two(&receipt);
+    let rest = desk.fed_by_two();
+    let pair = desk.base_by_two();
+    let kept = desk.audit_by_two(&receipt);
     put(rt, &mut shares, share);
     let number = closed(rt, domain, index, shares);
     let read = (answer, receipt.reads.as_slice().len());

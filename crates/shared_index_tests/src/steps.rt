@@ -1,12 +1,12 @@
 //! Steps of an index that several take, one after the other, as rows of tables.
 
 ghost use Rattle.std.specs.Prelude.{◌≡◌, ◌≤◌};
-ghost use Rattle.sdd_domain.specs.Tokens.{home_of, own_of, IsSame};
+ghost use Rattle.shared_index.specs.SharedInvariant.{IsUnengaged};
 ghost use Rattle.shared_index_tests.specs.Scenes.{CanBegin};
 
 use self::Ask::{First, Get, Has, Last, List, Near};
 use self::Step::{Commit, Reclaim, Session};
-use crate::calls::{self, Index, asked, audit, bounded, commit, ended, leave, place, tried};
+use crate::calls::{self, Desk, asked, bounded, leave, place};
 use crate::place::{Item, ROOM, end, member};
 use crate::tasks::{closed, place_for, put, taken};
 use sdd_domain::domain::Domain;
@@ -33,20 +33,29 @@ pub(crate) enum Ask {
     Last(Bound<u64>, Bound<u64>, usize),
 }
 
-/// What is done with an index.
+/// Writes of a commit.
+type Writes = &'static [Write<u64, u64>];
+
+/// What is done with an index, and what is answered at its end.
 #[derive(Clone, Copy)]
 pub(crate) enum Step {
     /// Commits these writes, which rest on nothing.
-    Commit(&'static [Write<u64, u64>]),
+    Commit(Writes, Told),
     /// Opens a session for at least this number, makes these reads, commits the first writes, if there are any, and closes
     /// it; then commits the second writes on its receipt.
-    Session(u64, &'static [Ask], &'static [Write<u64, u64>], &'static [Write<u64, u64>]),
+    Session(u64, &'static [Ask], Writes, Writes, Told),
     /// Reclaims what nobody reads.
     Reclaim,
 }
 
-/// What is answered at the end of a step: the number of a commit, or why it or its session was refused.
-pub(crate) type Told = (&'static str, u64);
+/// What is answered: the number of a commit that was accepted, the read that doesn't hold, or another cause of a refusal, of the
+/// commit or of its session.
+#[derive(Clone, Copy, Debug, PartialEq, Eq)]
+pub(crate) enum Told {
+    Made(u64),
+    Conflict(u64),
+    Refused(&'static str, u64),
+}
 
 /// The query of a read.
 fn query(ask: Ask) -> Query<u64> {
@@ -63,38 +72,113 @@ fn query(ask: Ask) -> Query<u64> {
 /// What is answered of a refusal to open a session.
 fn unopened(why: OpenRefused) -> Told {
     match why {
-        OpenRefused::Nested => ("nested", 0),
-        OpenRefused::Earlier(number) => ("earlier", number),
-        OpenRefused::NoVersion => ("no version", 0),
+        OpenRefused::Nested => Told::Refused("nested", 0),
+        OpenRefused::Earlier(number) => Told::Refused("earlier", number),
+        OpenRefused::NoVersion => Told::Refused("no version", 0),
     }
 }
 
 /// What is answered of a refused commit.
 fn uncommitted(why: Cause) -> Told {
     match why {
-        Cause::Conflict(at) => ("conflict", at as u64),
-        Cause::Exhausted => ("exhausted", 0),
-        Cause::Memory => ("memory", 0),
-        Cause::NoSlot => ("no slot", 0),
+        Cause::Conflict(at) => Told::Conflict(at as u64),
+        Cause::Exhausted => Told::Refused("exhausted", 0),
+        Cause::Memory => Told::Refused("memory", 0),
+        Cause::NoSlot => Told::Refused("no slot", 0),
     }
 }
 
-/// Commits writes on a receipt: what is answered. Refused, they have to be returned.
-pub(crate) fn written<L: Naming, R: Wait + Abort, const S: usize>(
-    rt: &R,
-    alloc: Global,
-    index: &Index<'_, L, S>,
-    share: &mut Share<L>,
-    receipt: &Receipt<u64, u64>,
-    writes: &[Write<u64, u64>],
-) -> Told {
-    let made = Vec::from_clones(alloc, writes).expect(rt, ROOM);
-    match commit(rt, index, share, receipt, made) {
-        Ok(told) => ("accepted", told.number),
-        Err(refused) => {
-            assert!(rt; refused.writes.as_slice() == writes);
-            uncommitted(refused.cause)
+impl<L: Naming, R: Wait + Abort, const S: usize> Desk<'_, '_, L, R, S> {
+    /// Commits writes on a receipt: what is answered. Refused, they have to be returned.
+    pub(crate) fn written(
+        &self,
+        share: &mut Share<L>,
+        receipt: &Receipt<u64, u64>,
+        writes: &[Write<u64, u64>],
+    ) -> Told {
+        let made = Vec::from_clones(self.alloc, writes).expect(self.rt, ROOM);
+        match self.commit(share, receipt, made) {
+            Ok(told) => Told::Made(told.number),
+            Err(refused) => {
+                assert!(self.rt; refused.writes.as_slice() == writes);
+                uncommitted(refused.cause)
+            }
         }
+    }
+
+    /// The receipt of a session, while the writes are committed, if there are any; or why it was refused. An audit has to find the
+    /// receipt right.
+    fn receipt_of(
+        &self,
+        share: &mut Share<L>,
+        local: &mut Local<Item>,
+        reading: Reading,
+    ) -> Result<Receipt<u64, u64>, OpenRefused>
+        requires { IsUnengaged L.place local.old }
+        ensures { IsUnengaged L.place local.new }
+    {
+        let Reading {
+            at_least,
+            asks,
+            meanwhile,
+        } = reading;
+        match self.tried(local, at_least) {
+            Ok(session) => {
+                let mut session = session;
+                recorded(self.rt, &mut session, asks);
+                if !meanwhile.is_empty() {
+                    let blank = Receipt::blank(self.alloc);
+                    let _told = self.written(share, &blank, meanwhile);
+                }
+                let receipt = self.ended(session, local);
+                assert!(self.rt; self.audit(&receipt) == Ok(Audit::Yes));
+                Ok(receipt)
+            }
+            Err(refused) => Err(refused),
+        }
+    }
+
+    /// Takes a step: whether it is answered so at its end.
+    fn stepped(&self, share: &mut Share<L>, local: &mut Local<Item>, step: Step) -> bool
+        requires { IsUnengaged L.place local.old }
+        ensures { IsUnengaged L.place local.new }
+    {
+        match step {
+            Commit(writes, wanted) => {
+                let blank = Receipt::blank(self.alloc);
+                self.written(share, &blank, writes) == wanted
+            }
+            Session(at_least, asks, meanwhile, writes, wanted) => {
+                let reading = Reading {
+                    at_least,
+                    asks,
+                    meanwhile,
+                };
+                let told = match self.receipt_of(share, local, reading) {
+                    Ok(receipt) => self.written(share, &receipt, writes),
+                    Err(refused) => unopened(refused),
+                };
+                told == wanted
+            }
+            Reclaim => {
+                self.reclaim();
+                true
+            }
+        }
+    }
+
+    /// How many steps of a table answer what they are to before the first that doesn't.
+    fn played(&self, share: &mut Share<L>, local: &mut Local<Item>, rows: &[Step]) -> usize
+        requires { IsUnengaged L.place local.old }
+        ensures { IsUnengaged L.place local.new }
+    {
+        let mut right = 0usize;
+        for at in 0..rows.len() {
+            if right == at && self.stepped(share, local, rows[at]) {
+                right = right.saturating_add(1);
+            }
+        }
+        right
     }
 }
 
@@ -114,110 +198,13 @@ struct Reading {
     meanwhile: &'static [Write<u64, u64>],
 }
 
-/// The receipt of a session, while the writes are committed, if there are any; or why it was refused. An audit has to find the
-/// receipt right.
-fn receipt_of<L: Naming, R: Wait + Abort, const S: usize>(
-    rt: &R,
-    alloc: Global,
-    index: &Index<'_, L, S>,
-    share: &mut Share<L>,
-    local: &mut Local<Item>,
-    reading: Reading,
-) -> Result<Receipt<u64, u64>, OpenRefused>
-    requires home { home_of local.old ≡ L.place }
-    requires closed { (own_of local.old).nesting ≡ 0 }
-    ensures same { IsSame local.old local.new }
-    ensures closed { (own_of local.new).nesting ≡ 0 }
-{
-    let Reading {
-        at_least,
-        asks,
-        meanwhile,
-    } = reading;
-    match tried(index, local, at_least) {
-        Ok(session) => {
-            let mut session = session;
-            recorded(rt, &mut session, asks);
-            if !meanwhile.is_empty() {
-                let blank = Receipt::blank(alloc);
-                let _told = written(rt, alloc, index, share, &blank, meanwhile);
-            }
-            let receipt = ended(session, index, local);
-            assert!(rt; audit(rt, index, &receipt) == Ok(Audit::Yes));
-            Ok(receipt)
-        }
-        Err(refused) => Err(refused),
-    }
-}
-
-/// Takes a step: what is answered at its end.
-fn stepped<L: Naming, R: Wait + Abort, const S: usize>(
-    rt: &R,
-    alloc: Global,
-    index: &Index<'_, L, S>,
-    share: &mut Share<L>,
-    local: &mut Local<Item>,
-    step: Step,
-) -> Told
-    requires home { home_of local.old ≡ L.place }
-    requires closed { (own_of local.old).nesting ≡ 0 }
-    ensures same { IsSame local.old local.new }
-    ensures closed { (own_of local.new).nesting ≡ 0 }
-{
-    match step {
-        Commit(writes) => {
-            let blank = Receipt::blank(alloc);
-            written(rt, alloc, index, share, &blank, writes)
-        }
-        Session(at_least, asks, meanwhile, writes) => {
-            let reading = Reading {
-                at_least,
-                asks,
-                meanwhile,
-            };
-            match receipt_of(rt, alloc, index, share, local, reading) {
-                Ok(receipt) => written(rt, alloc, index, share, &receipt, writes),
-                Err(refused) => unopened(refused),
-            }
-        }
-        Reclaim => {
-            calls::reclaim(rt, index);
-            ("done", 0)
-        }
-    }
-}
-
-/// How many steps of a table answer what they are to before the first that doesn't.
-fn played<L: Naming, R: Wait + Abort, const S: usize>(
-    rt: &R,
-    alloc: Global,
-    index: &Index<'_, L, S>,
-    share: &mut Share<L>,
-    local: &mut Local<Item>,
-    rows: &[(Step, Told)],
-) -> usize
-    requires home { home_of local.old ≡ L.place }
-    requires closed { (own_of local.old).nesting ≡ 0 }
-    ensures same { IsSame local.old local.new }
-    ensures closed { (own_of local.new).nesting ≡ 0 }
-{
-    let mut right = 0usize;
-    for at in 0..rows.len() {
-        let (step, wanted) = rows[at];
-        if right == at && stepped(rt, alloc, index, share, local, step) == wanted {
-            right = right.saturating_add(1);
-        }
-    }
-    right
-}
-
 /// A table, and the index that it is played on: whether a segment has one pair at most, or two; its slots, its last number, the
 /// steps, and the number at the end.
 pub(crate) struct Table {
     pub(crate) is_by_ones: bool,
     pub(crate) slots: u16,
     pub(crate) last: u64,
-    pub(crate) rows: &'static [(Step, Told)],
+    pub(crate) rows: &'static [Step],
     pub(crate) number: u64,
 }
 
@@ -236,9 +223,10 @@ fn on_an_index<L: Naming, R: Wait + Abort, const S: usize>(
 {
     let (index, mut shares) = bounded::<L, R, S>(rt, alloc, domain, local, blank, table.last);
     let mut share = taken(rt, &mut shares);
-    let mut reader = member(rt, domain);
-    let right = played(rt, alloc, &index, &mut share, &mut reader, table.rows);
-    leave(domain, reader);
+    let desk = Desk::of(rt, alloc, &index);
+    let mut reader = desk.entered();
+    let right = desk.played(&mut share, &mut reader, table.rows);
+    desk.leave(reader);
     let count = share.count();
     put(rt, &mut shares, share);
     (right, count, closed(rt, domain, index, shares))

@@ -3,7 +3,7 @@
 ghost use Rattle.std.specs.Prelude.{◌≡◌};
 ghost use Rattle.shared_index_tests.specs.Scenes.{CanBegin};
 
-use crate::calls::{Index, commit, place};
+use crate::calls::{Desk, place};
 use crate::place::{Item, ROOM, end, member};
 use crate::tasks::{begun, closed, place_for, put, taken};
 use sdd_domain::domain::Domain;
@@ -18,21 +18,42 @@ use std::sync::Wait;
 use std::sync::ledger::Blank;
 use version_views::Write;
 
-/// Upserts key 1 to this value, whatever it was.
-fn meddle<L: Naming, R: Wait, const S: usize>(
-    rt: &R,
-    alloc: Global,
-    index: &Index<'_, L, S>,
-    share: &RefCell<Share<L>>,
-    value: u64,
-) {
-    let Ok(writes) = vec![in alloc; Write::Upsert(1, value)] else {
-        return;
-    };
-    let Ok(mut share) = share.try_borrow_mut() else {
-        return;
-    };
-    let _told = commit(rt, index, &mut share, &Receipt::blank(alloc), writes);
+impl<L: Naming, R: Wait + Abort, const S: usize> Desk<'_, '_, L, R, S> {
+    /// Upserts key 1 to this value, whatever it was.
+    fn meddle(&self, share: &RefCell<Share<L>>, value: u64) {
+        let Ok(writes) = vec![in self.alloc; Write::Upsert(1, value)] else {
+            return;
+        };
+        let Ok(mut share) = share.try_borrow_mut() else {
+            return;
+        };
+        let _told = self.commit(&mut share, &Receipt::blank(self.alloc), writes);
+    }
+
+    /// Raises key 1 by a transaction that is tried again so often at most, while another share writes to it in this many of its
+    /// first tries: what it came to, and how often it was tried.
+    fn beside(
+        &self,
+        share: &mut Share<L>,
+        other: &RefCell<Share<L>>,
+        retries: u32,
+        writes: u32,
+    ) -> ((&'static str, u64), u32) {
+        let Ok(mut member) = self.index.participant() else {
+            panic!(self.rt; "a participant is free");
+        };
+        let tries = Cell::new(0u32);
+        let queries = [Query::Get(1)];
+        let done = member.transact(self.rt, share, &queries, retries, |reads| {
+            let made = tries.get();
+            tries.set(made.saturating_add(1));
+            if made < writes {
+                self.meddle(other, 10 * u64::from(made) + 10);
+            }
+            raised(self.alloc, reads)
+        });
+        (told(done), tries.get())
+    }
 }
 
 /// One more than what key 1 was read to be.
@@ -59,38 +80,6 @@ fn told(told: Result<Transacted<u64, u64>, TransactRefused<u64, u64>>) -> (&'sta
     }
 }
 
-/// How often a transaction is tried again at most, and in how many of its first tries another share writes.
-#[derive(Clone, Copy)]
-struct Tries {
-    retries: u32,
-    writes: u32,
-}
-
-/// Raises key 1 by a transaction, while another share writes to it: what it came to, and how often it was tried.
-fn beside<L: Naming, R: Wait + Abort, const S: usize>(
-    rt: &R,
-    alloc: Global,
-    index: &Index<'_, L, S>,
-    share: &mut Share<L>,
-    other: &RefCell<Share<L>>,
-    most: Tries,
-) -> ((&'static str, u64), u32) {
-    let Ok(mut member) = index.participant() else {
-        panic!(rt; "a participant is free");
-    };
-    let tries = Cell::new(0u32);
-    let queries = [Query::Get(1)];
-    let done = member.transact(rt, share, &queries, most.retries, |reads| {
-        let made = tries.get();
-        tries.set(made.saturating_add(1));
-        if made < most.writes {
-            meddle(rt, alloc, index, other, 10 * u64::from(made) + 10);
-        }
-        raised(alloc, reads)
-    });
-    (told(done), tries.get())
-}
-
 /// What three transactions come to: one beside two writes, with two retries and with one; and one by itself. The counts of both
 /// shares, and the number.
 type Found = ([((&'static str, u64), u32); 3], [u64; 2], u64);
@@ -106,42 +95,13 @@ fn found<L: Naming, R: Wait + Abort>(
     requires last { L.last ≡ 18446744073709551615 }
 {
     let (index, mut shares) = begun::<L, R, 2>(rt, alloc, domain, local, blank, 2);
+    let desk = Desk::of(rt, alloc, &index);
     let mut share = taken(rt, &mut shares);
     let other = RefCell::new(taken(rt, &mut shares));
     let told = [
-        beside(
-            rt,
-            alloc,
-            &index,
-            &mut share,
-            &other,
-            Tries {
-                retries: 2,
-                writes: 2,
-            },
-        ),
-        beside(
-            rt,
-            alloc,
-            &index,
-            &mut share,
-            &other,
-            Tries {
-                retries: 1,
-                writes: 2,
-            },
-        ),
-        beside(
-            rt,
-            alloc,
-            &index,
-            &mut share,
-            &other,
-            Tries {
-                retries: 0,
-                writes: 0,
-            },
-        ),
+        desk.beside(&mut share, &other, 2, 2),
+        desk.beside(&mut share, &other, 1, 2),
+        desk.beside(&mut share, &other, 0, 0),
     ];
     let other = other.into_inner();
     let counts = [share.count(), other.count()];

@@ -5,12 +5,12 @@
 //! its test, since the session that is open keeps every version that is replaced meanwhile.
 
 ghost use Rattle.std.specs.Prelude.{◌≡◌};
-ghost use Rattle.sdd_domain.specs.Tokens.{home_of, own_of, IsSame};
+ghost use Rattle.shared_index.specs.SharedInvariant.{IsUnengaged};
 ghost use Rattle.shared_index_tests.specs.Scenes.{CanBegin};
 
-use crate::calls::{Numbers, asked, audit, ended, leave, opened, place, reclaim};
+use crate::calls::{Desk, asked, leave, place};
 use crate::place::{Item, ROOM, end, member, range};
-use crate::tasks::{all, begun, closed, listed, place_for, put, taken, write, write_often};
+use crate::tasks::{all, begun, closed, place_for, put, taken};
 use sdd_domain::domain::Domain;
 use sdd_domain::local::Local;
 use serial_history::{Answer, Audit, Receipt, Seq};
@@ -73,26 +73,41 @@ fn takes_the_first(walk: &mut SharedWalk<'_, u64, u64>) -> bool {
     }
 }
 
-/// Changes the pair that the walk has taken and those that it is yet to take, and says so; then goes on to commit. It says so
-/// also where the commit is refused: then the share doesn't count it.
-fn change_all<L: Naming, R: Wait + Abort>(
-    rt: &R,
-    alloc: Global,
-    index: &Numbers<'_, L>,
-    share: &mut Share<L>,
-    answered: &AtomicBool,
-) {
-    let writes = vec![in alloc;
-        Write::Upsert(1, 11),
-        Write::Remove(2),
-        Write::Upsert(3, 31),
-        Write::Insert(11, 110),
-    ]
-    .expect(rt, ROOM);
-    write(rt, alloc, index, share, writes);
-    reclaim(rt, index);
-    answered.store(true, Ordering::SeqCst);
-    write_often(rt, alloc, index, share, 100);
+impl<L: Naming, R: Wait + Abort, const S: usize> Desk<'_, '_, L, R, S> {
+    /// Changes the pair that the walk has taken and those that it is yet to take, and says so; then goes on to commit. It says so
+    /// also where the commit is refused: then the share doesn't count it.
+    fn change_all(&self, share: &mut Share<L>, answered: &AtomicBool) {
+        let writes = vec![in self.alloc;
+            Write::Upsert(1, 11),
+            Write::Remove(2),
+            Write::Upsert(3, 31),
+            Write::Insert(11, 110),
+        ]
+        .expect(self.rt, ROOM);
+        self.write(share, writes);
+        self.reclaim();
+        answered.store(true, Ordering::SeqCst);
+        self.write_often(share, 100);
+    }
+
+    /// A session of the first list, open over a thousand commits: its receipt, of a read before them and one after them, and
+    /// whether both and a walk found the first list.
+    fn kept_open(&self, local: &mut Local<Item>, share: &mut Share<L>) -> (Receipt<u64, u64>, bool)
+        requires { IsUnengaged L.place local.old }
+        ensures { IsUnengaged L.place local.new }
+    {
+        let Some(mut session) = self.opened(local, 1) else {
+            panic!(self.rt; "the first commit is there");
+        };
+        let before = asked(&mut session, all());
+        self.write_often(share, 1000);
+        let walked = gathered(self.alloc, session.iter());
+        let after = asked(&mut session, all());
+        let receipt = self.ended(session, local);
+        let first = range(self.rt, self.alloc, TEN);
+        let read = before.as_ref() == Ok(&first) && after.as_ref() == Ok(&first);
+        (receipt, read && walked == Some(first))
+    }
 }
 
 /// How often a walk looks whether another thread's commit has answered, at most.
@@ -122,64 +137,40 @@ fn walk_on(
     }
 }
 
-/// A session of the first list walks past one pair, waits there until another thread's commit has changed all of them and
-/// answered, and walks on while the other thread goes on to commit: its receipt, and whether the session read the first list by
-/// the walk, before it waited and behind that, and by a query.
-fn walk_and_wait<L: Naming + Send + Sync, R: Threads + Wait + Abort + Sync>(
-    rt: &R,
-    alloc: Global,
-    index: &Numbers<'_, L>,
-    local: &mut Local<Item>,
-    share: &mut Share<L>,
-) -> (Receipt<u64, u64>, bool)
-    requires home { home_of local.old ≡ L.place }
-    requires closed { (own_of local.old).nesting ≡ 0 }
-    ensures same { IsSame local.old local.new }
-    ensures closed { (own_of local.new).nesting ≡ 0 }
+impl<L: Naming, R: Wait + Abort, const S: usize> Desk<'_, '_, L, R, S>
+where
+    L: Send + Sync,
+    R: Threads + Sync,
 {
-    let Some(mut session) = opened(index, local, 1) else {
-        panic!(rt; "the first commit is there");
-    };
-    let answered = AtomicBool::new(false);
-    let mut walk = session.iter();
-    let first = takes_the_first(&mut walk);
-    let ((), rest) = join_over(
-        rt,
-        index,
-        |index| change_all(rt, alloc, index, share, &answered),
-        |_index| walk_on(alloc, walk, &answered),
-    );
-    let all = asked(&mut session, all());
-    let receipt = ended(session, index, local);
-    let others = rest == Some(range(rt, alloc, TWO)) && all == Ok(range(rt, alloc, THREE));
-    (receipt, first && others)
-}
-
-/// A session of the first list, open over a thousand commits: its receipt, of a read before them and one after them, and
-/// whether both and a walk found the first list.
-fn kept_open<L: Naming, R: Wait + Abort>(
-    rt: &R,
-    alloc: Global,
-    index: &Numbers<'_, L>,
-    local: &mut Local<Item>,
-    share: &mut Share<L>,
-) -> (Receipt<u64, u64>, bool)
-    requires home { home_of local.old ≡ L.place }
-    requires closed { (own_of local.old).nesting ≡ 0 }
-    ensures same { IsSame local.old local.new }
-    ensures closed { (own_of local.new).nesting ≡ 0 }
-{
-    let Some(mut session) = opened(index, local, 1) else {
-        panic!(rt; "the first commit is there");
-    };
-    let before = asked(&mut session, all());
-    write_often(rt, alloc, index, share, 1000);
-    let walked = gathered(alloc, session.iter());
-    let after = asked(&mut session, all());
-    let receipt = ended(session, index, local);
-    let first = range(rt, alloc, TEN);
-    let read = before.as_ref() == Ok(&first) && after.as_ref() == Ok(&first);
-    (receipt, read && walked == Some(first))
+    /// A session of the first list walks past one pair, waits there until another thread's commit has changed all of them and
+    /// answered, and walks on while the other thread goes on to commit: its receipt, and whether the session read the first list by
+    /// the walk, before it waited and behind that, and by a query.
+    fn walk_and_wait(
+        &self,
+        local: &mut Local<Item>,
+        share: &mut Share<L>,
+    ) -> (Receipt<u64, u64>, bool)
+        requires { IsUnengaged L.place local.old }
+        ensures { IsUnengaged L.place local.new }
+    {
+        let Desk { rt, alloc, index } = *self;
+        let Some(mut session) = self.opened(local, 1) else {
+            panic!(rt; "the first commit is there");
+        };
+        let answered = AtomicBool::new(false);
+        let mut walk = session.iter();
+        let first = takes_the_first(&mut walk);
+        let ((), rest) = join_over(
+            rt,
+            index,
+            |index| Desk { rt, alloc, index }.change_all(share, &answered),
+            |_index| walk_on(alloc, walk, &answered),
+        );
+        let all = asked(&mut session, all());
+        let receipt = self.ended(session, local);
+        let others = rest == Some(range(rt, alloc, TWO)) && all == Ok(range(rt, alloc, THREE));
+        (receipt, first && others)
+    }
 }
 
 /// A session of the first list, kept open while others commit.
@@ -223,20 +214,21 @@ fn kept_on<L: Naming + Send + Sync, R: Threads + Wait + Abort + Sync>(
 {
     let (index, mut shares) = begun::<L, R, 2>(rt, alloc, domain, local, blank, 1);
     let mut share = taken(rt, &mut shares);
-    let mut reader = member(rt, domain);
+    let desk = Desk::of(rt, alloc, &index);
+    let mut reader = desk.entered();
     let (receipt, is_first) = match course.how {
         Meanwhile::Waits => {
-            write(rt, alloc, &index, &mut share, inserts(rt, alloc, &THREE));
-            walk_and_wait(rt, alloc, &index, &mut reader, &mut share)
+            desk.write(&mut share, inserts(rt, alloc, &THREE));
+            desk.walk_and_wait(&mut reader, &mut share)
         }
         Meanwhile::Reads => {
-            write(rt, alloc, &index, &mut share, inserts(rt, alloc, &TEN));
-            kept_open(rt, alloc, &index, &mut reader, &mut share)
+            desk.write(&mut share, inserts(rt, alloc, &TEN));
+            desk.kept_open(&mut reader, &mut share)
         }
     };
-    let audit = audit(rt, &index, &receipt);
-    let list = listed(rt, &index, &mut reader, course.last);
-    leave(domain, reader);
+    let audit = desk.audit(&receipt);
+    let list = desk.listed(&mut reader, course.last);
+    desk.leave(reader);
     let count = share.count();
     put(rt, &mut shares, share);
     let number = closed(rt, domain, index, shares);

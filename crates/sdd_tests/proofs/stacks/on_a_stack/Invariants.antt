@@ -1,9 +1,0 @@
-use Rattle.std.proofs.Common.{◌<◌, length}
-use Rattle.world_containers.specs.Stacks.{IsSomeStack, stack_cell}
-use Rattle.sdd_tests.proofs.stacks.on_a_stack.Given as goal
-
-abbrev pub invariant-loop-call : goal.invariant-loop-call
-invariant-loop-call g l = record {
-  participant : 0 < length l.w.participants;
-  list : IsSomeStack l.w (stack_cell l.stack);
-}

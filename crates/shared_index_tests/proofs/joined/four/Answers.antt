@@ -1,7 +1,0 @@
-use Rattle.std.proofs.Crossing.{crosses}
-use denote.Param.Send.{sendable}
-use Rattle.shared_index.proofs.SendLemmas.{index_sync}
-use Rattle.shared_index_tests.proofs.joined.four.Goals as goal
-
-pub join_over-requires-sync-T : goal.join_over-requires-sync-T
-join_over-requires-sync-T g c κs within = search (index_sync, crosses, sendable) depth 12

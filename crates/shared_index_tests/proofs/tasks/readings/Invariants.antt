@@ -1,6 +1,0 @@
-use Rattle.std.proofs.Common.{◌≡◌, []}
-use Rattle.sdd_domain.specs.Tokens.{own_of, hand_of, home_of}
-use Rattle.shared_index_tests.proofs.tasks.readings.Given as goal
-
-abbrev pub invariant-loop-turn : goal.invariant-loop-turn
-invariant-loop-turn g l = record { home : home_of l.local ≡ g.L.Naming.place; closed : (own_of l.local).nesting ≡ 0; bare : hand_of l.local ≡ [] }
