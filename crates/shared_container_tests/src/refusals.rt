@@ -34,6 +34,22 @@ fn left_in(
     left
 }
 
+/// Whether no cell is free for a stack; one that is made is ended.
+fn is_refused(domain: &Domain<u64>, links: &Links<u64>, local: &mut Local<u64>) -> bool
+    requires home { (home_of local.old ≡ place_of domain.now) × (hand_of local.old ≡ []) }
+    requires closed { (own_of local.old).nesting ≡ 0 }
+    requires links { AreLinksOf links.now domain.now }
+    ensures same { IsAsBefore local.old local.new }
+{
+    match Stack::new(domain, local) {
+        Some(stack) => {
+            stack.end(domain, links, local);
+            false
+        }
+        None => true,
+    }
+}
+
 /// What is refused where one cell is free beside links and a stack of 1: a queue, one more stack behind another, and a
 /// stack of all items. And what the stack has then.
 fn refused_cells<R: Abort>(rt: &R, alloc: Global) -> ([bool; 4], [Option<u64>; 3]) {
@@ -60,13 +76,7 @@ fn refused_cells<R: Abort>(rt: &R, alloc: Global) -> ([bool; 4], [Option<u64>; 3
     let Some(other) = Stack::new(domain, &mut local) else {
         panic!(rt; "the cell is free still");
     };
-    let third = match Stack::new(domain, &mut local) {
-        Some(third) => {
-            third.end(domain, &links, &mut local);
-            false
-        }
-        None => true,
-    };
+    let third = is_refused(domain, &links, &mut local);
     let all = match stack.pop_all(domain, &mut local) {
         Some(all) => {
             all.end(domain, &links, &mut local);
