@@ -2,7 +2,7 @@
 
 ghost use Rattle.std.specs.Prelude.{◌≡◌, [], IfSome};
 ghost use Rattle.sdd_domain.specs.Tokens.{place_of, home_of, hand_of, own_of};
-ghost use Rattle.shared_containers.specs.Containers.{AreLinksOf, IsAsBefore, IsQueueOf, IsStackOf};
+ghost use Rattle.shared_containers.specs.Containers.{AreLinksOf, IsAsBefore, IsQueueOf, IsReady, IsStackOf};
 
 use crate::pass;
 use sdd_domain::domain::Domain;
@@ -25,8 +25,7 @@ struct Containers {
 impl Containers {
     /// None where there is no memory for their links, or where cells are few.
     fn new(alloc: Global, domain: &Domain<u64>, local: &mut Local<u64>) -> Option<Containers>
-        requires home { (home_of local.old ≡ place_of domain.now) × (hand_of local.old ≡ []) }
-        requires closed { (own_of local.old).nesting ≡ 0 }
+        requires ready { IsReady local.old domain.now }
         ensures made { IfSome result (λ c. IsStackOf c.stack domain.now × IsQueueOf c.queue domain.now × AreLinksOf c.links domain.now) }
         ensures same { IsAsBefore local.old local.new }
     {
@@ -48,8 +47,7 @@ impl Containers {
     }
 
     fn end(self, domain: &Domain<u64>, local: &mut Local<u64>)
-        requires home { (home_of local.old ≡ place_of domain.now) × (hand_of local.old ≡ []) }
-        requires closed { (own_of local.old).nesting ≡ 0 }
+        requires ready { IsReady local.old domain.now }
         requires made { IsStackOf self.stack domain.now × IsQueueOf self.queue domain.now × AreLinksOf self.links domain.now }
         ensures same { IsAsBefore local.old local.new }
     {
@@ -74,59 +72,40 @@ struct Scene<'a> {
     ghost made: { IsStackOf stack.now domain.now × IsQueueOf queue.now domain.now × AreLinksOf links.now domain.now },
 }
 
-/// This many numbers one by one, each pushed on the stack before one is popped: the sum of those that were popped. Where no slot
-/// is free a guard is passed that reclaims what is due.
-#[inline(never)]
-fn on_stack(scene: &Scene, local: &mut Local<u64>, rounds: u32) -> u64
-    requires home { (home_of local.old ≡ place_of scene.now.domain.now) × (hand_of local.old ≡ []) }
-    requires closed { (own_of local.old).nesting ≡ 0 }
-    ensures same { IsAsBefore local.old local.new }
-{
-    let Scene {
-        domain,
-        links,
-        stack,
-        ..
-    } = *scene;
-    let mut sum: u64 = 0;
-    for i in 0..rounds {
-        if let Err(refused) = stack.push(domain, u64::from(i), links, local) {
-            let _ = refused.end(domain, local);
-            let _ = pass(domain, local, true);
+/// This many numbers one by one, each pushed on one of them before one is popped: the sum of those that were popped. Where no
+/// slot is free a guard is passed that reclaims what is due. Each container has code of its own.
+macro_rules! rounds_on {
+    ($of:ident, $scene:expr, $local:expr, $rounds:expr) => {{
+        let (domain, links, of, local) = ($scene.domain, $scene.links, $scene.$of, $local);
+        let mut sum: u64 = 0;
+        for i in 0..$rounds {
+            if let Err(refused) = of.push(domain, u64::from(i), links, local) {
+                let _ = refused.end(domain, local);
+                let _ = pass(domain, local, true);
+            }
+            if let Some(owner) = of.pop(domain, links, local) {
+                sum = sum.wrapping_add(*owner.as_ref());
+                owner.release(domain, local);
+            }
         }
-        if let Some(owner) = stack.pop(domain, links, local) {
-            sum = sum.wrapping_add(*owner.as_ref());
-            owner.release(domain, local);
-        }
-    }
-    sum
+        sum
+    }};
 }
 
-/// The same with the queue.
+#[inline(never)]
+fn on_stack(scene: &Scene, local: &mut Local<u64>, rounds: u32) -> u64
+    requires { IsReady local.old scene.now.domain.now }
+    ensures { IsAsBefore local.old local.new }
+{
+    rounds_on!(stack, scene, local, rounds)
+}
+
 #[inline(never)]
 fn on_queue(scene: &Scene, local: &mut Local<u64>, rounds: u32) -> u64
-    requires home { (home_of local.old ≡ place_of scene.now.domain.now) × (hand_of local.old ≡ []) }
-    requires closed { (own_of local.old).nesting ≡ 0 }
-    ensures same { IsAsBefore local.old local.new }
+    requires { IsReady local.old scene.now.domain.now }
+    ensures { IsAsBefore local.old local.new }
 {
-    let Scene {
-        domain,
-        links,
-        queue,
-        ..
-    } = *scene;
-    let mut sum: u64 = 0;
-    for i in 0..rounds {
-        if let Err(refused) = queue.push(domain, u64::from(i), links, local) {
-            let _ = refused.end(domain, local);
-            let _ = pass(domain, local, true);
-        }
-        if let Some(owner) = queue.pop(domain, links, local) {
-            sum = sum.wrapping_add(*owner.as_ref());
-            owner.release(domain, local);
-        }
-    }
-    sum
+    rounds_on!(queue, scene, local, rounds)
 }
 
 /// The rounds of one thread. None if no participant was free.

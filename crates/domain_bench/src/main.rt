@@ -17,10 +17,11 @@
 mod alone;
 mod containers;
 
-ghost use Rattle.std.specs.Prelude.{◌≡◌, ◌<◌, ◌≤◌, IfSome, []};
+ghost use Rattle.std.specs.Prelude.{◌<◌, ◌≤◌, IfSome};
 ghost use Rattle.sdd_domain.specs.Layout.{IsSized};
 ghost use Rattle.sdd_domain.specs.Cells.{cell_number};
-ghost use Rattle.sdd_domain.specs.Tokens.{place_of, home_of, hand_of, own_of, cell_count, nest_in, IsSame, IsSameButMisses};
+ghost use Rattle.sdd_domain.specs.Tokens.{cell_count};
+ghost use Rattle.shared_containers.specs.Containers.{IsAsBefore, IsReady};
 
 use crate::alone::{Round, rounds_alone};
 use crate::containers::rounds_of_all;
@@ -84,11 +85,8 @@ fn task_of(threads: &str, kind: &str, rounds: &str) -> Option<(u8, Kind, u32)>
 /// A guard, opened and closed: the epoch that it saw. It is compiled into each of its callers.
 #[inline(always)]
 pub(crate) fn pass(domain: &Domain<u64>, local: &mut Local<u64>, accelerated: bool) -> Epoch
-    requires home { (home_of local.old ≡ place_of domain.now) × (hand_of local.old ≡ []) }
-    requires shallow { (own_of local.old).nesting ≤ 1 }
-    ensures same { IsSame local.old local.new }
-    ensures nesting { (own_of local.new).nesting ≡ (own_of local.old).nesting }
-    ensures nest { 0 < (own_of local.old).nesting → nest_in local.new ≡ nest_in local.old }
+    requires { IsReady local.old domain.now }
+    ensures { IsAsBefore local.old local.new }
 {
     let Ok(guard) = Guard::new(domain, local) else {
         unreachable!();
@@ -105,11 +103,8 @@ pub(crate) fn pass(domain: &Domain<u64>, local: &mut Local<u64>, accelerated: bo
 /// itself, so that what is open isn't known to it beforehand.
 #[inline(never)]
 fn passes(domain: &Domain<u64>, local: &mut Local<u64>, accelerated: bool, rounds: u32) -> u64
-    requires home { (home_of local.old ≡ place_of domain.now) × (hand_of local.old ≡ []) }
-    requires shallow { (own_of local.old).nesting ≤ 1 }
-    ensures same { IsSame local.old local.new }
-    ensures nesting { (own_of local.new).nesting ≡ (own_of local.old).nesting }
-    ensures nest { 0 < (own_of local.old).nesting → nest_in local.new ≡ nest_in local.old }
+    requires { IsReady local.old domain.now }
+    ensures { IsAsBefore local.old local.new }
 {
     let mut sum: u64 = 0;
     for _i in 0..rounds {
@@ -122,10 +117,8 @@ fn passes(domain: &Domain<u64>, local: &mut Local<u64>, accelerated: bool, round
 /// This many items one by one, each with an accelerated guard behind it: the sum of what was placed and read.
 #[inline(never)]
 fn items(domain: &Domain<u64>, local: &mut Local<u64>, rounds: u32) -> u64
-    requires home { (home_of local.old ≡ place_of domain.now) × (hand_of local.old ≡ []) }
-    requires closed { (own_of local.old).nesting ≡ 0 }
-    ensures same { IsSameButMisses local.old local.new }
-    ensures closed { (own_of local.new).nesting ≡ 0 }
+    requires { IsReady local.old domain.now }
+    ensures { IsAsBefore local.old local.new }
 {
     let mut sum: u64 = 0;
     for i in 0..rounds {
@@ -141,11 +134,9 @@ fn items(domain: &Domain<u64>, local: &mut Local<u64>, rounds: u32) -> u64
 /// This many guards one by one, under each of which the cell is loaded and what it names is read: the sum of that.
 #[inline(never)]
 fn loads(domain: &Domain<u64>, local: &mut Local<u64>, cell: &AtomicShared<u64>, rounds: u32) -> u64
-    requires home { (home_of local.old ≡ place_of domain.now) × (hand_of local.old ≡ []) }
-    requires closed { (own_of local.old).nesting ≡ 0 }
+    requires ready { IsReady local.old domain.now }
     requires inside { cell_number cell.now < cell_count domain.now }
-    ensures same { IsSame local.old local.new }
-    ensures closed { (own_of local.new).nesting ≡ 0 }
+    ensures { IsAsBefore local.old local.new }
 {
     let mut sum: u64 = 0;
     for _i in 0..rounds {
@@ -163,11 +154,9 @@ fn loads(domain: &Domain<u64>, local: &mut Local<u64>, cell: &AtomicShared<u64>,
 /// out.
 #[inline(never)]
 fn swaps(domain: &Domain<u64>, local: &mut Local<u64>, cell: &AtomicShared<u64>, rounds: u32) -> u64
-    requires home { (home_of local.old ≡ place_of domain.now) × (hand_of local.old ≡ []) }
-    requires closed { (own_of local.old).nesting ≡ 0 }
+    requires ready { IsReady local.old domain.now }
     requires inside { cell_number cell.now < cell_count domain.now }
-    ensures same { IsSameButMisses local.old local.new }
-    ensures closed { (own_of local.new).nesting ≡ 0 }
+    ensures { IsAsBefore local.old local.new }
 {
     let mut sum: u64 = 0;
     for i in 0..rounds {
@@ -190,11 +179,9 @@ fn loads_under(
     cell: &AtomicShared<u64>,
     rounds: u32,
 ) -> u64
-    requires home { (home_of local.old ≡ place_of domain.now) × (hand_of local.old ≡ []) }
-    requires closed { (own_of local.old).nesting ≡ 0 }
+    requires ready { IsReady local.old domain.now }
     requires inside { cell_number cell.now < cell_count domain.now }
-    ensures same { IsSame local.old local.new }
-    ensures closed { (own_of local.new).nesting ≡ 0 }
+    ensures { IsAsBefore local.old local.new }
 {
     let Ok(guard) = Guard::new(domain, local) else {
         unreachable!();
@@ -216,11 +203,9 @@ fn swaps_owners(
     cell: &AtomicShared<u64>,
     rounds: u32,
 ) -> u64
-    requires home { (home_of local.old ≡ place_of domain.now) × (hand_of local.old ≡ []) }
-    requires closed { (own_of local.old).nesting ≡ 0 }
+    requires ready { IsReady local.old domain.now }
     requires inside { cell_number cell.now < cell_count domain.now }
-    ensures same { IsSameButMisses local.old local.new }
-    ensures closed { (own_of local.new).nesting ≡ 0 }
+    ensures { IsAsBefore local.old local.new }
 {
     let Ok(mut owner) = Shared::new(domain, 2, local) else {
         return 0;
@@ -240,10 +225,8 @@ fn swaps_owners(
 /// This many owners one by one, beside one that stays, of the same item: the sum of what they read.
 #[inline(never)]
 fn clones(domain: &Domain<u64>, local: &mut Local<u64>, rounds: u32) -> u64
-    requires home { (home_of local.old ≡ place_of domain.now) × (hand_of local.old ≡ []) }
-    requires closed { (own_of local.old).nesting ≡ 0 }
-    ensures same { IsSameButMisses local.old local.new }
-    ensures closed { (own_of local.new).nesting ≡ 0 }
+    requires { IsReady local.old domain.now }
+    ensures { IsAsBefore local.old local.new }
 {
     let Ok(mut owner) = Shared::new(domain, 1, local) else {
         return 0;
@@ -271,11 +254,9 @@ fn rounds_with(
     kind: Kind,
     rounds: u32,
 ) -> u64
-    requires home { (home_of local.old ≡ place_of domain.now) × (hand_of local.old ≡ []) }
-    requires closed { (own_of local.old).nesting ≡ 0 }
+    requires ready { IsReady local.old domain.now }
     requires inside { cell_number cell.now < cell_count domain.now }
-    ensures same { IsSameButMisses local.old local.new }
-    ensures closed { (own_of local.new).nesting ≡ 0 }
+    ensures { IsAsBefore local.old local.new }
 {
     match kind {
         Kind::Load => loads_under(domain, local, cell, rounds),
@@ -288,10 +269,8 @@ fn rounds_with(
 
 /// Rounds with a cell that owns 1 at first. None if there is no cell or no slot.
 fn with_cell(domain: &Domain<u64>, local: &mut Local<u64>, kind: Kind, rounds: u32) -> Option<u64>
-    requires home { (home_of local.old ≡ place_of domain.now) × (hand_of local.old ≡ []) }
-    requires closed { (own_of local.old).nesting ≡ 0 }
-    ensures same { IsSameButMisses local.old local.new }
-    ensures closed { (own_of local.new).nesting ≡ 0 }
+    requires { IsReady local.old domain.now }
+    ensures { IsAsBefore local.old local.new }
 {
     let cell = AtomicShared::null(domain, local).ok()?;
     if let Ok(owner) = Shared::new(domain, 1, local) {

@@ -1,6 +1,5 @@
-use Rattle.std.proofs.Common.{◌≡◌}
-use Rattle.sdd_domain.specs.Tokens.{own_of, IsSame}
+use Rattle.shared_containers.specs.Containers.{IsAsBefore}
 use Rattle.domain_bench.proofs.loads.Given as goal
 
 abbrev pub invariant-loop-i : goal.invariant-loop-i
-invariant-loop-i l = record { same : IsSame l.fn.local l.local; closed : (own_of l.local).nesting ≡ 0 }
+invariant-loop-i l = IsAsBefore l.fn.local l.local
