@@ -137,8 +137,8 @@ pub(crate) enum Row {
     Item(usize, ItemState),
     /// How many owners of an item are in hand.
     InHand(usize, u64),
-    /// A cell and what it is.
-    Cell(usize, Cell),
+    /// A cell, the item that holds it, and the item that it names.
+    Cell(usize, Option<usize>, Option<usize>),
     /// How many participants, cells and items there are.
     Sizes(usize, usize, usize),
     /// Which of the first items are left: placed, and not reclaimed.
@@ -177,7 +177,8 @@ fn is_right<R: Abort>(rt: &R, alloc: Global, state: &mut State, row: Row) -> boo
         Row::Count(count) => state.count() == count,
         Row::Item(i, wanted) => state_of(state, i) == Some(wanted),
         Row::InHand(i, wanted) => in_hand(state, i) == Some(wanted),
-        Row::Cell(c, wanted) => state.cells().get(c).copied() == Some(wanted),
+        Row::Cell(c, holder, names) => state.cells().get(c).copied()
+            == Some(Cell { holder, names }),
         Row::Sizes(participants, cells, items) => sizes(state) == (participants, cells, items),
         Row::Left(wanted) => [0, 1, 2, 3].map(|i| is_left(state, i)) == wanted,
     }

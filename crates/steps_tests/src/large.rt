@@ -16,13 +16,7 @@ const AT_THE_ENDS: &[Row] = &[
         Move::Publish(MANY - 1),
         Move::LoadCell(MANY - 1, 0),
     ]),
-    Row::Cell(
-        0,
-        Cell {
-            holder: None,
-            names: Some(LAST),
-        },
-    ),
+    Row::Cell(0, None, Some(LAST)),
     Row::Refuses(&[
         Move::LoadCell(MANY - 1, MANY),
         Move::ReadEpoch(MANY),

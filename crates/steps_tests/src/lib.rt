@@ -6,6 +6,8 @@ mod common;
 #[cfg(test)]
 mod large;
 #[cfg(test)]
+mod random_steps;
+#[cfg(test)]
 mod refusals;
 #[cfg(test)]
 mod refused_steps;

@@ -2,7 +2,7 @@
 //! is as it was, and the same step then succeeds.
 
 use crate::common::{Move, Row, plays, step};
-use sdd_steps::{Cell, ItemState, State, Step, apply};
+use sdd_steps::{ItemState, State, Step, apply};
 use std::alloc::{AllocError, Global};
 use std::process::Abort;
 
@@ -63,20 +63,8 @@ const TAKEN: &[Row] = &[
     Row::Sizes(2, 2, 2),
     Row::Item(0, ItemState::Live),
     Row::Item(1, ItemState::Retired(0, 0)),
-    Row::Cell(
-        0,
-        Cell {
-            holder: None,
-            names: None,
-        },
-    ),
-    Row::Cell(
-        1,
-        Cell {
-            holder: Some(1),
-            names: None,
-        },
-    ),
+    Row::Cell(0, None, None),
+    Row::Cell(1, Some(1), None),
 ];
 
 // Whether an allocation was refused while the steps were taken.
