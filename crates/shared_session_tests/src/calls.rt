@@ -5,7 +5,7 @@ ghost use Rattle.sdd_domain.specs.Cells.{cell_number};
 ghost use Rattle.sdd_domain.specs.Layout.{IsSized};
 ghost use Rattle.sdd_domain.specs.Tokens.{place_of, home_of, hand_of, own_of, cell_count, nest_in, IsInNest, IsSame};
 
-use crate::place::{Item, Twos};
+use crate::place::{At, Item, Twos};
 use sdd_domain::atomic_shared::AtomicShared;
 use sdd_domain::domain::Domain;
 use sdd_domain::local::Local;
@@ -60,20 +60,19 @@ pub fn retire(domain: &Domain<Item>, cell: AtomicShared<Item>, local: &mut Local
 /// A session for at least this number, or why there is none.
 pub fn opened(
     alloc: Global,
-    domain: &Domain<Item>,
-    cell: &AtomicShared<Item>,
+    at: At<'_>,
     local: &mut Local<Item>,
     at_least: u64,
 ) -> Result<Twos, OpenRefused>
-    requires home { home_of local.old ≡ place_of domain.now }
-    requires inside { cell_number cell.now < cell_count domain.now }
+    requires home { home_of local.old ≡ place_of at.domain.now }
+    requires inside { cell_number at.cell.now < cell_count at.domain.now }
     ensures nest { IfOk result (λ s. s.nest ≡ nest_in local.new) }
     ensures opened { OnOk result ((own_of local.new).nesting ≡ (own_of local.old).nesting + 1) }
     ensures closed { OnErr result ((own_of local.new).nesting ≡ (own_of local.old).nesting) }
     ensures inner { 0 < (own_of local.old).nesting → nest_in local.new ≡ nest_in local.old }
     ensures same { IsSame local.old local.new }
 {
-    Twos::open(alloc, domain, Root::new(cell), at_least, local)
+    Twos::open(alloc, at.domain, Root::new(at.cell), at_least, local)
 }
 
 /// Closes a session: its receipt.

@@ -3,7 +3,7 @@
 ghost use Rattle.std.specs.Prelude.{◌≡◌, ◌<◌};
 
 use crate::calls::{asked, ended, opened};
-use crate::place::{SMALL, Twos, cell, end, member, place, version};
+use crate::place::{At, SMALL, Twos, cell, end, member, place, version};
 use serial_history::{Answer, Query, Receipt};
 use std::alloc::{AllocError, Global};
 use std::ops::Bound;
@@ -50,7 +50,11 @@ fn reads<R: Abort>(rt: &R, alloc: Global) -> bool {
     let mut local = member(rt, &domain, &mut met);
     let first = version(rt, alloc, &domain, &mut local, (1, (10, 20, 50)), &mut met);
     let cell = cell(rt, &domain, first, &mut local);
-    let Ok(mut session) = opened(alloc, &domain, &cell, &mut local, 1) else {
+    let at = At {
+        domain: &domain,
+        cell: &cell,
+    };
+    let Ok(mut session) = opened(alloc, at, &mut local, 1) else {
         panic!(rt; "the first version is there");
     };
     let once = read(rt, &mut session, 0, &mut met);

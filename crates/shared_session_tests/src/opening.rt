@@ -1,14 +1,10 @@
 //! Which sessions are opened, and which are refused.
 
-ghost use Rattle.std.specs.Prelude.{◌≡◌, ◌<◌, []};
-ghost use Rattle.sdd_domain.specs.Cells.{cell_number};
-ghost use Rattle.sdd_domain.specs.Tokens.{place_of, home_of, hand_of, own_of, cell_count, IsSame};
+ghost use Rattle.shared_session_tests.specs.Participants.{CanRead, CanWrite, StillRests};
 
 use self::Step::{Open, Reclaim, Renew, Slots};
 use crate::calls::{ended, in_use, opened, value};
 use crate::place::{At, Item, Twos, reclaim, renew};
-use sdd_domain::atomic_shared::AtomicShared;
-use sdd_domain::domain::Domain;
 use sdd_domain::guard::Guard;
 use sdd_domain::local::Local;
 use shared_sessions::{OpenRefused, Root, SharedSession};
@@ -22,17 +18,13 @@ fn number_of<const S: usize>(
     local: &mut Local<Item>,
     at_least: u64,
 ) -> Result<u64, OpenRefused>
-    requires home { home_of local.old ≡ place_of at.domain.now }
-    requires inside { cell_number at.cell.now < cell_count at.domain.now }
-    requires closed { (own_of local.old).nesting ≡ 0 }
-    ensures same { IsSame local.old local.new }
-    ensures closed { (own_of local.new).nesting ≡ 0 }
+    requires { CanRead at.domain.now at.cell.now local.old }
+    ensures { StillRests local.old local.new }
 {
-    let At { domain, cell } = at;
-    let root = Root::new(cell);
-    let session = SharedSession::<u64, u64, S>::open(alloc, domain, root, at_least, local)?;
+    let root = Root::new(at.cell);
+    let session = SharedSession::<u64, u64, S>::open(alloc, at.domain, root, at_least, local)?;
     let number = session.number();
-    let receipt = session.close(domain, local);
+    let receipt = session.close(at.domain, local);
     if receipt.number == number && receipt.reads.as_slice().is_empty() {
         Ok(number)
     } else {
@@ -49,11 +41,8 @@ fn number_by<R: Abort>(
     width: u8,
     at_least: u64,
 ) -> Result<u64, OpenRefused>
-    requires home { home_of local.old ≡ place_of at.domain.now }
-    requires inside { cell_number at.cell.now < cell_count at.domain.now }
-    requires closed { (own_of local.old).nesting ≡ 0 }
-    ensures same { IsSame local.old local.new }
-    ensures closed { (own_of local.new).nesting ≡ 0 }
+    requires { CanRead at.domain.now at.cell.now local.old }
+    ensures { StillRests local.old local.new }
 {
     match width {
         1 => number_of::<1>(alloc, at, local, at_least),
@@ -85,23 +74,15 @@ fn taken<R: Abort>(
     writer: &mut Local<Item>,
     step: Step,
 ) -> Result<u64, OpenRefused>
-    requires reader { (home_of reader.old ≡ place_of at.domain.now) × ((own_of reader.old).nesting ≡ 0) }
-    requires writer { (home_of writer.old ≡ place_of at.domain.now) × (hand_of writer.old ≡ []) × ((own_of writer.old).nesting ≡ 0) }
-    requires inside { cell_number at.cell.now < cell_count at.domain.now }
-    ensures reader { IsSame reader.old reader.new × ((own_of reader.new).nesting ≡ 0) }
-    ensures writer { IsSame writer.old writer.new × ((own_of writer.new).nesting ≡ 0) }
+    requires reader { CanRead at.domain.now at.cell.now reader.old }
+    requires writer { CanWrite at.domain.now at.cell.now writer.old }
+    ensures reader { StillRests reader.old reader.new }
+    ensures writer { StillRests writer.old writer.new }
 {
     match step {
         Step::Open(width, least) => number_by(rt, alloc, at, reader, width, least),
         Step::Renew(number) => {
-            renew(
-                rt,
-                alloc,
-                at.domain,
-                at.cell,
-                writer,
-                (number, (11, 21, 51)),
-            );
+            renew(rt, alloc, at, writer, (number, (11, 21, 51)));
             Ok(number)
         }
         Step::Reclaim => {
@@ -124,11 +105,10 @@ pub fn all_taken<R: Abort>(
     writer: &mut Local<Item>,
     rows: &[Row],
 ) -> bool
-    requires reader { (home_of reader.old ≡ place_of at.domain.now) × ((own_of reader.old).nesting ≡ 0) }
-    requires writer { (home_of writer.old ≡ place_of at.domain.now) × (hand_of writer.old ≡ []) × ((own_of writer.old).nesting ≡ 0) }
-    requires inside { cell_number at.cell.now < cell_count at.domain.now }
-    ensures reader { IsSame reader.old reader.new × ((own_of reader.new).nesting ≡ 0) }
-    ensures writer { IsSame writer.old writer.new × ((own_of writer.new).nesting ≡ 0) }
+    requires reader { CanRead at.domain.now at.cell.now reader.old }
+    requires writer { CanWrite at.domain.now at.cell.now writer.old }
+    ensures reader { StillRests reader.old reader.new }
+    ensures writer { StillRests writer.old writer.new }
 {
     let mut right = true;
     for row in 0..rows.len() {
@@ -173,34 +153,25 @@ pub const ONE_WIDTH: &[Row] = &[
 
 /// A session of the first version, and within it one for at least the number 3 of the second version, which is refused, and
 /// one for 2: whether each has its number, and so has its receipt, and the outer one still reads its version at the end.
-pub fn within<R: Abort>(
-    rt: &R,
-    alloc: Global,
-    domain: &Domain<Item>,
-    cell: &AtomicShared<Item>,
-    local: &mut Local<Item>,
-) -> bool
-    requires home { (home_of local.old ≡ place_of domain.now) × (hand_of local.old ≡ []) }
-    requires inside { cell_number cell.now < cell_count domain.now }
-    requires closed { (own_of local.old).nesting ≡ 0 }
-    ensures same { IsSame local.old local.new }
-    ensures closed { (own_of local.new).nesting ≡ 0 }
+pub fn within<R: Abort>(rt: &R, alloc: Global, at: At<'_>, local: &mut Local<Item>) -> bool
+    requires { CanWrite at.domain.now at.cell.now local.old }
+    ensures { StillRests local.old local.new }
 {
-    let Ok(outer) = opened(alloc, domain, cell, local, 0) else {
+    let Ok(outer) = opened(alloc, at, local, 0) else {
         panic!(rt; "a version of that width is there");
     };
-    renew(rt, alloc, domain, cell, local, (2, (11, 21, 51)));
-    let refused = match opened(alloc, domain, cell, local, 3) {
+    renew(rt, alloc, at, local, (2, (11, 21, 51)));
+    let refused = match opened(alloc, at, local, 3) {
         Err(refused) => refused,
         Ok(_) => panic!(rt; "the second version has the number 2"),
     };
-    let Ok(inner) = opened(alloc, domain, cell, local, 2) else {
+    let Ok(inner) = opened(alloc, at, local, 2) else {
         panic!(rt; "the second version is there");
     };
     let numbers = (outer.number(), inner.number());
-    let inner = ended(domain, inner, local);
+    let inner = ended(at.domain, inner, local);
     let value = value(&outer, 1);
-    let outer = ended(domain, outer, local);
+    let outer = ended(at.domain, outer, local);
     refused == OpenRefused::Earlier(2)
         && value == Some(10)
         && [numbers.0, numbers.1, inner.number, outer.number] == [1, 2, 2, 1]
@@ -209,40 +180,31 @@ pub fn within<R: Abort>(
 /// A guard loads the first version, from which no session of wider segments is made, nor one for at least the number 2; and
 /// then the second, from which one is: whether those were the causes, the session reads the second version, and its receipt
 /// has the number of that.
-pub fn of_loaded<R: Abort>(
-    rt: &R,
-    alloc: Global,
-    domain: &Domain<Item>,
-    cell: &AtomicShared<Item>,
-    local: &mut Local<Item>,
-) -> bool
-    requires home { (home_of local.old ≡ place_of domain.now) × (hand_of local.old ≡ []) }
-    requires inside { cell_number cell.now < cell_count domain.now }
-    requires closed { (own_of local.old).nesting ≡ 0 }
-    ensures same { IsSame local.old local.new }
-    ensures closed { (own_of local.new).nesting ≡ 0 }
+pub fn of_loaded<R: Abort>(rt: &R, alloc: Global, at: At<'_>, local: &mut Local<Item>) -> bool
+    requires { CanWrite at.domain.now at.cell.now local.old }
+    ensures { StillRests local.old local.new }
 {
-    let Ok(guard) = Guard::new(domain, local) else {
+    let Ok(guard) = Guard::new(at.domain, local) else {
         unreachable!();
     };
-    let loaded = cell.loaded(domain, &guard, local);
+    let loaded = at.cell.loaded(at.domain, &guard, local);
     let (guard, wider) = match SharedSession::<u64, u64, 3>::of_loaded(guard, loaded, alloc, 0) {
         Err(back) => back,
         Ok(_) => panic!(rt; "its segments have two pairs at most"),
     };
-    let loaded = cell.loaded(domain, &guard, local);
-    renew(rt, alloc, domain, cell, local, (2, (11, 21, 51)));
+    let loaded = at.cell.loaded(at.domain, &guard, local);
+    renew(rt, alloc, at, local, (2, (11, 21, 51)));
     let (guard, refused) = match Twos::of_loaded(guard, loaded, alloc, 2) {
         Err(back) => back,
         Ok(_) => panic!(rt; "the first version was loaded"),
     };
-    let loaded = cell.loaded(domain, &guard, local);
+    let loaded = at.cell.loaded(at.domain, &guard, local);
     let session = match Twos::of_loaded(guard, loaded, alloc, 2) {
         Ok(session) => session,
         Err(_) => panic!(rt; "the second version was loaded"),
     };
     let value = value(&session, 1);
-    let number = ended(domain, session, local).number;
+    let number = ended(at.domain, session, local).number;
     let causes = wider == OpenRefused::NoVersion && refused == OpenRefused::Earlier(1);
     causes && value == Some(11) && number == 2
 }

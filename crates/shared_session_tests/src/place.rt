@@ -6,7 +6,8 @@ ghost use Rattle.std.specs.Prelude.{◌≡◌, ◌<◌, ◌∷◌, [], ◌≤◌
 ghost use Rattle.sdd_domain.specs.Cells.{cell_number};
 ghost use Rattle.sdd_domain.specs.Layout.{IsSized};
 ghost use Rattle.sdd_domain.specs.Sharing.{kept_in, IsOwnerOf};
-ghost use Rattle.sdd_domain.specs.Tokens.{place_of, home_of, hand_of, own_of, cell_count, IsInNest, IsSame, IsSameButHand};
+ghost use Rattle.sdd_domain.specs.Tokens.{place_of, home_of, hand_of, own_of, cell_count, IsInNest, IsSameButHand};
+ghost use Rattle.shared_session_tests.specs.Participants.{CanWrite, StillRests};
 ghost use Rattle.shared_versions.specs.Nodes.{held_by};
 
 use crate::calls::{closed, leave, made, registered, retire};
@@ -277,23 +278,16 @@ pub fn owning<R: Abort>(
 }
 
 /// Has the cell name a version of this list; the owner that it had is released.
-pub fn renew<R: Abort>(
-    rt: &R,
-    alloc: Global,
-    domain: &Domain<Item>,
-    cell: &AtomicShared<Item>,
-    local: &mut Local<Item>,
-    list: Numbered,
-)
-    requires home { (home_of local.old ≡ place_of domain.now) × (hand_of local.old ≡ []) }
-    requires inside { cell_number cell.now < cell_count domain.now }
+pub fn renew<R: Abort>(rt: &R, alloc: Global, at: At<'_>, local: &mut Local<Item>, list: Numbered)
+    requires home { (home_of local.old ≡ place_of at.domain.now) × (hand_of local.old ≡ []) }
+    requires inside { cell_number at.cell.now < cell_count at.domain.now }
     ensures same { IsInNest local.old local.new }
     ensures open { (own_of local.new).nesting ≡ (own_of local.old).nesting }
 {
     let mut met = false;
-    let next = version(rt, alloc, domain, local, list, &mut met);
-    if let (Some(old), _) = cell.swap(domain, (Some(next), Tag::None), local) {
-        old.release(domain, local);
+    let next = version(rt, alloc, at.domain, local, list, &mut met);
+    if let (Some(old), _) = at.cell.swap(at.domain, (Some(next), Tag::None), local) {
+        old.release(at.domain, local);
     }
 }
 
@@ -309,17 +303,14 @@ pub fn copied(pair: Option<(&u64, &u64)>) -> Option<(u64, u64)> {
 pub fn reclaim(domain: &Domain<Item>, local: &mut Local<Item>)
     requires home { home_of local.old ≡ place_of domain.now }
     requires closed { (own_of local.old).nesting ≡ 0 }
-    ensures same { IsSame local.old local.new }
-    ensures closed { (own_of local.new).nesting ≡ 0 }
+    ensures { StillRests local.old local.new }
 {
     shared_versions::reclaim(domain, local);
 }
 
 /// Gives the cell back, and ends the participant and the place.
 pub fn end<R: Abort>(rt: &R, cell: AtomicShared<Item>, domain: Domain<Item>, local: Local<Item>)
-    requires home { (home_of local ≡ place_of domain) × (hand_of local ≡ []) }
-    requires closed { (own_of local).nesting ≡ 0 }
-    requires inside { cell_number cell < cell_count domain }
+    requires { CanWrite domain cell local }
 {
     let mut local = local;
     retire(&domain, cell, &mut local);

@@ -1,8 +1,6 @@
 //! Plays what is done with sessions of a place, whose cell owns something at first.
 
-ghost use Rattle.std.specs.Prelude.{◌≡◌, ◌<◌, []};
-ghost use Rattle.sdd_domain.specs.Cells.{cell_number};
-ghost use Rattle.sdd_domain.specs.Tokens.{place_of, home_of, hand_of, own_of, cell_count, IsSame};
+ghost use Rattle.shared_session_tests.specs.Participants.{CanRead, CanWrite, StillRests};
 
 use self::Play::{
     Beside, Empty, Kinds, Looks, OfLoaded, Rows, Threads as ByThreads, Walked, Within,
@@ -15,8 +13,6 @@ use crate::place::{At, First, Item, SEVERAL, end, member, owning, place};
 use crate::publishing::{beside, walked};
 use crate::reads::{Look, are_right, each_kind, of_nothing};
 use crate::threads::are_whole;
-use sdd_domain::atomic_shared::AtomicShared;
-use sdd_domain::domain::Domain;
 use sdd_domain::local::Local;
 use std::alloc::Global;
 use std::process::Abort;
@@ -54,23 +50,21 @@ fn goes<R: Threads + Abort + Sync>(
     writer: &mut Local<Item>,
     play: Play,
 ) -> bool
-    requires reader { (home_of reader.old ≡ place_of at.domain.now) × ((own_of reader.old).nesting ≡ 0) }
-    requires writer { (home_of writer.old ≡ place_of at.domain.now) × (hand_of writer.old ≡ []) × ((own_of writer.old).nesting ≡ 0) }
-    requires inside { cell_number at.cell.now < cell_count at.domain.now }
-    ensures reader { IsSame reader.old reader.new × ((own_of reader.new).nesting ≡ 0) }
-    ensures writer { IsSame writer.old writer.new × ((own_of writer.new).nesting ≡ 0) }
+    requires reader { CanRead at.domain.now at.cell.now reader.old }
+    requires writer { CanWrite at.domain.now at.cell.now writer.old }
+    ensures reader { StillRests reader.old reader.new }
+    ensures writer { StillRests writer.old writer.new }
 {
-    let At { domain, cell } = at;
     match play {
         Rows(rows) => all_taken(rt, alloc, at, reader, writer, rows),
-        Within => within(rt, alloc, domain, cell, writer),
-        OfLoaded => of_loaded(rt, alloc, domain, cell, writer),
-        Beside => beside(rt, alloc, domain, cell, reader, writer),
-        Walked => walked(rt, alloc, domain, cell, reader, writer),
-        Looks(look) => are_right(alloc, domain, cell, reader, look),
-        Empty => of_nothing(rt, alloc, domain, cell, reader),
-        Kinds => each_kind(rt, alloc, domain, cell, reader),
-        ByThreads => are_whole(rt, alloc, domain, cell, reader),
+        Within => within(rt, alloc, at, writer),
+        OfLoaded => of_loaded(rt, alloc, at, writer),
+        Beside => beside(rt, alloc, at, reader, writer),
+        Walked => walked(rt, alloc, at, reader, writer),
+        Looks(look) => are_right(alloc, at, reader, look),
+        Empty => of_nothing(rt, alloc, at, reader),
+        Kinds => each_kind(rt, alloc, at, reader),
+        ByThreads => are_whole(rt, alloc, at, reader),
     }
 }
 

@@ -1,13 +1,9 @@
 //! Sessions beside versions that are published meanwhile.
 
-ghost use Rattle.std.specs.Prelude.{◌≡◌, ◌<◌, []};
-ghost use Rattle.sdd_domain.specs.Cells.{cell_number};
-ghost use Rattle.sdd_domain.specs.Tokens.{place_of, home_of, hand_of, own_of, cell_count, IsSame};
+ghost use Rattle.shared_session_tests.specs.Participants.{CanRead, CanWrite, StillRests};
 
 use crate::calls::{asked, closed, ended, in_use, leave, opened, retire, value};
-use crate::place::{First, Item, SEVERAL, copied, member, owning, place, reclaim, renew};
-use sdd_domain::atomic_shared::AtomicShared;
-use sdd_domain::domain::Domain;
+use crate::place::{At, First, Item, SEVERAL, copied, member, owning, place, reclaim, renew};
 use sdd_domain::local::Local;
 use serial_history::{Answer, Query, Receipt};
 use std::alloc::Global;
@@ -18,22 +14,18 @@ use std::process::Abort;
 fn read_one<R: Abort>(
     rt: &R,
     alloc: Global,
-    domain: &Domain<Item>,
-    cell: &AtomicShared<Item>,
+    at: At<'_>,
     local: &mut Local<Item>,
     at_least: u64,
 ) -> (Option<u64>, u64)
-    requires home { home_of local.old ≡ place_of domain.now }
-    requires inside { cell_number cell.now < cell_count domain.now }
-    requires closed { (own_of local.old).nesting ≡ 0 }
-    ensures same { IsSame local.old local.new }
-    ensures closed { (own_of local.new).nesting ≡ 0 }
+    requires { CanRead at.domain.now at.cell.now local.old }
+    ensures { StillRests local.old local.new }
 {
-    let Ok(session) = opened(alloc, domain, cell, local, at_least) else {
+    let Ok(session) = opened(alloc, at, local, at_least) else {
         panic!(rt; "a version of that number is there");
     };
     let found = value(&session, 1);
-    (found, ended(domain, session, local).number)
+    (found, ended(at.domain, session, local).number)
 }
 
 /// A session beside a second version: whether it reads the values of keys 1 and 5 of its own one before that and behind it,
@@ -42,30 +34,28 @@ fn read_one<R: Abort>(
 pub fn beside<R: Abort>(
     rt: &R,
     alloc: Global,
-    domain: &Domain<Item>,
-    cell: &AtomicShared<Item>,
+    at: At<'_>,
     reader: &mut Local<Item>,
     writer: &mut Local<Item>,
 ) -> bool
-    requires reader { (home_of reader.old ≡ place_of domain.now) × ((own_of reader.old).nesting ≡ 0) }
-    requires writer { (home_of writer.old ≡ place_of domain.now) × (hand_of writer.old ≡ []) × ((own_of writer.old).nesting ≡ 0) }
-    requires inside { cell_number cell.now < cell_count domain.now }
-    ensures reader { IsSame reader.old reader.new × ((own_of reader.new).nesting ≡ 0) }
-    ensures writer { IsSame writer.old writer.new × ((own_of writer.new).nesting ≡ 0) }
+    requires reader { CanRead at.domain.now at.cell.now reader.old }
+    requires writer { CanWrite at.domain.now at.cell.now writer.old }
+    ensures reader { StillRests reader.old reader.new }
+    ensures writer { StillRests writer.old writer.new }
 {
-    let Ok(mut session) = opened(alloc, domain, cell, reader, 1) else {
+    let Ok(mut session) = opened(alloc, at, reader, 1) else {
         panic!(rt; "the first version is there");
     };
     let before = value(&session, 1);
-    renew(rt, alloc, domain, cell, writer, (2, (11, 21, 51)));
-    reclaim(domain, writer);
-    let counts = (in_use(domain), session.number());
+    renew(rt, alloc, at, writer, (2, (11, 21, 51)));
+    reclaim(at.domain, writer);
+    let counts = (in_use(at.domain), session.number());
     let values = [before, value(&session, 1), value(&session, 5)];
     let read = asked(&mut session, Query::Get(2));
-    let later = read_one(rt, alloc, domain, cell, writer, 2);
-    let receipt = ended(domain, session, reader);
-    reclaim(domain, writer);
-    let left = in_use(domain);
+    let later = read_one(rt, alloc, at, writer, 2);
+    let receipt = ended(at.domain, session, reader);
+    reclaim(at.domain, writer);
+    let left = in_use(at.domain);
     values == [Some(10), Some(10), Some(50)]
         && (counts, left) == ((6, 1), 3)
         && read == Ok(Answer::Get(Some(20)))
@@ -82,35 +72,33 @@ fn is_read(receipt: &Receipt<u64, u64>) -> bool {
 pub fn walked<R: Abort>(
     rt: &R,
     alloc: Global,
-    domain: &Domain<Item>,
-    cell: &AtomicShared<Item>,
+    at: At<'_>,
     reader: &mut Local<Item>,
     writer: &mut Local<Item>,
 ) -> bool
-    requires reader { (home_of reader.old ≡ place_of domain.now) × ((own_of reader.old).nesting ≡ 0) }
-    requires writer { (home_of writer.old ≡ place_of domain.now) × (hand_of writer.old ≡ []) × ((own_of writer.old).nesting ≡ 0) }
-    requires inside { cell_number cell.now < cell_count domain.now }
-    ensures reader { IsSame reader.old reader.new × ((own_of reader.new).nesting ≡ 0) }
-    ensures writer { IsSame writer.old writer.new × ((own_of writer.new).nesting ≡ 0) }
+    requires reader { CanRead at.domain.now at.cell.now reader.old }
+    requires writer { CanWrite at.domain.now at.cell.now writer.old }
+    ensures reader { StillRests reader.old reader.new }
+    ensures writer { StillRests writer.old writer.new }
 {
-    let Ok(session) = opened(alloc, domain, cell, reader, 0) else {
+    let Ok(session) = opened(alloc, at, reader, 0) else {
         panic!(rt; "the first version is there");
     };
     let mut walk = session.iter();
     let begun = copied(walk.next());
-    renew(rt, alloc, domain, cell, writer, (2, (11, 21, 51)));
-    reclaim(domain, writer);
+    renew(rt, alloc, at, writer, (2, (11, 21, 51)));
+    reclaim(at.domain, writer);
     let here = copied(walk.get());
     let next = copied(walk.next());
     let last = copied(walk.next_back());
     let steps = [begun, here, next, last, copied(walk.next())];
-    renew(rt, alloc, domain, cell, writer, (3, (12, 22, 52)));
-    reclaim(domain, writer);
+    renew(rt, alloc, at, writer, (3, (12, 22, 52)));
+    reclaim(at.domain, writer);
     let mut range = session.range(Bound::Excluded(&1), Bound::Unbounded);
     let last = copied(range.next_back());
     let middle = copied(range.next_back());
     let back = [last, middle, copied(range.next_back())];
-    let receipt = ended(domain, session, reader);
+    let receipt = ended(at.domain, session, reader);
     steps == STEPS
         && back == [Some((5, 50)), Some((2, 20)), None]
         && receipt.reads.as_slice().is_empty()
@@ -132,7 +120,11 @@ fn a_session_keeps_its_version_when_the_cell_is_given_back(rt: HostRuntime) {
     let mut local = member(&rt, &domain, &mut met);
     let version = First::Version(1, (10, 20, 50));
     let cell = owning(&rt, rt.alloc(), &domain, &mut local, version);
-    let Ok(session) = opened(rt.alloc(), &domain, &cell, &mut local, 1) else {
+    let at = At {
+        domain: &domain,
+        cell: &cell,
+    };
+    let Ok(session) = opened(rt.alloc(), at, &mut local, 1) else {
         panic!(rt; "the first version is there");
     };
     let last = retire(&domain, cell, &mut local);

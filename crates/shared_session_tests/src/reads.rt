@@ -1,13 +1,10 @@
 //! What sessions answer, by rows with answers written by hand.
 
-ghost use Rattle.std.specs.Prelude.{◌≡◌, ◌<◌};
-ghost use Rattle.sdd_domain.specs.Cells.{cell_number};
-ghost use Rattle.sdd_domain.specs.Tokens.{place_of, home_of, own_of, cell_count, IsSame};
+ghost use Rattle.std.specs.Prelude.{◌≡◌};
+ghost use Rattle.shared_session_tests.specs.Participants.{CanRead, StillRests};
 
 use crate::calls::{self, asked, ended, opened, value};
-use crate::place::{Item, Twos, copied};
-use sdd_domain::atomic_shared::AtomicShared;
-use sdd_domain::domain::Domain;
+use crate::place::{At, Item, Twos, copied};
 use sdd_domain::local::Local;
 use serial_history::{Answer, Near, Query, Seq};
 use shared_sessions::SharedWalk;
@@ -190,24 +187,15 @@ fn answers(session: &Twos, look: Look) -> bool {
 
 /// Opens a session of the first version, looks at it, and closes it: whether it answers as it is to, and recorded nothing
 /// meanwhile.
-pub fn are_right(
-    alloc: Global,
-    domain: &Domain<Item>,
-    cell: &AtomicShared<Item>,
-    local: &mut Local<Item>,
-    look: Look,
-) -> bool
-    requires home { home_of local.old ≡ place_of domain.now }
-    requires inside { cell_number cell.now < cell_count domain.now }
-    requires closed { (own_of local.old).nesting ≡ 0 }
-    ensures same { IsSame local.old local.new }
-    ensures closed { (own_of local.new).nesting ≡ 0 }
+pub fn are_right(alloc: Global, at: At<'_>, local: &mut Local<Item>, look: Look) -> bool
+    requires { CanRead at.domain.now at.cell.now local.old }
+    ensures { StillRests local.old local.new }
 {
-    let Ok(session) = opened(alloc, domain, cell, local, 0) else {
+    let Ok(session) = opened(alloc, at, local, 0) else {
         return false;
     };
     let right = answers(&session, look);
-    let receipt = ended(domain, session, local);
+    let receipt = ended(at.domain, session, local);
     right && receipt.number == 1 && receipt.reads.as_slice().is_empty()
 }
 
@@ -242,41 +230,28 @@ fn records<R: Abort>(rt: &R, session: &mut Twos, rows: &[(Query<u64>, Answer<u64
 fn are_recorded<R: Abort>(
     rt: &R,
     alloc: Global,
-    domain: &Domain<Item>,
-    cell: &AtomicShared<Item>,
+    at: At<'_>,
     local: &mut Local<Item>,
     rows: &[(Query<u64>, Answer<u64, u64>)],
 ) -> bool
-    requires home { home_of local.old ≡ place_of domain.now }
-    requires inside { cell_number cell.now < cell_count domain.now }
-    requires closed { (own_of local.old).nesting ≡ 0 }
-    ensures same { IsSame local.old local.new }
-    ensures closed { (own_of local.new).nesting ≡ 0 }
+    requires { CanRead at.domain.now at.cell.now local.old }
+    ensures { StillRests local.old local.new }
 {
-    let Ok(mut session) = opened(alloc, domain, cell, local, 0) else {
+    let Ok(mut session) = opened(alloc, at, local, 0) else {
         return false;
     };
     let recorded = records(rt, &mut session, rows);
     let last = value(&session, 5);
     let number = session.number();
     let plain = is_empty(&session) || (number, last) == (1, Some(50));
-    let receipt = ended(domain, session, local);
+    let receipt = ended(at.domain, session, local);
     recorded && plain && receipt.number == number && receipt.reads.as_slice() == rows
 }
 
 /// Whether each kind of query is recorded.
-pub fn each_kind<R: Abort>(
-    rt: &R,
-    alloc: Global,
-    domain: &Domain<Item>,
-    cell: &AtomicShared<Item>,
-    local: &mut Local<Item>,
-) -> bool
-    requires home { home_of local.old ≡ place_of domain.now }
-    requires inside { cell_number cell.now < cell_count domain.now }
-    requires closed { (own_of local.old).nesting ≡ 0 }
-    ensures same { IsSame local.old local.new }
-    ensures closed { (own_of local.new).nesting ≡ 0 }
+pub fn each_kind<R: Abort>(rt: &R, alloc: Global, at: At<'_>, local: &mut Local<Item>) -> bool
+    requires { CanRead at.domain.now at.cell.now local.old }
+    ensures { StillRests local.old local.new }
 {
     let range = Query::Range(Bound::Included(2), Bound::Unbounded);
     let head = Query::First(Bound::Included(2), Bound::Unbounded, 1);
@@ -297,27 +272,18 @@ pub fn each_kind<R: Abort>(
         (Query::Locate(6), Answer::Locate(Near::Smaller(5, 50))),
         (Query::Locate(0), Answer::Locate(Near::Larger(1, 10))),
     ];
-    are_recorded(rt, alloc, domain, cell, local, &rows)
+    are_recorded(rt, alloc, at, local, &rows)
 }
 
 /// Whether the empty list answers that it has no pair.
-pub fn of_nothing<R: Abort>(
-    rt: &R,
-    alloc: Global,
-    domain: &Domain<Item>,
-    cell: &AtomicShared<Item>,
-    local: &mut Local<Item>,
-) -> bool
-    requires home { home_of local.old ≡ place_of domain.now }
-    requires inside { cell_number cell.now < cell_count domain.now }
-    requires closed { (own_of local.old).nesting ≡ 0 }
-    ensures same { IsSame local.old local.new }
-    ensures closed { (own_of local.new).nesting ≡ 0 }
+pub fn of_nothing<R: Abort>(rt: &R, alloc: Global, at: At<'_>, local: &mut Local<Item>) -> bool
+    requires { CanRead at.domain.now at.cell.now local.old }
+    ensures { StillRests local.old local.new }
 {
     let all = Query::Range(Bound::Unbounded, Bound::Unbounded);
     let rows = [
         (Query::Locate(1), Answer::Locate(Near::Empty)),
         (all, pairs(rt, alloc, &[])),
     ];
-    are_recorded(rt, alloc, domain, cell, local, &rows)
+    are_recorded(rt, alloc, at, local, &rows)
 }

@@ -1,11 +1,12 @@
 //! Sessions of threads beside a thread that publishes. What they find is the same whatever the schedule.
 
-ghost use Rattle.std.specs.Prelude.{◌≡◌, ◌<◌};
+ghost use Rattle.std.specs.Prelude.{◌<◌};
 ghost use Rattle.sdd_domain.specs.Cells.{cell_number};
-ghost use Rattle.sdd_domain.specs.Tokens.{place_of, home_of, own_of, cell_count, IsSame};
+ghost use Rattle.sdd_domain.specs.Tokens.{cell_count};
+ghost use Rattle.shared_session_tests.specs.Participants.{CanRead, StillRests};
 
 use crate::calls::{ended, leave, opened, registered};
-use crate::place::{Item, reclaim, renew};
+use crate::place::{At, Item, reclaim, renew};
 use sdd_domain::atomic_shared::AtomicShared;
 use sdd_domain::domain::Domain;
 use sdd_domain::local::Local;
@@ -17,26 +18,17 @@ use std::thread::{Threads, join};
 const LAST: u64 = 20;
 
 /// The number of a session's version, if its number is at least this one and all of its values are its number.
-fn whole(
-    alloc: Global,
-    domain: &Domain<Item>,
-    cell: &AtomicShared<Item>,
-    local: &mut Local<Item>,
-    at_least: u64,
-) -> Option<u64>
-    requires home { home_of local.old ≡ place_of domain.now }
-    requires inside { cell_number cell.now < cell_count domain.now }
-    requires closed { (own_of local.old).nesting ≡ 0 }
-    ensures same { IsSame local.old local.new }
-    ensures closed { (own_of local.new).nesting ≡ 0 }
+fn whole(alloc: Global, at: At<'_>, local: &mut Local<Item>, at_least: u64) -> Option<u64>
+    requires { CanRead at.domain.now at.cell.now local.old }
+    ensures { StillRests local.old local.new }
 {
-    let session = opened(alloc, domain, cell, local, at_least).ok()?;
+    let session = opened(alloc, at, local, at_least).ok()?;
     let number = session.number();
     let mut same = session.len() == 3;
     for (_, value) in session.iter() {
         same = same && *value == number;
     }
-    ended(domain, session, local);
+    ended(at.domain, session, local);
     if same && number >= at_least {
         Some(number)
     } else {
@@ -53,7 +45,7 @@ fn reads(alloc: Global, domain: &Domain<Item>, cell: &AtomicShared<Item>) -> Opt
     let mut count: u32 = 0;
     let mut latest = 0;
     for _turn in 0..200u32 {
-        if let Some(number) = whole(alloc, domain, cell, &mut local, latest) {
+        if let Some(number) = whole(alloc, At { domain, cell }, &mut local, latest) {
             latest = number;
             count = count.saturating_add(1);
         }
@@ -75,7 +67,7 @@ fn writes<R: Abort>(
     for behind in 0..LAST {
         let number = behind + 2;
         let values = (number, number, number);
-        renew(rt, alloc, domain, cell, &mut local, (number, values));
+        renew(rt, alloc, At { domain, cell }, &mut local, (number, values));
         reclaim(domain, &mut local);
     }
     leave(domain, local);
@@ -86,21 +78,19 @@ fn writes<R: Abort>(
 pub fn are_whole<R: Threads + Abort + Sync>(
     rt: &R,
     alloc: Global,
-    domain: &Domain<Item>,
-    cell: &AtomicShared<Item>,
+    at: At<'_>,
     local: &mut Local<Item>,
 ) -> bool
-    requires home { home_of local.old ≡ place_of domain.now }
-    requires inside { cell_number cell.now < cell_count domain.now }
-    requires closed { (own_of local.old).nesting ≡ 0 }
-    ensures same { IsSame local.old local.new }
-    ensures closed { (own_of local.new).nesting ≡ 0 }
+    requires { CanRead at.domain.now at.cell.now local.old }
+    ensures { StillRests local.old local.new }
 {
+    // (what a thread borrows is the place and the cell)
+    let At { domain, cell } = at;
     let (written, read) = join(
         rt,
         || writes(rt, alloc, domain, cell),
         || reads(alloc, domain, cell),
     );
-    let last = whole(alloc, domain, cell, local, LAST + 1);
+    let last = whole(alloc, at, local, LAST + 1);
     (written, read) == (Some(()), Some(200)) && last == Some(LAST + 1)
 }

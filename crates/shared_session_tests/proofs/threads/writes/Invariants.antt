@@ -1,6 +1,5 @@
-use Rattle.std.proofs.Common.{◌≡◌, []}
-use Rattle.sdd_domain.specs.Tokens.{own_of, hand_of, home_of, place_of}
+use Rattle.shared_session_tests.specs.Participants.{CanWrite}
 use Rattle.shared_session_tests.proofs.threads.writes.Given as goal
 
 abbrev pub invariant-loop-behind : goal.invariant-loop-behind
-invariant-loop-behind g l = record { home : home_of l.local ≡ place_of l.domain; closed : (own_of l.local).nesting ≡ 0; bare : hand_of l.local ≡ [] }
+invariant-loop-behind g l = CanWrite l.domain l.cell l.local
