@@ -1,18 +1,9 @@
 -- rows of cells that keep nothing: made, and ended
-use Rattle.std.proofs.Common.{◌≡◌, ◌≢◌, ◌⊎◌, ◌++◌, ℕ, zero, suc, ◌+◌, ◌<◌, Option, None, List, [], ◌∷◌, length, get_or, set, map, refl, sym, ap, ◌∙◌, arith, subst, length-set, inl, inr, replicate}
+use Rattle.world_containers.proofs.Names.{◌≡◌, ◌≢◌, ◌⊎◌, ◌++◌, ℕ, zero, suc, ◌+◌, ◌<◌, Option, None, List, [], ◌∷◌, length, get_or, set, map, refl, sym, ap, ◌∙◌, arith, subst, length-set, inl, inr, replicate, cases_eq, State, cell_at, with_cell, emptiness, IsFreeCell, NoCellFree, shared_cell, AtomicShared, Cell, Entry, IsOut, Leaves, AreApart, AreEmpty, AreFreeCells, AreSingle, IsClaimed, IsRow, freed, joined, wrote_same, wrote_other, inside_cells, leaves_all, leaves_then, leaves_write, freed_again, leaves_free}
 use Rattle.std.specs.List.{sum_by}
-use Rattle.std.proofs.lemmas.Bool.{cases_eq}
 use Rattle.std.proofs.lemmas.List.Sums.{sum_by-set}
-use Rattle.sdd_world.specs.State.{State, cell_at, with_cell, emptiness, IsFreeCell, NoCellFree}
-use Rattle.sdd_world.specs.Tokens.{shared_cell}
-use Rattle.sdd_world.specs.declared.cell.AtomicShared.{AtomicShared}
 use Rattle.sdd_world.specs.declared.tag.Tag.TheVariants as tag
-use Rattle.sdd_world.specs.declared.status.Cell.{Cell}
 use Rattle.sdd_world.specs.declared.status.Cell.TheVariants as cell
-use Rattle.sdd_lists.specs.Chain.{Entry, IsOut, Leaves}
-use Rattle.world_containers.specs.Bags.{AreApart, AreEmpty, AreFreeCells, AreSingle, IsClaimed, IsRow, freed, joined}
-use Rattle.sdd_lists.proofs.ChainLemmas.{wrote_same, wrote_other, inside_cells, leaves_all, leaves_then, leaves_write, freed_again}
-use Rattle.sdd_lists.proofs.ListHeadLemmas.{leaves_free}
 use Rattle.world_containers.proofs.RowLemmas.{row_same}
 
 -- cells that keep nothing are a row of empty lists

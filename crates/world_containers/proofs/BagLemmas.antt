@@ -1,25 +1,9 @@
 -- bags, as entries come and go
-use Rattle.std.proofs.Common.{◌≡◌, ◌≢◌, ◌⊎◌, ◌++◌, ℕ, zero, suc, ◌+◌, ◌<◌, ◌≤◌, true, false, Option, None, Some, List, [], ◌∷◌, length, get_or, set, refl, sym, ap, ◌∙◌, arith, subst, inl, inr, length-set, get_or-set_same, get_or-set_other, map, Result, Ok, Err, OnOk, IfErr, MatchOption, replicate}
-use Rattle.std.proofs.lemmas.List.{length-map}
-use Rattle.sdd_world.specs.Place.{IsSharedCell}
-use Rattle.sdd_world.specs.Tokens.{shared_cell, shared_slot, shared_slots}
+use Rattle.world_containers.proofs.Names.{◌≡◌, ◌≢◌, ◌⊎◌, ◌++◌, ℕ, zero, suc, ◌+◌, ◌<◌, ◌≤◌, true, false, Option, None, Some, List, [], ◌∷◌, length, get_or, set, refl, sym, ap, ◌∙◌, arith, subst, inl, inr, length-set, get_or-set_same, get_or-set_other, map, Result, Ok, Err, OnOk, IfErr, MatchOption, replicate, length-map, IsSharedCell, shared_cell, shared_slot, shared_slots, AtomicShared, false≢true, cases_eq, State, status_at, cell_at, vacancy, emptiness, NoneFree, NoCellFree, Tag, Entry, slots, links, IsOut, AreOut, IsList, Hangs, Leaves, first_slot, undeleted, TookFirst, entry_link, IsNew, IsStack, IsSomeStack, IsClaimed, IsNull, cell_of, IsSomeRow, IsRow, IsBag, IsSomeBag, joined, AreOwn, Adds, Puts, PutsPrimary, PutsOverflow, TakesOne, LinkedEntry, hung_first, head_cell, leaves_more, out_of_none, leaves_released, out_of_one, released, first_none, TookSome, took_some, took_nothing}
 use Rattle.sdd_world.specs.declared.owner.Shared.{Shared}
-use Rattle.sdd_world.specs.declared.cell.AtomicShared.{AtomicShared}
-use Rattle.std.proofs.lemmas.Bool.{false≢true, cases_eq}
-use Rattle.sdd_world.specs.State.{State, status_at, cell_at, vacancy, emptiness, NoneFree, NoCellFree}
-use Rattle.sdd_world.specs.declared.tag.Tag.{Tag}
 use Rattle.sdd_world.specs.declared.tag.Tag.TheVariants as tag
-use Rattle.sdd_lists.specs.Chain.{Entry, slots, links, IsOut, AreOut, IsList, Hangs, Leaves, first_slot, undeleted, TookFirst}
-use Rattle.sdd_lists.specs.Entries.{entry_link}
-use Rattle.world_containers.specs.Stacks.{IsNew, IsStack, IsSomeStack}
 use Rattle.world_containers.proofs.BagLenLemmas.{own_undeleted}
 use Rattle.world_containers.proofs.BagInitLemmas.{claimed_empty, blank_row, blanks_joined, blanks_length, blanks_single}
-use Rattle.world_containers.specs.Bags.{IsClaimed, IsNull, cell_of, IsSomeRow, IsRow, IsBag, IsSomeBag, joined, AreOwn, Adds, Puts, PutsPrimary, PutsOverflow, TakesOne}
-use Rattle.sdd_lists.specs.declared.linked_entry.LinkedEntry.{LinkedEntry}
-use Rattle.sdd_lists.proofs.ChainLemmas.{hung_first, head_cell, leaves_more, out_of_none}
-use Rattle.sdd_lists.proofs.ReleaseLemmas.{leaves_released, out_of_one}
-use Rattle.sdd_world.specs.Steps.{released}
-use Rattle.sdd_lists.proofs.ListHeadLemmas.{first_none, TookSome, took_some, took_nothing}
 use Rattle.world_containers.proofs.RowLemmas.{adds_more, adds_less, single_set, single_at, room_length, full_length, none_joined, joined_some, own_both, own_first, own_second, own_at, own_set, own_left, row_set, row_left, out_append, out_at, out_joined, out_all, out_append_both, links_joined, links_at, are_both, own_kept}
 
 -- what a cell tells of the list that hangs from it

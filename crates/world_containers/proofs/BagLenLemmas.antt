@@ -1,16 +1,6 @@
 -- how many entries hang from the cells of a row
-use Rattle.std.proofs.Common.{◌≡◌, ◌⊎◌, ◌++◌, ℕ, suc, ◌+◌, ◌<◌, ◌≤◌, true, false, Option, List, [], ◌∷◌, length, get_or, drop, refl, sym, ap, ◌∙◌, arith, subst, cond, inl, inr, map}
-use Rattle.std.proofs.lemmas.List.{length-map}
-use Rattle.sdd_world.specs.Tokens.{shared_cell}
-use Rattle.sdd_world.specs.declared.cell.AtomicShared.{AtomicShared}
-use Rattle.sdd_world.specs.State.{State, in_use}
-use Rattle.std.proofs.lemmas.List.{drop_more, drop_all}
-use Rattle.sdd_world.specs.declared.tag.Tag.{Tag}
+use Rattle.world_containers.proofs.Names.{◌≡◌, ◌⊎◌, ◌++◌, ℕ, suc, ◌+◌, ◌<◌, ◌≤◌, true, false, Option, List, [], ◌∷◌, length, get_or, drop, refl, sym, ap, ◌∙◌, arith, subst, cond, inl, inr, map, length-map, shared_cell, AtomicShared, State, in_use, drop_more, drop_all, Tag, Status, Entry, slots, IsOut, IsList, Hangs, deleted, undeleted, AreApart, AreOwn, IsRow, IsSomeRow, cell_of, joined, AreUsed, used_slots, length-slots, hung_used}
 use Rattle.sdd_world.specs.declared.tag.Tag.TheVariants as tag
-use Rattle.sdd_world.specs.declared.status.Status.{Status}
-use Rattle.sdd_lists.specs.Chain.{Entry, slots, IsOut, IsList, Hangs, deleted, undeleted}
-use Rattle.world_containers.specs.Bags.{AreApart, AreOwn, IsRow, IsSomeRow, cell_of, joined}
-use Rattle.sdd_lists.proofs.WalkLemmas.{AreUsed, used_slots, length-slots, hung_used}
 
 out_both : (j : ℕ) (xs ys : List ℕ) → IsOut j xs → IsOut j ys → IsOut j (xs ++ ys)
 out_both j [] ys h k = k

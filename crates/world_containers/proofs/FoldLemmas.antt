@@ -1,17 +1,10 @@
 -- entries of a bag that are taken one after another
-use Rattle.std.proofs.Common.{◌≡◌, ◌≢◌, ◌++◌, ℕ, ◌+◌, ◌≤◌, List, [], ◌∷◌, length, refl, sym, ap, ◌∙◌, arith, subst, inl, inr}
-use Rattle.std.proofs.lemmas.List.{append_assoc, length-append}
+use Rattle.world_containers.proofs.Names.{◌≡◌, ◌≢◌, ◌++◌, ℕ, ◌+◌, ◌≤◌, List, [], ◌∷◌, length, refl, sym, ap, ◌∙◌, arith, subst, inl, inr, append_assoc, State, emptiness, vacancy, shared_slot, Entry, Leaves, IsDetached, IsOut, AreOut, links, slots, IsBag, AreOwn, AreSpare, Adds, Removes, CallsWith, TakesOne, entry_link, LinkedEntry, leaves_all, leaves_then, leaves_more}
+use Rattle.std.proofs.lemmas.List.{length-append}
 use Rattle.std.specs.List.{FoldsTo}
 use Rattle.std.proofs.lemmas.Fn.{FoldsTo-push}
-use Rattle.sdd_world.specs.State.{State, emptiness, vacancy}
-use Rattle.sdd_world.specs.Tokens.{shared_slot}
 use Rattle.sdd_world.specs.declared.owner.Shared.{Shared}
-use Rattle.sdd_lists.specs.Chain.{Entry, Leaves, IsDetached, IsOut, AreOut, links, slots}
-use Rattle.world_containers.specs.Bags.{IsBag, AreOwn, AreSpare, Adds, Removes, CallsWith, TakesOne}
-use Rattle.sdd_lists.specs.Entries.{entry_link}
-use Rattle.sdd_lists.specs.declared.linked_entry.LinkedEntry.{LinkedEntry}
 use Rattle.world_containers.proofs.RowLemmas.{own_left, own_both, out_append, out_append_both}
-use Rattle.sdd_lists.proofs.ChainLemmas.{leaves_all, leaves_then, leaves_more}
 
 module _ {X : Type 0} where
   removes_last : (xs : List X) (x : X) (ys zs rest : List X) → Removes xs ys zs → Adds x rest zs → Removes (xs ++ x ∷ []) ys rest

@@ -1,23 +1,10 @@
 -- containers that are filled, value by value
-use Rattle.std.proofs.Common.{◌≡◌, ◌⊎◌, ◌++◌, ℕ, ◌+◌, ◌≤◌, ◌<◌, Bool, true, false, Option, None, Some, List, [], ◌∷◌, length, refl, sym, ap, ◌∙◌, arith, subst, cond, inl, inr, reverse, MatchOption}
-use Rattle.std.proofs.lemmas.List.{nil_from_length, append_assoc, append-nil, reverse-append}
-use Rattle.sdd_world.specs.State.{State, status_at, cell_at, vacancy, emptiness, IsFree, IsFreeCell}
-use Rattle.sdd_world.specs.declared.tag.Tag.{Tag}
+use Rattle.world_containers.proofs.Names.{◌≡◌, ◌⊎◌, ◌++◌, ℕ, ◌+◌, ◌≤◌, ◌<◌, Bool, true, false, Option, None, Some, List, [], ◌∷◌, length, refl, sym, ap, ◌∙◌, arith, subst, cond, inl, inr, reverse, MatchOption, nil_from_length, append_assoc, append-nil, reverse-append, State, status_at, cell_at, vacancy, emptiness, IsFree, IsFreeCell, Tag, Status, Cell, Entry, slots, links, IsOut, AreOut, IsList, IsDetached, FitsBefore, CanHang, BeginsWithItem, Leaves, Stays, deleted, undeleted, end_cell, entry_value, entry_link, IsNew, IsMade, IsQueue, Puts, IsBag, IsSameBag, AreFreeCells, Adds, Removes, PutsPrimary, PutsOverflow, LinkedEntry, hung_left, free_cell_out, free_slot_out, used_cell, used_slot, still_hung, can_hang, new_fits, put_leaves}
 use Rattle.sdd_world.specs.declared.tag.Tag.TheVariants as tag
-use Rattle.sdd_world.specs.declared.status.Status.{Status}
 use Rattle.sdd_world.specs.declared.status.Status.TheVariants as status
-use Rattle.sdd_world.specs.declared.status.Cell.{Cell}
 use Rattle.sdd_world.specs.declared.status.Cell.TheVariants as cell
-use Rattle.sdd_lists.specs.Chain.{Entry, slots, links, IsOut, AreOut, IsList, IsDetached, FitsBefore, CanHang, BeginsWithItem, Leaves, Stays, deleted, undeleted, end_cell}
-use Rattle.sdd_lists.specs.Entries.{entry_value, entry_link}
-use Rattle.world_containers.specs.Stacks.{IsNew, IsMade}
-use Rattle.world_containers.specs.Queues.{IsQueue}
-use Rattle.world_containers.specs.Bags.{Puts, IsBag, IsSameBag, AreFreeCells, Adds, Removes, PutsPrimary, PutsOverflow}
 use Rattle.world_containers.specs.FromIter.{AreNew, FillsQueue, FillsStack, FillsBag, Extends, ExtendsLast, Copies, CantCopy, entry_values}
-use Rattle.sdd_lists.specs.declared.linked_entry.LinkedEntry.{LinkedEntry}
 use Rattle.sdd_lists.specs.declared.refusal.NotMade.TheVariants as NotMade
-use Rattle.sdd_lists.proofs.ChainLemmas.{hung_left, free_cell_out, free_slot_out, used_cell, used_slot}
-use Rattle.sdd_lists.proofs.ListHeadLemmas.{still_hung, can_hang, new_fits, put_leaves}
 use Rattle.world_containers.proofs.QueueLemmas.{new_follows, queue_stays}
 use Rattle.world_containers.proofs.QueueTailLemmas.{end_tag, hung_end, hung_append}
 use Rattle.world_containers.proofs.FoldLemmas.{adds_front, adds_length}

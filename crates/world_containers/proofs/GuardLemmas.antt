@@ -1,19 +1,13 @@
 -- lists in a place while a guard opens or closes
-use Rattle.std.proofs.Common.{◌≡◌, ◌≢◌, ◌⊎◌, ◌==◌, ◌++◌, ℕ, zero, suc, ◌+◌, ◌-◌, ◌<◌, ◌≤◌, true, false, Option, None, Some, List, [], ◌∷◌, length, get_or, set, refl, sym, ap, ◌∙◌, arith, subst, cond, inl, inr, leb, ltb, ◌&&◌, get_or-set_other, reverse}
+use Rattle.world_containers.proofs.Names.{◌≡◌, ◌≢◌, ◌⊎◌, ◌==◌, ◌++◌, ℕ, zero, suc, ◌+◌, ◌-◌, ◌<◌, ◌≤◌, true, false, Option, None, Some, List, [], ◌∷◌, length, get_or, set, refl, sym, ap, ◌∙◌, arith, subst, cond, inl, inr, leb, ltb, ◌&&◌, get_or-set_other, reverse, State, status_at, value_at, cell_at, participant_at, local_at, with_local, with_status, with_cell, with_groups, retired, taken, vacated, raised, is_present, rotated_bags, given, given_all, released, released_each, held_in, released_as, disowned_as, owned_ended_as, shared_ended_as, due_reclaimed, due_reclaimed_as, reclaimed, participant_rotated, count_published, guard_opened, guard_closed, scanned, scans, closings_after, IsPlace, Tag, Status, Cell, Entry, links, IsOut, IsItem, IsList, Leaves, AreOwn, IsBag, joined, entry_holds, entry_link, holds_link, IsQueue, last_slot, LinkedEntry, inside_cells}
 use Rattle.std.specs.List.{list_all}
 use Rattle.std.proofs.lemmas.List.Sums.{sum_by-set}
 use Rattle.sdd_world.specs.Groups.{less_owned, row_ended}
 use Rattle.sdd_world.specs.Holding.{Hold, OwnedItem, SharedItem, OwnedIn, SharedIn, OwnerGroup}
-use Rattle.sdd_world.specs.State.{State, status_at, value_at, cell_at, participant_at, local_at, with_local, with_status, with_cell, with_groups, retired, taken, vacated, raised, is_present, rotated_bags}
-use Rattle.sdd_world.specs.Steps.{given, given_all, released, released_each, held_in, released_as, disowned_as, owned_ended_as, shared_ended_as, due_reclaimed, due_reclaimed_as, reclaimed, participant_rotated, count_published, guard_opened, guard_closed, scanned, scans, closings_after}
-use Rattle.sdd_world.specs.Place.{IsPlace}
 use Rattle.sdd_world.specs.Frame.{has_owner}
 use Rattle.sdd_world.specs.Counting.{Counted, kept_by, shared_owners, tally}
-use Rattle.sdd_world.specs.declared.tag.Tag.{Tag}
 use Rattle.sdd_world.specs.declared.tag.Tag.TheVariants as tag
-use Rattle.sdd_world.specs.declared.status.Status.{Status}
 use Rattle.sdd_world.specs.declared.status.Status.TheVariants as status
-use Rattle.sdd_world.specs.declared.status.Cell.{Cell}
 use Rattle.sdd_world.specs.declared.status.LocalState.{LocalState}
 use Rattle.sdd_world.specs.declared.status.Cell.TheVariants as cell
 use Rattle.sdd_world.proofs.CellLemmas.{held_cells_stay}
@@ -21,13 +15,7 @@ use Rattle.sdd_world.proofs.CountLemmas.{counted_opened}
 use Rattle.sdd_world.proofs.FrameLemmas.{keeps_opened}
 use Rattle.sdd_world.proofs.ListLemmas.{hit-same}
 use Rattle.sdd_world.proofs.SlotLemmas.{at_most}
-use Rattle.sdd_lists.specs.Chain.{Entry, links, IsOut, IsItem, IsList, Leaves}
-use Rattle.world_containers.specs.Bags.{AreOwn, IsBag, joined}
 use Rattle.world_containers.specs.Guards.{GuardsLeave}
-use Rattle.sdd_lists.specs.Entries.{entry_holds, entry_link, holds_link}
-use Rattle.world_containers.specs.Queues.{IsQueue, last_slot}
-use Rattle.sdd_lists.specs.declared.linked_entry.LinkedEntry.{LinkedEntry}
-use Rattle.sdd_lists.proofs.ChainLemmas.{inside_cells}
 use Rattle.world_containers.proofs.RowLemmas.{own_both, own_first, own_second}
 
 -- a write changes one place or none

@@ -12,3 +12,4 @@ pub mod BagLenLemmas
 pub mod FoldLemmas
 pub mod MutableIterationLemmas
 pub mod GuardLemmas
+pub mod Names

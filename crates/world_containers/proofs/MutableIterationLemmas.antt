@@ -1,33 +1,17 @@
 -- walks along a bag, and the values that are written along them
-use Rattle.std.proofs.Common.{◌≡◌, ◌⊎◌, ◌++◌, ◌==◌, ℕ, zero, suc, ◌+◌, ◌<◌, ◌≤◌, true, false, Option, None, Some, List, [], ◌∷◌, length, get_or, drop, map, refl, sym, ap, ◌∙◌, arith, subst, get_or-set_same, get_or-set_other, cond, inl, inr, Err, IsErrOf, OnSome, IfNone}
-use Rattle.std.proofs.lemmas.List.{length-map, map-append, drop_more, drop_all}
+use Rattle.world_containers.proofs.Names.{◌≡◌, ◌⊎◌, ◌++◌, ◌==◌, ℕ, zero, suc, ◌+◌, ◌<◌, ◌≤◌, true, false, Option, None, Some, List, [], ◌∷◌, length, get_or, drop, map, refl, sym, ap, ◌∙◌, arith, subst, get_or-set_same, get_or-set_other, cond, inl, inr, Err, IsErrOf, OnSome, IfNone, length-map, map-append, drop_more, drop_all, State, status_at, value_at, cell_at, NoneOpen, IsOpen, IsSharedCell, HasOneOwner, shared_cell, AtomicShared, Tag, Status, Cell, Entry, slots, links, IsOut, IsItem, IsList, Hangs, Leaves, AreApart, AreOwn, AreSingle, IsBag, IsNull, IsRow, IsSomeBag, joined, cell_of, entry_link, entry_value, entry_with_value, AreHung, AreOnce, IsLeft, IsSomeLeft, Finds, Gives, Revalues, Visits, revalue, revalued, walk_bag, walk_cells, walk_name, walk_place, LinkedEntry, LinkedEntry', None', Some', head_cell, hung_left, inside_cells, item_left, item_shared, out_of_none, some_same, starts_link, the_same, Starts, out_of_one, AreUsed}
 use Rattle.std.proofs.lemmas.Bool.Decides.{eqb_tells}
-use Rattle.sdd_world.specs.State.{State, status_at, value_at, cell_at, with_value as with_item}
-use Rattle.sdd_world.specs.Steps.{NoneOpen}
-use Rattle.sdd_world.specs.Place.{IsOpen, IsSharedCell, HasOneOwner}
+use Rattle.sdd_world.specs.State.{with_value as with_item}
 use Rattle.sdd_world.specs.Filled.{IsFilled, slot_in}
-use Rattle.sdd_world.specs.Tokens.{shared_cell}
-use Rattle.sdd_world.specs.declared.cell.AtomicShared.{AtomicShared}
-use Rattle.sdd_world.specs.declared.tag.Tag.{Tag}
 use Rattle.sdd_world.specs.declared.tag.Tag.TheVariants as tag
 use Rattle.sdd_world.specs.declared.refusal.NotLent.{NotLent}
 use Rattle.sdd_world.specs.declared.refusal.NotLent.TheVariants as not_lent
-use Rattle.sdd_world.specs.declared.status.Status.{Status}
 use Rattle.sdd_world.specs.declared.status.Status.TheVariants as status
-use Rattle.sdd_world.specs.declared.status.Cell.{Cell}
 use Rattle.sdd_world.specs.declared.status.Cell.TheVariants as cell
-use Rattle.sdd_lists.specs.Chain.{Entry, slots, links, IsOut, IsItem, IsList, Hangs, Leaves}
-use Rattle.world_containers.specs.Bags.{AreApart, AreOwn, AreSingle, IsBag, IsNull, IsRow, IsSomeBag, joined, cell_of}
-use Rattle.sdd_lists.specs.Entries.{entry_link, entry_value, entry_with_value}
 use Rattle.world_containers.specs.Iters.{first_value}
-use Rattle.world_containers.specs.MutableIteration.{AreHung, AreOnce, IsLeft, IsSomeLeft, Finds, Gives, Revalues, Visits, revalue, revalued, walk_bag, walk_cells, walk_name, walk_place}
 use Rattle.world_containers.specs.declared.bag.IterMut.{IterMut}
-use Rattle.sdd_lists.specs.declared.linked_entry.LinkedEntry.{LinkedEntry, LinkedEntry', None', Some'}
 use Rattle.world_containers.proofs.BagLenLemmas.{row_used}
 use Rattle.world_containers.proofs.BagLemmas.{null_empty, null_not}
-use Rattle.sdd_lists.proofs.ChainLemmas.{head_cell, hung_left, inside_cells, item_left, item_shared, out_of_none, some_same, starts_link, the_same, Starts}
-use Rattle.sdd_lists.proofs.ReleaseLemmas.{out_of_one}
-use Rattle.sdd_lists.proofs.WalkLemmas.{AreUsed}
 
 -- a refusal has one of two reasons
 pub never_refused : {X : Type 0} (e : NotLent) → (IsErrOf {T = X} (Err e) not_lent.NotSole → ⊥) → (IsErrOf {T = X} (Err e) not_lent.GuardsOpen → ⊥) → ⊥

@@ -1,22 +1,10 @@
 -- queues, as their calls change them
-use Rattle.std.proofs.Common.{◌≡◌, ◌≢◌, ◌≤◌, ℕ, ◌<◌, ◌+◌, ◌-◌, true, false, Option, None, Some, List, [], ◌∷◌, length, refl, sym, ap, ◌∙◌, arith, subst, cond, length-set, inl, inr, get_or-set_same}
+use Rattle.world_containers.proofs.Names.{◌≡◌, ◌≢◌, ◌≤◌, ℕ, ◌<◌, ◌+◌, ◌-◌, true, false, Option, None, Some, List, [], ◌∷◌, length, refl, sym, ap, ◌∙◌, arith, subst, cond, length-set, inl, inr, get_or-set_same, State, status_at, cell_at, with_cell, emptiness, vacancy, IsFreeCell, released, IsShared, IsSharedCell, Tag, Entry, slots, links, IsOut, AreOut, IsItem, IsList, IsDetached, Leaves, SameUses, skip, undeleted, deleted, first_slot, MoreOwners, OneMore, last_slot, HasTwo, IsQueue, Follows, CanFollow, cell_vacated, IsNew, IsMade, entry_link, LinkedEntry, hung_left, cell_left, item_left, leaves_then, leaves_more, leaves_all, leaves_write, out_of_none, wrote_same, wrote_other, inside_cells, inside_states, some_same, head_cell, kept_same, free_cell_out, free_slot_out, leaves_free, first_skipped, first_none, TookSome, popped_left, popped_gone, popped_leaves, skipped_links, none_skipped, leaves_released, spare_owner, spare_item, spare_state, out_of_one}
 use Rattle.std.proofs.lemmas.Bool.Decides.{eqb_tells}
-use Rattle.sdd_world.specs.State.{State, status_at, cell_at, with_cell, emptiness, vacancy, IsFreeCell}
-use Rattle.sdd_world.specs.Steps.{released}
-use Rattle.sdd_world.specs.Place.{IsShared, IsSharedCell}
-use Rattle.sdd_world.specs.declared.tag.Tag.{Tag}
 use Rattle.sdd_world.specs.declared.tag.Tag.TheVariants as tag
 use Rattle.sdd_world.specs.declared.status.Status.TheVariants as status
 use Rattle.sdd_world.specs.declared.status.Cell.TheVariants as cell
-use Rattle.sdd_lists.specs.Chain.{Entry, slots, links, IsOut, AreOut, IsItem, IsList, IsDetached, Leaves, SameUses, skip, undeleted, deleted, first_slot, MoreOwners, OneMore}
-use Rattle.world_containers.specs.Queues.{last_slot, HasTwo, IsQueue, Follows, CanFollow, cell_vacated}
-use Rattle.world_containers.specs.Stacks.{IsNew, IsMade}
-use Rattle.sdd_lists.specs.Entries.{entry_link}
-use Rattle.sdd_lists.specs.declared.linked_entry.LinkedEntry.{LinkedEntry}
-use Rattle.sdd_lists.proofs.ChainLemmas.{hung_left, cell_left, item_left, leaves_then, leaves_more, leaves_all, leaves_write, out_of_none, wrote_same, wrote_other, inside_cells, inside_states, some_same, head_cell, kept_same, free_cell_out, free_slot_out}
-use Rattle.sdd_lists.proofs.ListHeadLemmas.{leaves_free, first_skipped, first_none, TookSome, popped_left, popped_gone, popped_leaves, skipped_links, none_skipped}
 use Rattle.sdd_lists.proofs.ShareLemmas.{shared_same}
-use Rattle.sdd_lists.proofs.ReleaseLemmas.{leaves_released, spare_owner, spare_item, spare_state, out_of_one}
 
 pub two_shared : {L : Type 0} (w : State L) (i : ℕ) → HasTwo w i → IsShared w i
 two_shared w i h = record { inside = inside_states w.states i h.owners h.is; owners = h.owners; is = h.is }

@@ -1,16 +1,8 @@
 -- the end of a list, and the cell that keeps its last entry
-use Rattle.std.proofs.Common.{◌≡◌, ◌≢◌, ℕ, Option, None, Some, List, [], ◌∷◌, ◌++◌, refl, sym, ap, ◌∙◌, subst}
-use Rattle.sdd_world.specs.State.{State, status_at, cell_at, with_cell, vacancy}
-use Rattle.sdd_world.specs.Steps.{released}
-use Rattle.sdd_world.specs.Place.{IsShared}
-use Rattle.sdd_world.specs.declared.tag.Tag.{Tag}
+use Rattle.world_containers.proofs.Names.{◌≡◌, ◌≢◌, ℕ, Option, None, Some, List, [], ◌∷◌, ◌++◌, refl, sym, ap, ◌∙◌, subst, State, status_at, cell_at, with_cell, vacancy, released, IsShared, Tag, Entry, slots, links, IsOut, IsItem, IsList, IsDetached, HasLink, Leaves, FitsBefore, CanHang, end_cell, last_slot, HasTwo, IsQueue, Follows, hung_left, cell_left, item_left, leaves_then, leaves_more, leaves_all, leaves_write, out_of_none, wrote_same, inside_cells, inside_states, some_same, some_nothing, kept_same, Names, leaves_released, spare_owner, out_of_one}
 use Rattle.sdd_world.specs.declared.tag.Tag.TheVariants as tag
 use Rattle.sdd_world.specs.declared.status.Status.TheVariants as status
 use Rattle.sdd_world.specs.declared.status.Cell.TheVariants as cell
-use Rattle.sdd_lists.specs.Chain.{Entry, slots, links, IsOut, IsItem, IsList, IsDetached, HasLink, Leaves, FitsBefore, CanHang, end_cell}
-use Rattle.world_containers.specs.Queues.{last_slot, HasTwo, IsQueue, Follows}
-use Rattle.sdd_lists.proofs.ChainLemmas.{hung_left, cell_left, item_left, leaves_then, leaves_more, leaves_all, leaves_write, out_of_none, wrote_same, inside_cells, inside_states, some_same, some_nothing, kept_same, Names}
-use Rattle.sdd_lists.proofs.ReleaseLemmas.{leaves_released, spare_owner, out_of_one}
 
 -- the tag of the cell at the end of a list
 abbrev pub end_tag : {L : Type 0} → Tag → List (Entry L) → Tag

@@ -1,21 +1,9 @@
 -- rows of cells and lists, as one of them changes
-use Rattle.std.proofs.Common.{◌≡◌, ◌≢◌, ◌⊎◌, ◌++◌, ℕ, zero, suc, ◌+◌, ◌<◌, ◌≤◌, Option, None, List, [], ◌∷◌, length, get_or, set, refl, sym, ap, ◌∙◌, arith, subst, get_or-set_same, get_or-set_other, length-set, map, inl, inr, not, Bool, true, false}
-use Rattle.std.proofs.lemmas.List.{append_assoc, set-get_or, get_or-map}
-use Rattle.std.proofs.lemmas.Bool.{cases_eq, false≢true}
+use Rattle.world_containers.proofs.Names.{◌≡◌, ◌≢◌, ◌⊎◌, ◌++◌, ℕ, zero, suc, ◌+◌, ◌<◌, ◌≤◌, Option, None, List, [], ◌∷◌, length, get_or, set, refl, sym, ap, ◌∙◌, arith, subst, get_or-set_same, get_or-set_other, length-set, map, inl, inr, not, Bool, true, false, append_assoc, set-get_or, get_or-map, cases_eq, false≢true, shared_cell, AtomicShared, State, status_at, cell_at, with_cell, vacancy, emptiness, Tag, Status, Cell, Entry, slots, links, IsOut, AreOut, IsList, Hangs, Leaves, IsNull, cell_of, freed, AreEmpty, AreApart, IsRow, joined, AreSingle, AreOwn, Adds, hung_left, free_cell_out, free_slot_out, wrote_other, leaves_all, leaves_then, leaves_more, same_use}
 use mathlib.Core.Bool.{beq}
-use Rattle.sdd_world.specs.Tokens.{shared_cell}
-use Rattle.sdd_world.specs.declared.cell.AtomicShared.{AtomicShared}
-use Rattle.sdd_world.specs.State.{State, status_at, cell_at, with_cell, vacancy, emptiness}
-use Rattle.sdd_world.specs.declared.tag.Tag.{Tag}
 use Rattle.sdd_world.specs.declared.tag.Tag.TheVariants as tag
-use Rattle.sdd_world.specs.declared.status.Status.{Status}
 use Rattle.sdd_world.specs.declared.status.Status.TheVariants as status
-use Rattle.sdd_world.specs.declared.status.Cell.{Cell}
 use Rattle.sdd_world.specs.declared.status.Cell.TheVariants as cell
-use Rattle.sdd_lists.specs.Chain.{Entry, slots, links, IsOut, AreOut, IsList, Hangs, Leaves}
-use Rattle.world_containers.specs.Bags.{IsNull, cell_of, freed, AreEmpty, AreApart, IsRow, joined, AreSingle, AreOwn, Adds}
-use Rattle.sdd_lists.proofs.ChainLemmas.{hung_left, free_cell_out, free_slot_out, wrote_other, leaves_all, leaves_then, leaves_more}
-use Rattle.sdd_lists.proofs.ListHeadLemmas.{same_use}
 
 -- lists of lists
 module _ {X : Type 0} where

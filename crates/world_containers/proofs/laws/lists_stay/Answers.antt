@@ -1,4 +1,4 @@
-use Rattle.sdd_lists.proofs.ChainLemmas.{hung_left}
+use Rattle.world_containers.proofs.Names.{hung_left}
 use Rattle.world_containers.proofs.laws.lists_stay.Goals as goal
 
 pub returns : goal.returns

@@ -1,4 +1,4 @@
-use Rattle.sdd_lists.proofs.ReleaseLemmas.{leaves_released}
+use Rattle.world_containers.proofs.Names.{leaves_released}
 use Rattle.world_containers.proofs.laws.releases_leave.Goals as goal
 
 pub returns : goal.returns

@@ -1,4 +1,4 @@
-use Rattle.sdd_lists.proofs.ReleaseLemmas.{spare_owner}
+use Rattle.world_containers.proofs.Names.{spare_owner}
 use Rattle.world_containers.proofs.laws.spare_owners.Goals as goal
 
 pub returns : goal.returns

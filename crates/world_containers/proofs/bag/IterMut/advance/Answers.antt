@@ -1,6 +1,4 @@
-use Rattle.std.proofs.Common.{ℕ, ◌∷◌, drop, map, sym, subst, ◌∙◌}
-use Rattle.sdd_world.specs.Tokens.{shared_cell}
-use Rattle.world_containers.specs.MutableIteration.{IsLeft}
+use Rattle.world_containers.proofs.Names.{ℕ, ◌∷◌, drop, map, sym, subst, ◌∙◌, shared_cell, IsLeft}
 use Rattle.world_containers.proofs.bag.IterMut.advance.Goals as goal
 
 pub returns-in_default-clause-none : goal.returns-in_default-clause-none

@@ -1,6 +1,4 @@
-use Rattle.std.proofs.Common.{refl, sym, ap, subst}
-use Rattle.sdd_world.specs.State.{State}
-use Rattle.world_containers.specs.MutableIteration.{IsLeft, walk_cells}
+use Rattle.world_containers.proofs.Names.{refl, sym, ap, subst, State, IsLeft, walk_cells}
 use Rattle.world_containers.proofs.MutableIterationLemmas.{found_at, found_closed, found_filled, found_given, found_sole, found_value, given_at, never_refused, visited}
 use Rattle.world_containers.proofs.bag.IterMut.next.Goals as goal
 

@@ -1,7 +1,4 @@
-use Rattle.std.proofs.Common.{◌∙◌, ◌⊎◌, Some, arith, sym, subst}
-use Rattle.sdd_world.specs.State.{State, NoneFree, NoCellFree}
-use Rattle.world_containers.specs.Bags.{bag_cells}
-use Rattle.sdd_lists.proofs.ChainLemmas.{stays_then}
+use Rattle.world_containers.proofs.Names.{◌∙◌, ◌⊎◌, Some, arith, sym, subst, State, NoneFree, NoCellFree, bag_cells, stays_then}
 use Rattle.world_containers.proofs.FromIterLemmas.{bag_start, bag_next, bag_same}
 use Rattle.world_containers.proofs.world.bag.from_iter.Goals as goal
 

@@ -1,5 +1,4 @@
-use Rattle.std.proofs.Common.{◌≡◌}
-use Rattle.world_containers.specs.Bags.{bag_cells}
+use Rattle.world_containers.proofs.Names.{◌≡◌, bag_cells}
 use Rattle.world_containers.proofs.FromIterLemmas.{BuiltBag}
 use Rattle.world_containers.proofs.world.bag.from_iter.Given as goal
 

@@ -1,5 +1,4 @@
-use Rattle.std.proofs.Common.{arith, refl}
-use Rattle.std.proofs.lemmas.Bool.{false≢true}
+use Rattle.world_containers.proofs.Names.{arith, refl, false≢true}
 use Rattle.world_containers.proofs.BagLemmas.{cells_there, row_none, row_some, both_none}
 use Rattle.world_containers.proofs.world.bag.is_empty.Goals as goal
 

@@ -1,4 +1,4 @@
-use Rattle.std.proofs.Common.{◌∙◌, ◌∷◌}
+use Rattle.world_containers.proofs.Names.{◌∙◌, ◌∷◌}
 use Rattle.world_containers.proofs.BagLemmas.{bag_row, bag_size, bag_undeleted}
 use Rattle.world_containers.proofs.world.bag.len.Goals as goal
 

@@ -1,5 +1,4 @@
-use Rattle.std.proofs.Common.{map, []}
-use Rattle.sdd_world.specs.Tokens.{shared_cell}
+use Rattle.world_containers.proofs.Names.{map, [], shared_cell}
 use Rattle.world_containers.proofs.BagInitLemmas.{claimed_leaves, claimed_free}
 use Rattle.world_containers.proofs.BagLemmas.{claimed_bag}
 use Rattle.world_containers.proofs.world.bag.new.Goals as goal

@@ -1,5 +1,4 @@
-use Rattle.std.proofs.Common.{arith}
-use Rattle.sdd_world.specs.Tokens.{shared_cell}
+use Rattle.world_containers.proofs.Names.{arith, shared_cell}
 use Rattle.world_containers.proofs.RowLemmas.{numbered}
 use Rattle.world_containers.proofs.BagLemmas.{cells_there, hangs_there, bag_taken, bag_left, bag_leaves_taken, row_none}
 use Rattle.world_containers.proofs.world.bag.pop.Goals as goal

@@ -1,10 +1,6 @@
-use Rattle.std.proofs.Common.{refl, ◌∙◌, subst, arith, ◌++◌, List, [], map}
+use Rattle.world_containers.proofs.Names.{refl, ◌∙◌, subst, arith, ◌++◌, List, [], map, shared_cell, Entry, IsBag, Removes, stays_then, stays_refl}
 use denote.Param.Always.{mut_next}
 use denote.Param.Members.{Called}
-use Rattle.sdd_world.specs.Tokens.{shared_cell}
-use Rattle.sdd_lists.specs.Chain.{Entry}
-use Rattle.world_containers.specs.Bags.{IsBag, Removes}
-use Rattle.sdd_lists.proofs.ChainLemmas.{stays_then, stays_refl}
 use Rattle.world_containers.proofs.FoldLemmas.{popped_start, popped_next, popped_all, popped_none}
 use Rattle.world_containers.proofs.world.bag.pop_all.Goals as goal
 

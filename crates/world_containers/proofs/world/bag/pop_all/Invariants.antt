@@ -1,7 +1,4 @@
-use Rattle.std.proofs.Common.{◌≡◌, List, map}
-use Rattle.sdd_world.specs.Tokens.{shared_cell}
-use Rattle.sdd_lists.specs.Chain.{Entry, Stays}
-use Rattle.world_containers.specs.Bags.{IsBag, IsSomeBag}
+use Rattle.world_containers.proofs.Names.{◌≡◌, List, map, shared_cell, Entry, Stays, IsBag, IsSomeBag}
 use Rattle.world_containers.proofs.FoldLemmas.{Popped}
 use denote.Param.Members.{Called}
 use Rattle.world_containers.proofs.world.bag.pop_all.Given as goal

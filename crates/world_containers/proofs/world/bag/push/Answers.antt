@@ -1,5 +1,4 @@
-use Rattle.std.proofs.Common.{refl}
-use Rattle.sdd_world.specs.Tokens.{shared_cell}
+use Rattle.world_containers.proofs.Names.{refl, shared_cell}
 use Rattle.world_containers.proofs.RowLemmas.{numbered}
 use Rattle.world_containers.proofs.BagLemmas.{cells_there, stack_there, bag_leaves, bag_either, bag_overflow, bag_list, some_cell}
 use Rattle.world_containers.proofs.world.bag.push.Goals as goal

@@ -1,11 +1,5 @@
-use Rattle.std.proofs.Common.{sym, subst, List, ◌++◌, ◌∷◌, map}
-use Rattle.sdd_world.specs.State.{State}
-use Rattle.sdd_world.specs.Tokens.{shared_cell}
-use Rattle.sdd_lists.specs.Chain.{Entry, Leaves, links, slots}
-use Rattle.sdd_lists.specs.Entries.{entry_link}
-use Rattle.world_containers.specs.Bags.{AreFreeCells}
+use Rattle.world_containers.proofs.Names.{sym, subst, List, ◌++◌, ◌∷◌, map, State, shared_cell, Entry, Leaves, links, slots, entry_link, AreFreeCells, leaves_then}
 use Rattle.world_containers.proofs.BagLemmas.{bag_row, bag_enough}
-use Rattle.sdd_lists.proofs.ChainLemmas.{leaves_then}
 use Rattle.world_containers.proofs.RowLemmas.{out_append}
 use Rattle.world_containers.proofs.BagInitLemmas.{row_empty, freed_free, freed_leaves}
 use Rattle.world_containers.proofs.world.bag.retire.Goals as goal

@@ -1,5 +1,4 @@
-use Rattle.std.proofs.Common.{inl}
-use Rattle.sdd_world.specs.Tokens.{shared_cell}
+use Rattle.world_containers.proofs.Names.{inl, shared_cell}
 use Rattle.world_containers.proofs.RowLemmas.{numbered}
 use Rattle.world_containers.proofs.BagLemmas.{cells_there, stack_there, bag_leaves, bag_primary, bag_list, row_full}
 use Rattle.world_containers.proofs.world.bag.try_push.Goals as goal

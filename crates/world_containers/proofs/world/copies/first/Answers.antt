@@ -1,6 +1,4 @@
-use Rattle.std.proofs.Common.{◌∙◌, subst, Bool}
-use Rattle.sdd_world.specs.Tokens.{link_cell, shared_cell}
-use Rattle.sdd_lists.specs.Chain.{BeginsWithItem}
+use Rattle.world_containers.proofs.Names.{◌∙◌, subst, Bool, link_cell, shared_cell, BeginsWithItem}
 use Rattle.world_containers.proofs.FromIterLemmas.{copies_gone, copies_kept, cant_copy}
 use Rattle.world_containers.proofs.world.copies.first.Goals as goal
 

@@ -1,10 +1,5 @@
-use Rattle.std.proofs.Common.{◌∙◌, sym, subst, ap, ℕ, Some}
-use Rattle.sdd_world.specs.Tokens.{shared_cell}
-use Rattle.sdd_lists.specs.Chain.{IsList, Hangs, skip}
-use Rattle.sdd_lists.specs.Entries.{entry_link, entry_value}
+use Rattle.world_containers.proofs.Names.{◌∙◌, sym, subst, ap, ℕ, Some, shared_cell, IsList, Hangs, skip, entry_link, entry_value, behind, some_skipped, none_skipped}
 use Rattle.world_containers.specs.Iters.{first_value, rest_of}
-use Rattle.sdd_lists.proofs.WalkLemmas.{behind}
-use Rattle.sdd_lists.proofs.ListHeadLemmas.{some_skipped, none_skipped}
 use Rattle.sdd_lists.proofs.FirstLemmas.{undeleted_skip}
 use Rattle.world_containers.proofs.world.iter.next.Goals as goal
 

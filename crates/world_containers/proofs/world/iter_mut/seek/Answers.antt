@@ -1,6 +1,4 @@
-use Rattle.std.proofs.Common.{◌<◌, arith, drop, inl, map, length, ◌∙◌, true, refl}
-use Rattle.std.proofs.lemmas.List.{length-map}
-use Rattle.sdd_world.specs.Tokens.{link_cell, shared_cell}
+use Rattle.world_containers.proofs.Names.{◌<◌, arith, drop, inl, map, length, ◌∙◌, true, refl, length-map, link_cell, shared_cell}
 use Rattle.world_containers.proofs.RowLemmas.{numbered, null_at}
 use Rattle.world_containers.proofs.MutableIterationLemmas.{left_shared, pass_on, none_after}
 use Rattle.world_containers.proofs.world.iter_mut.seek.Goals as goal

@@ -1,7 +1,4 @@
-use Rattle.std.proofs.Common.{List, ◌∷◌, drop, map}
-use Rattle.sdd_world.specs.Tokens.{link_cell, shared_cell}
-use Rattle.sdd_lists.specs.Chain.{Entry}
-use Rattle.world_containers.specs.MutableIteration.{IsLeft}
+use Rattle.world_containers.proofs.Names.{List, ◌∷◌, drop, map, link_cell, shared_cell, Entry, IsLeft}
 use Rattle.world_containers.proofs.world.iter_mut.seek.Given as goal
 
 abbrev pub invariant-loop-next : goal.invariant-loop-next

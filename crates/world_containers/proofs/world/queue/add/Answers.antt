@@ -1,7 +1,4 @@
-use Rattle.std.proofs.Common.{◌∷◌, refl}
-use Rattle.sdd_lists.specs.Chain.{links, slots}
-use Rattle.sdd_lists.specs.Entries.{entry_link}
-use Rattle.world_containers.specs.Queues.{oldest_cell, newest_cell}
+use Rattle.world_containers.proofs.Names.{◌∷◌, refl, links, slots, entry_link, oldest_cell, newest_cell}
 use Rattle.world_containers.proofs.QueueLemmas.{queue_left, new_follows, can_follow, append_leaves}
 use Rattle.world_containers.proofs.world.queue.add.Goals as goal
 

@@ -1,14 +1,7 @@
-use Rattle.std.proofs.Common.{◌≡◌, ◌∙◌, ◌++◌, ◌⊎◌, ℕ, List, [], Option, MatchOption, ap, sym, subst, arith, get_or}
-use Rattle.sdd_world.specs.State.{State, NoneFree, NoCellFree, ParticipantState, nobody}
-use Rattle.sdd_world.specs.Tokens.{link_cell, shared_cell}
+use Rattle.world_containers.proofs.Names.{◌≡◌, ◌∙◌, ◌++◌, ◌⊎◌, ℕ, List, [], Option, MatchOption, ap, sym, subst, arith, get_or, State, NoneFree, NoCellFree, ParticipantState, nobody, link_cell, shared_cell, undeleted, entry_link, entry_value, oldest_cell, newest_cell, stays_then, hung_length}
 use Rattle.sdd_world.specs.declared.tag.Tag.TheVariants as tag
-use Rattle.sdd_lists.specs.Chain.{undeleted}
-use Rattle.sdd_lists.specs.Entries.{entry_link, entry_value}
-use Rattle.world_containers.specs.Queues.{oldest_cell, newest_cell}
 use Rattle.world_containers.specs.FromIter.{FillsQueue, Copies, entry_values}
-use Rattle.sdd_lists.proofs.ChainLemmas.{stays_then}
 use Rattle.world_containers.proofs.QueueLemmas.{queue_left}
-use Rattle.sdd_lists.proofs.WalkLemmas.{hung_length}
 use Rattle.world_containers.proofs.FromIterLemmas.{given, Copying, queue_start, queue_next, queue_same, copy_start, copy_next, copying_now, copied_all, copied_end, stopped_at, copied_kept, memory_not, place_not}
 use Rattle.world_containers.proofs.world.queue.clone.Goals as goal
 

@@ -1,9 +1,5 @@
-use Rattle.std.proofs.Common.{List}
+use Rattle.world_containers.proofs.Names.{List, link_cell, Entry, entry_link, IsQueue, oldest_cell, newest_cell}
 use Rattle.sdd_world.specs.Frame.{OnlyParticipant}
-use Rattle.sdd_world.specs.Tokens.{link_cell}
-use Rattle.sdd_lists.specs.Chain.{Entry}
-use Rattle.sdd_lists.specs.Entries.{entry_link}
-use Rattle.world_containers.specs.Queues.{IsQueue, oldest_cell, newest_cell}
 use Rattle.world_containers.proofs.FromIterLemmas.{BuiltQueue, Copying}
 use Rattle.world_containers.proofs.world.queue.clone.Given as goal
 

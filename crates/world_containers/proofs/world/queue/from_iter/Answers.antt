@@ -1,7 +1,4 @@
-use Rattle.std.proofs.Common.{◌∙◌, ◌⊎◌, List, Option, ap, sym, subst, arith, get_or}
-use Rattle.sdd_world.specs.State.{State, NoneFree, NoCellFree, ParticipantState, nobody}
-use Rattle.world_containers.specs.Queues.{oldest_cell, newest_cell}
-use Rattle.sdd_lists.proofs.ChainLemmas.{stays_then}
+use Rattle.world_containers.proofs.Names.{◌∙◌, ◌⊎◌, List, Option, ap, sym, subst, arith, get_or, State, NoneFree, NoCellFree, ParticipantState, nobody, oldest_cell, newest_cell, stays_then}
 use Rattle.world_containers.proofs.FromIterLemmas.{queue_start, queue_more, queue_same}
 use Rattle.world_containers.proofs.world.queue.from_iter.Goals as goal
 

@@ -1,5 +1,5 @@
 use Rattle.sdd_world.specs.Frame.{OnlyParticipant}
-use Rattle.world_containers.specs.Queues.{oldest_cell, newest_cell}
+use Rattle.world_containers.proofs.Names.{oldest_cell, newest_cell}
 use Rattle.world_containers.proofs.FromIterLemmas.{BuiltQueue}
 use Rattle.world_containers.proofs.world.queue.from_iter.Given as goal
 

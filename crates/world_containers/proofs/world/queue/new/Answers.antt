@@ -1,9 +1,6 @@
-use Rattle.std.proofs.Common.{◌∙◌, ap, None}
-use Rattle.sdd_world.specs.State.{State, with_cell}
-use Rattle.sdd_world.specs.Tokens.{shared_cell}
+use Rattle.world_containers.proofs.Names.{◌∙◌, ap, None, State, with_cell, shared_cell, freed_again}
 use Rattle.sdd_world.specs.declared.tag.Tag.TheVariants as tag
 use Rattle.sdd_world.specs.declared.status.Cell.TheVariants as cell
-use Rattle.sdd_lists.proofs.ChainLemmas.{freed_again}
 use Rattle.world_containers.proofs.QueueLemmas.{one_cell}
 use Rattle.world_containers.proofs.world.queue.new.Goals as goal
 

@@ -1,12 +1,5 @@
-use Rattle.std.proofs.Common.{[], ◌∙◌, sym, subst, ℕ}
-use Rattle.std.proofs.lemmas.Bool.{false≢true}
-use Rattle.sdd_world.specs.Place.{IsShared}
+use Rattle.world_containers.proofs.Names.{[], ◌∙◌, sym, subst, ℕ, false≢true, IsShared, skip, entry_link, oldest_cell, newest_cell, last_slot, item_shared, took_some, took_nothing, some_skipped, none_skipped}
 use Rattle.sdd_world.specs.declared.tag.Tag.TheVariants as tag
-use Rattle.sdd_lists.specs.Chain.{skip}
-use Rattle.sdd_lists.specs.Entries.{entry_link}
-use Rattle.world_containers.specs.Queues.{oldest_cell, newest_cell, last_slot}
-use Rattle.sdd_lists.proofs.ChainLemmas.{item_shared}
-use Rattle.sdd_lists.proofs.ListHeadLemmas.{took_some, took_nothing, some_skipped, none_skipped}
 use Rattle.world_containers.proofs.QueueLemmas.{newest_live, forgot, emptied, emptied_leaves, head3, newest3, live3, settled}
 use Rattle.world_containers.proofs.world.queue.pop.Goals as goal
 

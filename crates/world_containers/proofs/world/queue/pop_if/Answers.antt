@@ -1,12 +1,7 @@
-use Rattle.std.proofs.Common.{◌≡◌, ◌∷◌, sym, subst, refl, Bool, Option, IfSome, false, true}
+use Rattle.world_containers.proofs.Names.{◌≡◌, ◌∷◌, sym, subst, refl, Bool, Option, IfSome, false, true, status_at, skip, undeleted, links, slots, oldest_cell, newest_cell, leaves_more, no_first}
 use Rattle.std.specs.Fn.{FnOnceReturnsAt}
 use Rattle.sdd_world.specs.declared.tag.Tag.TheVariants as tag
-use Rattle.sdd_world.specs.State.{status_at}
 use Rattle.sdd_world.specs.declared.status.Status.TheVariants as status
-use Rattle.sdd_lists.specs.Chain.{skip, undeleted, links, slots}
-use Rattle.world_containers.specs.Queues.{oldest_cell, newest_cell}
-use Rattle.sdd_lists.proofs.ChainLemmas.{leaves_more}
-use Rattle.sdd_lists.proofs.ListHeadLemmas.{no_first}
 use Rattle.sdd_lists.proofs.FirstLemmas.{undeleted_skip, not_empty}
 use Rattle.world_containers.proofs.world.queue.pop_if.Goals as goal
 

@@ -1,9 +1,4 @@
-use Rattle.std.proofs.Common.{List, [], ◌∷◌, ◌++◌, ◌∙◌, ap, sym, ℕ}
-use Rattle.sdd_world.specs.State.{vacancy, status_at}
-use Rattle.sdd_lists.specs.Chain.{Entry, links, slots}
-use Rattle.sdd_lists.specs.Entries.{entry_link}
-use Rattle.world_containers.specs.Queues.{IsQueue, oldest_cell, newest_cell}
-use Rattle.sdd_lists.proofs.ChainLemmas.{inside_states}
+use Rattle.world_containers.proofs.Names.{List, [], ◌∷◌, ◌++◌, ◌∙◌, ap, sym, ℕ, vacancy, status_at, Entry, links, slots, entry_link, IsQueue, oldest_cell, newest_cell, inside_states}
 use Rattle.world_containers.proofs.QueueLemmas.{queue_left, new_follows, can_follow, append_leaves}
 use Rattle.world_containers.proofs.world.queue.push.Goals as goal
 

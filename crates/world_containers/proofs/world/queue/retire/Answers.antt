@@ -1,11 +1,6 @@
-use Rattle.std.proofs.Common.{◌∷◌, ◌∙◌, ap, sym, subst, None}
+use Rattle.world_containers.proofs.Names.{◌∷◌, ◌∙◌, ap, sym, subst, None, State, IsFreeCell, cell_at, links, slots, Leaves, entry_link, oldest_cell, newest_cell, last_slot, cell_left, free_other, wrote_other, leaves_write}
 use Rattle.sdd_world.specs.declared.tag.Tag.TheVariants as tag
-use Rattle.sdd_world.specs.State.{State, IsFreeCell, cell_at}
 use Rattle.sdd_world.specs.declared.status.Cell.TheVariants as cell
-use Rattle.sdd_lists.specs.Chain.{links, slots, Leaves}
-use Rattle.sdd_lists.specs.Entries.{entry_link}
-use Rattle.world_containers.specs.Queues.{oldest_cell, newest_cell, last_slot}
-use Rattle.sdd_lists.proofs.ChainLemmas.{cell_left, free_other, wrote_other, leaves_write}
 use Rattle.world_containers.proofs.QueueLemmas.{newest_live, forgot, emptied_leaves}
 use Rattle.world_containers.proofs.world.queue.retire.Goals as goal
 

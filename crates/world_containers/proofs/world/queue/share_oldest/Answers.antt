@@ -1,13 +1,7 @@
-use Rattle.std.proofs.Common.{◌∙◌}
-use Rattle.sdd_world.specs.Tokens.{shared_slot}
+use Rattle.world_containers.proofs.Names.{◌∙◌, shared_slot, skip, entry_link, oldest_cell, newest_cell, first_skipped, first_use, more_shared}
 use Rattle.sdd_world.specs.declared.tag.Tag.TheVariants as tag
-use Rattle.sdd_lists.specs.Chain.{skip}
-use Rattle.sdd_lists.specs.Entries.{entry_link}
-use Rattle.world_containers.specs.Queues.{oldest_cell, newest_cell}
-use Rattle.sdd_lists.proofs.ListHeadLemmas.{first_skipped, first_use}
 use Rattle.sdd_lists.proofs.FirstLemmas.{skipped_leaves}
 use Rattle.world_containers.proofs.QueueLemmas.{skipped_queue, owned_queue, queue_back}
-use Rattle.sdd_lists.proofs.ReleaseLemmas.{more_shared}
 use Rattle.world_containers.proofs.world.queue.share_oldest.Goals as goal
 
 pub share_first-requires : goal.share_first-requires

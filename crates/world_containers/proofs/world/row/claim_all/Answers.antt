@@ -1,13 +1,7 @@
-use Rattle.std.proofs.Common.{◌≡◌, length-append, ◌∙◌, ap, sym, subst, arith, map, length, List, ◌++◌, ◌∷◌, [], None}
-use Rattle.std.proofs.lemmas.List.{length-map}
-use Rattle.sdd_world.specs.State.{State}
-use Rattle.sdd_world.specs.Tokens.{shared_cell}
-use Rattle.sdd_world.specs.declared.cell.AtomicShared.{AtomicShared}
+use Rattle.world_containers.proofs.Names.{◌≡◌, ◌∙◌, ap, sym, subst, arith, map, length, List, ◌++◌, ◌∷◌, [], None, length-map, State, shared_cell, AtomicShared, Stays, AreEmpty, IsClaimed, freed, stays_then, stays_write}
+use Rattle.std.proofs.Common.{length-append}
 use Rattle.sdd_world.specs.declared.tag.Tag.TheVariants as tag
 use Rattle.sdd_world.specs.declared.status.Cell.TheVariants as cell
-use Rattle.sdd_lists.specs.Chain.{Stays}
-use Rattle.world_containers.specs.Bags.{AreEmpty, IsClaimed, freed}
-use Rattle.sdd_lists.proofs.ChainLemmas.{stays_then, stays_write}
 use Rattle.world_containers.proofs.BagInitLemmas.{claimed_last, claimed_empty, claimed_freed, claimed_count, none_free}
 use Rattle.world_containers.proofs.world.row.claim_all.Goals as goal
 

@@ -1,8 +1,5 @@
-use Rattle.std.proofs.Common.{◌≡◌, ◌≤◌, length, map}
+use Rattle.world_containers.proofs.Names.{◌≡◌, ◌≤◌, length, map, shared_cell, Stays, IsClaimed}
 use Rattle.std.specs.Vec.{vec_capacity}
-use Rattle.sdd_world.specs.Tokens.{shared_cell}
-use Rattle.sdd_lists.specs.Chain.{Stays}
-use Rattle.world_containers.specs.Bags.{IsClaimed}
 use Rattle.world_containers.proofs.world.row.claim_all.Given as goal
 
 abbrev pub invariant-loop-made : goal.invariant-loop-made

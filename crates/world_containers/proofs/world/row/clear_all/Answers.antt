@@ -1,7 +1,4 @@
-use Rattle.std.proofs.Common.{refl, ◌∙◌, arith, length, map, ◌<◌}
-use Rattle.std.proofs.lemmas.List.{length-map}
-use Rattle.sdd_world.specs.Tokens.{shared_cell}
-use Rattle.sdd_lists.proofs.ChainLemmas.{stays_then, stays_refl}
+use Rattle.world_containers.proofs.Names.{refl, ◌∙◌, arith, length, map, ◌<◌, length-map, shared_cell, stays_then, stays_refl}
 use Rattle.world_containers.proofs.RowLemmas.{numbered, emptied_start, emptied_next, emptied_hangs, emptied_all}
 use Rattle.world_containers.proofs.world.row.clear_all.Goals as goal
 

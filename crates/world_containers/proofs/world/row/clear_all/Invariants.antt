@@ -1,8 +1,5 @@
-use Rattle.std.proofs.Common.{List, ◌<◌, ◌≤◌, length, map}
+use Rattle.world_containers.proofs.Names.{List, ◌<◌, ◌≤◌, length, map, shared_cell, Entry, Stays, IsRow}
 use Rattle.sdd_world.specs.Frame.{OnlyParticipant}
-use Rattle.sdd_world.specs.Tokens.{shared_cell}
-use Rattle.sdd_lists.specs.Chain.{Entry, Stays}
-use Rattle.world_containers.specs.Bags.{IsRow}
 use Rattle.world_containers.proofs.RowLemmas.{Emptied}
 use Rattle.world_containers.proofs.world.row.clear_all.Given as goal
 

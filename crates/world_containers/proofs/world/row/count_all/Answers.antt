@@ -1,6 +1,4 @@
-use Rattle.std.proofs.Common.{arith, ◌≡◌, ◌<◌, length, map}
-use Rattle.std.proofs.lemmas.List.{length-map}
-use Rattle.sdd_world.specs.Tokens.{shared_cell}
+use Rattle.world_containers.proofs.Names.{arith, ◌≡◌, ◌<◌, length, map, length-map, shared_cell}
 use Rattle.world_containers.proofs.RowLemmas.{numbered}
 use Rattle.world_containers.proofs.BagLenLemmas.{count_next, count_end, row_hangs}
 use Rattle.world_containers.proofs.world.row.count_all.Goals as goal

@@ -1,8 +1,4 @@
-use Rattle.std.proofs.Common.{◌≡◌, ◌+◌, List, length, map, drop}
-use Rattle.sdd_world.specs.State.{in_use}
-use Rattle.sdd_world.specs.Tokens.{shared_cell}
-use Rattle.sdd_lists.specs.Chain.{Entry, undeleted}
-use Rattle.world_containers.specs.Bags.{IsRow, joined}
+use Rattle.world_containers.proofs.Names.{◌≡◌, ◌+◌, List, length, map, drop, in_use, shared_cell, Entry, undeleted, IsRow, joined}
 use Rattle.world_containers.proofs.world.row.count_all.Given as goal
 
 abbrev pub invariant-loop-at : goal.invariant-loop-at

@@ -1,10 +1,5 @@
-use Rattle.std.proofs.Common.{◌∙◌, sym, subst, ap, map, List}
-use Rattle.sdd_world.specs.Tokens.{shared_cell}
-use Rattle.sdd_world.specs.State.{State}
-use Rattle.sdd_world.specs.declared.cell.AtomicShared.{AtomicShared}
+use Rattle.world_containers.proofs.Names.{◌∙◌, sym, subst, ap, map, List, shared_cell, State, AtomicShared, AreEmpty, freed, stays_then}
 use Rattle.sdd_world.specs.declared.tag.Tag.TheVariants as tag
-use Rattle.world_containers.specs.Bags.{AreEmpty, freed}
-use Rattle.sdd_lists.proofs.ChainLemmas.{stays_then}
 use Rattle.world_containers.proofs.RowLemmas.{freed_last, empty_last}
 use Rattle.world_containers.proofs.world.row.end_all.Goals as goal
 

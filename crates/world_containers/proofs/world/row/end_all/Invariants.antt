@@ -1,7 +1,4 @@
-use Rattle.std.proofs.Common.{◌≡◌, map}
-use Rattle.sdd_world.specs.Tokens.{shared_cell}
-use Rattle.sdd_lists.specs.Chain.{Stays}
-use Rattle.world_containers.specs.Bags.{AreEmpty, freed}
+use Rattle.world_containers.proofs.Names.{◌≡◌, map, shared_cell, Stays, AreEmpty, freed}
 use Rattle.world_containers.proofs.world.row.end_all.Given as goal
 
 abbrev pub invariant-loop-cell : goal.invariant-loop-cell

@@ -1,7 +1,4 @@
-use Rattle.std.proofs.Common.{ℕ, ◌<◌, arith, subst, sym, inl, inr, not, length}
-use Rattle.std.proofs.lemmas.Bool.{cases_eq}
-use Rattle.sdd_world.specs.Place.{IsSharedCell}
-use Rattle.world_containers.specs.Bags.{IsNull, cell_of}
+use Rattle.world_containers.proofs.Names.{ℕ, ◌<◌, arith, subst, sym, inl, inr, not, length, cases_eq, IsSharedCell, IsNull, cell_of}
 use Rattle.world_containers.proofs.RowLemmas.{numbered, null_at, told_not}
 use Rattle.world_containers.proofs.world.row.find.Goals as goal
 

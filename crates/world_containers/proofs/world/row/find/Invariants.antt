@@ -1,5 +1,4 @@
-use Rattle.std.proofs.Common.{ℕ, ◌<◌, ◌≤◌, not}
-use Rattle.world_containers.specs.Bags.{IsNull, cell_of}
+use Rattle.world_containers.proofs.Names.{ℕ, ◌<◌, ◌≤◌, not, IsNull, cell_of}
 use Rattle.world_containers.proofs.world.row.find.Given as goal
 
 abbrev pub invariant-loop-at : goal.invariant-loop-at

@@ -1,11 +1,6 @@
-use Rattle.std.proofs.Common.{◌≡◌, List, [], ◌∷◌, refl, subst, ℕ}
-use Rattle.sdd_world.specs.State.{status_at}
+use Rattle.world_containers.proofs.Names.{◌≡◌, List, [], ◌∷◌, refl, subst, ℕ, status_at, shared_cell, Entry, IsStack, can_hang, still_hung, new_fits, put_leaves, same_use}
 use Rattle.sdd_world.specs.declared.status.Status.TheVariants as status
-use Rattle.sdd_world.specs.Tokens.{shared_cell}
 use Rattle.sdd_world.specs.declared.tag.Tag.TheVariants as tag
-use Rattle.sdd_lists.specs.Chain.{Entry}
-use Rattle.world_containers.specs.Stacks.{IsStack}
-use Rattle.sdd_lists.proofs.ListHeadLemmas.{can_hang, still_hung, new_fits, put_leaves, same_use}
 use Rattle.world_containers.proofs.world.row.put.Goals as goal
 
 pub put_first-requires : goal.put_first-requires

@@ -1,4 +1,4 @@
-use Rattle.sdd_world.specs.Tokens.{link_cell, shared_cell, shared_slot}
+use Rattle.world_containers.proofs.Names.{link_cell, shared_cell, shared_slot}
 use Rattle.world_containers.proofs.FromIterLemmas.{last_hangs, last_leaves, extends_last}
 use Rattle.world_containers.proofs.world.stack.add_last.Goals as goal
 

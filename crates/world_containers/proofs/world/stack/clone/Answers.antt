@@ -1,14 +1,6 @@
-use Rattle.std.proofs.Common.{◌≡◌, ◌∙◌, ◌++◌, ◌⊎◌, ℕ, List, [], Option, MatchOption, sym, subst, arith}
-use Rattle.sdd_world.specs.State.{State, NoneFree, NoCellFree}
-use Rattle.sdd_world.specs.Tokens.{link_cell, shared_cell}
+use Rattle.world_containers.proofs.Names.{◌≡◌, ◌∙◌, ◌++◌, ◌⊎◌, ℕ, List, [], Option, MatchOption, sym, subst, arith, State, NoneFree, NoCellFree, link_cell, shared_cell, undeleted, entry_link, entry_value, stack_cell, stays_then, still_hung, hung_length}
 use Rattle.sdd_world.specs.declared.tag.Tag.TheVariants as tag
-use Rattle.sdd_lists.specs.Chain.{undeleted}
-use Rattle.sdd_lists.specs.Entries.{entry_link, entry_value}
-use Rattle.world_containers.specs.Stacks.{stack_cell}
 use Rattle.world_containers.specs.FromIter.{FillsStack, Copies, entry_values}
-use Rattle.sdd_lists.proofs.ChainLemmas.{stays_then}
-use Rattle.sdd_lists.proofs.ListHeadLemmas.{still_hung}
-use Rattle.sdd_lists.proofs.WalkLemmas.{hung_length}
 use Rattle.world_containers.proofs.FromIterLemmas.{given, Copying, grown_start, stack_next, stack_same, copy_start, copy_next, copying_now, copied_all, copied_end, stopped_at, copied_kept, memory_not, place_not}
 use Rattle.world_containers.proofs.world.stack.clone.Goals as goal
 

@@ -1,7 +1,4 @@
-use Rattle.std.proofs.Common.{◌≡◌, List}
-use Rattle.sdd_world.specs.Tokens.{link_cell}
-use Rattle.sdd_lists.specs.Chain.{Entry}
-use Rattle.world_containers.specs.Stacks.{IsStack, stack_cell}
+use Rattle.world_containers.proofs.Names.{◌≡◌, List, link_cell, Entry, IsStack, stack_cell}
 use Rattle.world_containers.proofs.FromIterLemmas.{GrownStack, Copying}
 use Rattle.world_containers.proofs.world.stack.clone.Given as goal
 

@@ -1,7 +1,4 @@
-use Rattle.std.proofs.Common.{◌∙◌, ◌⊎◌, Some, sym, subst, reverse}
-use Rattle.sdd_world.specs.State.{State, NoneFree, NoCellFree}
-use Rattle.world_containers.specs.Stacks.{stack_cell}
-use Rattle.sdd_lists.proofs.ChainLemmas.{stays_then}
+use Rattle.world_containers.proofs.Names.{◌∙◌, ◌⊎◌, Some, sym, subst, reverse, State, NoneFree, NoCellFree, stack_cell, stays_then}
 use Rattle.world_containers.proofs.FromIterLemmas.{stack_start, stack_behind, stack_same}
 use Rattle.world_containers.proofs.world.stack.from_iter.Goals as goal
 

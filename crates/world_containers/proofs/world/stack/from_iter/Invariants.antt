@@ -1,5 +1,4 @@
-use Rattle.std.proofs.Common.{◌≡◌, reverse}
-use Rattle.world_containers.specs.Stacks.{stack_cell}
+use Rattle.world_containers.proofs.Names.{◌≡◌, reverse, stack_cell}
 use Rattle.world_containers.proofs.FromIterLemmas.{BuiltStack}
 use Rattle.world_containers.proofs.world.stack.from_iter.Given as goal
 

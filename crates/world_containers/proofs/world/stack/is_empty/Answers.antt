@@ -1,10 +1,5 @@
-use Rattle.std.proofs.Common.{ap}
-use Rattle.sdd_world.specs.Tokens.{shared_cell}
+use Rattle.world_containers.proofs.Names.{ap, shared_cell, entry_link, skip, first_slot, head_cell, skipped_first, first_none}
 use Rattle.sdd_world.specs.declared.tag.Tag.TheVariants as tag
-use Rattle.sdd_lists.specs.Entries.{entry_link}
-use Rattle.sdd_lists.specs.Chain.{skip, first_slot}
-use Rattle.sdd_lists.proofs.ChainLemmas.{head_cell}
-use Rattle.sdd_lists.proofs.ListHeadLemmas.{skipped_first, first_none}
 use Rattle.world_containers.proofs.world.stack.is_empty.Goals as goal
 
 pub is_null-requires : goal.is_null-requires

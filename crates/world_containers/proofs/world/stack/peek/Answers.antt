@@ -1,11 +1,6 @@
-use Rattle.std.proofs.Common.{◌∙◌, sym}
-use Rattle.sdd_world.specs.Tokens.{shared_cell}
+use Rattle.world_containers.proofs.Names.{◌∙◌, sym, shared_cell, entry_link, skip, head_cell, kept_same, kept_tag, skipped_first}
 use Rattle.sdd_world.specs.declared.tag.Tag.TheVariants as tag
-use Rattle.sdd_lists.specs.Entries.{entry_link}
-use Rattle.sdd_lists.specs.Chain.{skip}
-use Rattle.sdd_lists.proofs.ChainLemmas.{head_cell, kept_same, kept_tag}
 use Rattle.sdd_lists.proofs.NodeLemmas.{hung_node, hung_listed}
-use Rattle.sdd_lists.proofs.ListHeadLemmas.{skipped_first}
 use Rattle.world_containers.proofs.world.stack.peek.Goals as goal
 
 pub load-requires-after_bounds : goal.load-requires-after_bounds

@@ -1,11 +1,5 @@
-use Rattle.std.proofs.Common.{◌∷◌, [], sym, subst, ℕ, refl}
-use Rattle.sdd_world.specs.Tokens.{shared_cell}
-use Rattle.sdd_world.specs.Place.{IsShared}
+use Rattle.world_containers.proofs.Names.{◌∷◌, [], sym, subst, ℕ, refl, shared_cell, IsShared, entry_link, skip, links, slots, item_shared, leaves_then, leaves_more, took_some, took_nothing, popped_left, popped_gone, popped_leaves, some_skipped, none_skipped}
 use Rattle.sdd_world.specs.declared.tag.Tag.TheVariants as tag
-use Rattle.sdd_lists.specs.Entries.{entry_link}
-use Rattle.sdd_lists.specs.Chain.{skip, links, slots}
-use Rattle.sdd_lists.proofs.ChainLemmas.{item_shared, leaves_then, leaves_more}
-use Rattle.sdd_lists.proofs.ListHeadLemmas.{took_some, took_nothing, popped_left, popped_gone, popped_leaves, some_skipped, none_skipped}
 use Rattle.world_containers.proofs.world.stack.pop.Goals as goal
 
 pub take_first-requires : goal.take_first-requires

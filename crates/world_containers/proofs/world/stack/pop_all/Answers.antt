@@ -1,8 +1,5 @@
-use Rattle.std.proofs.Common.{[]}
-use Rattle.sdd_world.specs.Tokens.{shared_cell}
+use Rattle.world_containers.proofs.Names.{[], shared_cell, entry_link, moving_cell, moving_empty, moved_all, moved_from, moved_leaves}
 use Rattle.sdd_world.specs.declared.tag.Tag.TheVariants as tag
-use Rattle.sdd_lists.specs.Entries.{entry_link}
-use Rattle.sdd_lists.proofs.ListHeadLemmas.{moving_cell, moving_empty, moved_all, moved_from, moved_leaves}
 use Rattle.world_containers.proofs.world.stack.pop_all.Goals as goal
 
 pub take-first-requires : goal.take-first-requires

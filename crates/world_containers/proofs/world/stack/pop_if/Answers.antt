@@ -1,14 +1,7 @@
-use Rattle.std.proofs.Common.{◌≡◌, ◌∙◌, ◌+◌, arith, sym, ap, subst, Bool, Option, IfSome, false, true}
+use Rattle.world_containers.proofs.Names.{◌≡◌, ◌∙◌, ◌+◌, arith, sym, ap, subst, Bool, Option, IfSome, false, true, status_at, skip, undeleted, first_item, shared_slot, entry_link, stack_cell, more_shared, spare_owner, first_skipped, first_use, no_first}
 use Rattle.std.specs.Fn.{FnOnceReturnsAt}
 use Rattle.sdd_world.specs.declared.tag.Tag.TheVariants as tag
-use Rattle.sdd_world.specs.State.{status_at}
 use Rattle.sdd_world.specs.declared.status.Status.TheVariants as status
-use Rattle.sdd_lists.specs.Chain.{skip, undeleted, first_item}
-use Rattle.sdd_world.specs.Tokens.{shared_slot}
-use Rattle.sdd_lists.specs.Entries.{entry_link}
-use Rattle.world_containers.specs.Stacks.{stack_cell}
-use Rattle.sdd_lists.proofs.ReleaseLemmas.{more_shared, spare_owner}
-use Rattle.sdd_lists.proofs.ListHeadLemmas.{first_skipped, first_use, no_first}
 use Rattle.sdd_lists.proofs.FirstLemmas.{undeleted_skip, not_empty, skipped_leaves}
 use Rattle.world_containers.proofs.world.stack.pop_if.Goals as goal
 

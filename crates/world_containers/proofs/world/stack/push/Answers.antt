@@ -1,12 +1,5 @@
-use Rattle.std.proofs.Common.{List, [], ◌∷◌, ◌∙◌, sym, subst, ℕ}
-use Rattle.sdd_world.specs.Tokens.{shared_cell}
-use Rattle.sdd_world.specs.Place.{IsShared}
+use Rattle.world_containers.proofs.Names.{List, [], ◌∷◌, ◌∙◌, sym, subst, ℕ, shared_cell, IsShared, Entry, IsStack, entry_link, item_shared, can_hang, still_hung, new_fits, put_leaves, same_use}
 use Rattle.sdd_world.specs.declared.tag.Tag.TheVariants as tag
-use Rattle.sdd_lists.specs.Chain.{Entry}
-use Rattle.world_containers.specs.Stacks.{IsStack}
-use Rattle.sdd_lists.specs.Entries.{entry_link}
-use Rattle.sdd_lists.proofs.ChainLemmas.{item_shared}
-use Rattle.sdd_lists.proofs.ListHeadLemmas.{can_hang, still_hung, new_fits, put_leaves, same_use}
 use Rattle.world_containers.proofs.world.stack.push.Goals as goal
 
 pub put_first-requires : goal.put_first-requires

@@ -1,10 +1,6 @@
-use Rattle.std.proofs.Common.{◌∷◌, sym, subst}
-use Rattle.sdd_world.specs.State.{State}
-use Rattle.sdd_world.specs.Tokens.{shared_cell}
+use Rattle.world_containers.proofs.Names.{◌∷◌, sym, subst, State, shared_cell, links, slots, Leaves, leaves_write}
 use Rattle.sdd_world.specs.declared.tag.Tag.TheVariants as tag
 use Rattle.sdd_world.specs.declared.status.Cell.TheVariants as cell
-use Rattle.sdd_lists.specs.Chain.{links, slots, Leaves}
-use Rattle.sdd_lists.proofs.ChainLemmas.{leaves_write}
 use Rattle.world_containers.proofs.world.stack.retire.Goals as goal
 
 pub end-requires : goal.end-requires

@@ -1,11 +1,6 @@
-use Rattle.std.proofs.Common.{◌∙◌, ap, sym, subst, Some, ℕ}
-use Rattle.sdd_world.specs.State.{State, with_cell}
-use Rattle.sdd_world.specs.Tokens.{shared_cell, shared_slots}
+use Rattle.world_containers.proofs.Names.{◌∙◌, ap, sym, subst, Some, ℕ, State, with_cell, shared_cell, shared_slots, Stays, stays_then, stays_write, stays_released}
 use Rattle.sdd_world.specs.declared.tag.Tag.TheVariants as tag
 use Rattle.sdd_world.specs.declared.status.Cell.TheVariants as cell
-use Rattle.sdd_lists.specs.Chain.{Stays}
-use Rattle.sdd_lists.proofs.ChainLemmas.{stays_then, stays_write}
-use Rattle.sdd_lists.proofs.ReleaseLemmas.{stays_released}
 use Rattle.world_containers.proofs.QueueTailLemmas.{was_none, was_some, first_fits, first_appended, last_linked, last_fits, last_shared, last_appended}
 use Rattle.world_containers.proofs.world.tail.append.Goals as goal
 

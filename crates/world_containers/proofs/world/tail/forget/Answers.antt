@@ -1,13 +1,6 @@
-use Rattle.std.proofs.Common.{◌≡◌, ◌∙◌, ap, sym, subst, Option, ℕ}
-use Rattle.sdd_world.specs.State.{State}
-use Rattle.sdd_world.specs.Steps.{released}
-use Rattle.sdd_world.specs.Place.{IsShared}
-use Rattle.sdd_world.specs.Tokens.{shared_cell}
+use Rattle.world_containers.proofs.Names.{◌≡◌, ◌∙◌, ap, sym, subst, Option, ℕ, State, released, IsShared, shared_cell, cell_vacated, stays_then, shared_write, stays_released}
 use Rattle.sdd_world.specs.declared.tag.Tag.TheVariants as tag
 use Rattle.sdd_world.specs.declared.status.Cell.TheVariants as cell
-use Rattle.world_containers.specs.Queues.{cell_vacated}
-use Rattle.sdd_lists.proofs.ChainLemmas.{stays_then, shared_write}
-use Rattle.sdd_lists.proofs.ReleaseLemmas.{stays_released}
 use Rattle.world_containers.proofs.world.tail.forget.Goals as goal
 
 pub release-requires-clause-live : goal.release-requires-clause-live

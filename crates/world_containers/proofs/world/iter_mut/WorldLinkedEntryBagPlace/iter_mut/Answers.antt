@@ -1,5 +1,4 @@
-use Rattle.std.proofs.Common.{◌++◌, ◌∙◌, refl}
-use Rattle.std.proofs.lemmas.Bool.{false≢true}
+use Rattle.world_containers.proofs.Names.{◌++◌, ◌∙◌, refl, false≢true}
 use Rattle.world_containers.proofs.BagLemmas.{some_cell}
 use Rattle.world_containers.proofs.RowLemmas.{numbered}
 use Rattle.world_containers.proofs.MutableIterationLemmas.{found_shut, walk_begins}

@@ -1,11 +1,4 @@
-use Rattle.std.proofs.Common.{◌≡◌, ℕ, [], ◌∷◌, ◌⊎◌, drop, map, refl, sym, subst, ◌∙◌, inl, inr, arith, false}
-use Rattle.std.proofs.lemmas.List.{length-map, drop_all}
-use Rattle.sdd_world.specs.Tokens.{link_cell, shared_cell}
-use Rattle.world_containers.specs.Bags.{IsNull}
-use Rattle.sdd_lists.specs.Chain.{IsList}
-use Rattle.sdd_lists.specs.Entries.{entry_link}
-use Rattle.world_containers.specs.MutableIteration.{IsLeft, Finds}
-use Rattle.sdd_lists.proofs.ChainLemmas.{head_cell, hung_there, starts, starts_not, starts_link}
+use Rattle.world_containers.proofs.Names.{◌≡◌, ℕ, [], ◌∷◌, ◌⊎◌, drop, map, refl, sym, subst, ◌∙◌, inl, inr, arith, false, length-map, drop_all, link_cell, shared_cell, IsNull, IsList, entry_link, IsLeft, Finds, head_cell, hung_there, starts, starts_not, starts_link}
 use Rattle.world_containers.proofs.MutableIterationLemmas.{hangs_at, left_none, find_first}
 use Rattle.world_containers.proofs.world.iter_mut.WorldLinkedEntryWalkedPlace.next_stop.Goals as goal
 
