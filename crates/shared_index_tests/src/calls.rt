@@ -1,40 +1,26 @@
 //! Each call of an index of numbers, of its sessions and of its place, in one function: the proof of a call at these types is
 //! long.
 
-ghost use Rattle.std.specs.Prelude.{◌≡◌, ◌+◌, ◌<◌, ◌≤◌, IfErr, IfNone, IfOk, IfSome, OnErr, OnOk};
-ghost use Rattle.sdd_domain.specs.Layout.{IsSized};
+ghost use Rattle.std.specs.Prelude.{◌≡◌, ◌+◌, IfNone, IfOk, IfSome, OnErr, OnOk};
 ghost use Rattle.sdd_domain.specs.Tokens.{place_of, home_of, own_of, nest_in, IsSame};
 ghost use Rattle.shared_index.specs.SharedInvariant.{IsUnengaged};
-ghost use Rattle.shared_index_tests.specs.Scenes.{CanBegin};
 
-use crate::place::{Item, member};
+use crate::place::member;
+use crate::stage::Item;
 use sdd_domain::domain::Domain;
 use sdd_domain::local::Local;
-use sdd_plain::sizes::Sizes;
 use serial_history::{Accepted, Answer, Audit, CheckpointRefused, Query, Receipt, Refused};
-use shared_index::{
-    BaseList, FeedRefused, Naming, NewRefused, Share, SharedBaseRefused, SharedIndex,
-};
+use shared_index::{BaseList, FeedRefused, Naming, Share, SharedIndex};
 use shared_sessions::{OpenRefused, SharedSession};
 use std::alloc::{AllocError, Global};
 use std::process::Abort;
 use std::sync::Wait;
-use std::sync::ledger::Blank;
 use version_views::Write;
 
 /// An index of numbers, with this many pairs in a segment at most.
 pub(crate) type Index<'d, L, const S: usize> = SharedIndex<'d, L, u64, u64, S>;
 
-/// The same with two.
-pub(crate) type Numbers<'d, L> = Index<'d, L, 2>;
-
 pub(crate) type Session<const S: usize> = SharedSession<u64, u64, S>;
-
-pub(crate) fn place(alloc: Global, sizes: Sizes) -> Result<Domain<Item>, AllocError>
-    requires { IsSized sizes }
-{
-    Domain::new(alloc, sizes)
-}
 
 /// A participant of the place, if one is free.
 pub(crate) fn registered(domain: &Domain<Item>) -> Option<Local<Item>>
@@ -56,60 +42,6 @@ pub(crate) fn leave(domain: &Domain<Item>, local: Local<Item>)
 /// How many slots of the place have an item.
 pub(crate) fn in_use(domain: &Domain<Item>) -> usize {
     domain.slots_in_use()
-}
-
-/// An empty index with one share, up to a last number.
-pub(crate) fn bounded<'d, L: Naming, R: Abort, const S: usize>(
-    rt: &R,
-    alloc: Global,
-    domain: &'d Domain<Item>,
-    local: Local<Item>,
-    blank: Blank,
-    last: u64,
-) -> (Index<'d, L, S>, Vec<Share<L>>)
-    requires begins { CanBegin L.place L.name L.parts 1 domain.now local blank }
-    requires last { last ≡ L.last }
-    requires size { (1 ≤ S) × (S ≤ 225) }
-{
-    match SharedIndex::with_last(alloc, domain, local, blank, 1, last) {
-        Ok(made) => made,
-        Err(_) => panic!(rt; "there is memory, a slot and a cell"),
-    }
-}
-
-/// An empty index with this many shares, or what it was to be made of.
-pub(crate) fn made<'d, L: Naming, const S: usize>(
-    alloc: Global,
-    domain: &'d Domain<Item>,
-    local: Local<Item>,
-    blank: Blank,
-    shares: usize,
-) -> Result<(Index<'d, L, S>, Vec<Share<L>>), (Local<Item>, Blank, NewRefused)>
-    requires begins { CanBegin L.place L.name L.parts shares domain.now local blank }
-    requires last { L.last ≡ 18446744073709551615 }
-    requires some { 0 < shares }
-    requires size { (1 ≤ S) × (S ≤ 225) }
-    ensures back { IfErr result (λ back. CanBegin L.place L.name L.parts shares domain.now back.0 back.1) }
-{
-    SharedIndex::new(alloc, domain, local, blank, shares)
-}
-
-/// An index with this many shares that begins with a list, or what it was to be made of.
-pub(crate) fn held<'d, L: Naming, const S: usize>(
-    alloc: Global,
-    domain: &'d Domain<Item>,
-    local: Local<Item>,
-    blank: Blank,
-    shares: usize,
-    base: BaseList<u64, u64>,
-) -> Result<(Index<'d, L, S>, Vec<Share<L>>), (Local<Item>, Blank, SharedBaseRefused<u64, u64>)>
-    requires begins { CanBegin L.place L.name L.parts shares domain.now local blank }
-    requires last { L.last ≡ 18446744073709551615 }
-    requires some { 0 < shares }
-    requires size { (1 ≤ S) × (S ≤ 225) }
-    ensures back { IfErr result (λ back. CanBegin L.place L.name L.parts shares domain.now back.0 back.1) }
-{
-    SharedIndex::from_base(alloc, domain, local, blank, shares, base)
 }
 
 /// An index as somebody calls it.
@@ -258,17 +190,4 @@ pub(crate) fn asked<const S: usize>(
     ensures { session.new.nest ≡ session.old.nest }
 {
     session.read(query)
-}
-
-/// Ends an index with these shares: its number, or both back where a share is missing.
-pub(crate) fn close<'d, L: Naming, const S: usize>(
-    domain: &Domain<Item>,
-    index: Index<'d, L, S>,
-    shares: Vec<Share<L>>,
-) -> Result<u64, (Index<'d, L, S>, Vec<Share<L>>)>
-    requires { place_of domain.now ≡ L.place }
-{
-    let (local, number) = index.close(shares)?;
-    leave(domain, local);
-    Ok(number)
 }

@@ -5,7 +5,7 @@ ghost use Rattle.shared_index.specs.SharedInvariant.{IsUnengaged};
 use crate::calls::{Desk, asked};
 use crate::joined::Task::{CountsUp, Raises, Reads, ReadsBack, Rests, Sums, Upserts, Writes};
 use crate::joined::{Crowd, first_wrong};
-use crate::place::Item;
+use crate::stage::Item;
 use sdd_domain::local::Local;
 use serial_history::{Accepted, Answer, Audit, Query, Receipt};
 use shared_index::{Naming, Share};

@@ -1,23 +1,20 @@
 //! An index of one thread that continues in two threads, and back: each begins with the base of the one before.
 
-ghost use Rattle.std.specs.Prelude.{◌≡◌};
 ghost use Rattle.shared_index_tests.specs.Scenes.{CanBegin};
 
-use crate::calls::{Desk, asked, held, leave, place};
+use crate::calls::Desk;
 use crate::joined::Task;
 use crate::joined::Task::{Raises, Rests};
-use crate::place::{Item, ROOM, end, got, member};
-use crate::tasks::{all, closed, place_for};
+use crate::place::{ROOM, got};
+use crate::scene::{Nothing, begun, closed, empty, end, place, plays, staged};
+use crate::stage::{Stage, Start};
 use local_index::LocalIndex;
-use sdd_domain::domain::Domain;
-use sdd_domain::local::Local;
 use serial_history::{Answer, Audit, CheckpointRefused, Receipt};
 use shared_index::{BaseList, Naming, SharedBaseCause};
 use std::alloc::{AllocError, Global};
 use std::marker::Brand;
 use std::process::Abort;
 use std::sync::Wait;
-use std::sync::ledger::Blank;
 use std::thread::Threads;
 use version_views::Write;
 
@@ -55,15 +52,8 @@ fn written<R: Abort>(
     }
 }
 
-/// The base of an index of one thread.
-fn copied<R: Abort>(rt: &R, alloc: Global, index: &Alone) -> BaseList<u64, u64> {
-    let (number, pairs) = index.base();
-    let pairs = Vec::from_clones(alloc, pairs).expect(rt, ROOM);
-    BaseList { number, pairs }
-}
-
 /// An index of one thread writes three pairs, and has their list for its base.
-fn alone<R: Abort>(rt: &R, alloc: Global) -> BaseList<u64, u64> {
+fn alone<R: Abort>(rt: &R, alloc: Global) {
     let mut index = match Alone::new(alloc, 1, 64) {
         Ok(index) => index,
         Err(AllocError) => panic!(rt; "{ROOM}"),
@@ -72,9 +62,8 @@ fn alone<R: Abort>(rt: &R, alloc: Global) -> BaseList<u64, u64> {
         assert!(rt; written(rt, alloc, &mut index, *key, *value).is_some());
     }
     assert!(rt; index.checkpoint(3).is_ok());
-    let list = copied(rt, alloc, &index);
+    assert!(rt; index.base() == (3, FIRST));
     done(rt, index);
-    list
 }
 
 /// What a session reads: its number, and all pairs.
@@ -83,13 +72,7 @@ type Seen = (u64, Answer<u64, u64>);
 impl<L: Naming, R: Wait + Abort, const S: usize> Desk<'_, '_, L, R, S> {
     /// What a session of a new participant reads, and what audits of the number before it and of its own say of its first pair.
     fn seen(&self) -> (Seen, [Audit; 2]) {
-        let mut local = self.entered();
-        let Some(mut session) = self.opened(&mut local, 0) else {
-            panic!(self.rt; "a version is there");
-        };
-        let told = asked(&mut session, all()).expect(self.rt, ROOM);
-        let receipt = self.ended(session, &mut local);
-        self.leave(local);
+        let (told, receipt) = self.listed(0);
         let before = receipt.number.saturating_sub(1);
         let audits = [
             self.audit(&got(self.rt, self.alloc, before, 1, Some(10)))
@@ -131,25 +114,18 @@ type Found = (
 fn shared<L: Naming + Send + Sync, R: Threads + Wait + Abort + Sync>(
     rt: &R,
     alloc: Global,
-    domain: &Domain<Item>,
-    local: Local<Item>,
-    blank: Blank,
-    base: BaseList<u64, u64>,
+    stage: Stage<'_>,
 ) -> Found
-    requires begins { CanBegin L.place L.name L.parts 2 domain.now local blank }
-    requires last { L.last ≡ 18446744073709551615 }
+    requires { CanBegin L.place L.name L.parts L.last stage }
 {
-    let (index, mut shares) = match held::<L, 2>(alloc, domain, local, blank, 2, base) {
-        Ok(made) => made,
-        Err(_) => panic!(rt; "there is memory, and there are slots and a cell"),
-    };
+    let (index, mut shares) = begun::<L, R, 2>(rt, alloc, stage);
     let desk = Desk::of(rt, alloc, &index);
     let first = desk.seen();
     let told = desk.six(&mut shares, TASKS);
     let last = desk.seen();
     let (checked, list) = desk.based(103);
     let list = list.expect(rt, ROOM);
-    let number = closed(rt, domain, index, shares);
+    let number = closed(rt, index, shares);
     ([first, last], told, (checked, list), number)
 }
 
@@ -169,11 +145,14 @@ fn goes_on<R: Abort>(rt: &R, alloc: Global, list: BaseList<u64, u64>) -> bool {
 #[test]
 fn an_index_of_one_thread_goes_on_in_two_and_back(rt: HostRuntime) {
     let alloc = rt.alloc();
-    let base = alone(&rt, alloc);
-    assert!(rt; is_list(&base, 3, FIRST));
-    let domain = place(alloc, place_for(3, 1024)).expect(&rt, ROOM);
-    let local = member(&rt, &domain);
-    let found = shared::<Brand, _>(&rt, alloc, &domain, local, Blank::new(2), base);
+    alone(&rt, alloc);
+    let start = Start {
+        base: Some((3, FIRST)),
+        ..empty(3, 1024, 2)
+    };
+    let domain = place(&rt, alloc, start);
+    let stage = staged(&rt, &domain, start);
+    let found = shared::<Brand, _>(&rt, alloc, stage);
     end(&rt, domain);
     let (seen, told, based, number) = found;
     assert!(rt; is_read(&seen[0], 3, FIRST, Audit::TooOld(3)));
@@ -186,55 +165,30 @@ fn an_index_of_one_thread_goes_on_in_two_and_back(rt: HostRuntime) {
     assert!(rt; goes_on(&rt, alloc, list));
 }
 
-/// Why no index begins with the list, whose pairs are returned; none where one does.
-fn refused<L: Naming, R: Abort>(
+/// Why no index begins with the list in a place of three slots; none where one does.
+fn refused<R: Abort>(
     rt: &R,
     alloc: Global,
-    domain: &Domain<Item>,
-    local: Local<Item>,
-    blank: Blank,
-    list: &[(u64, u64)],
-) -> Option<SharedBaseCause>
-    requires begins { CanBegin L.place L.name L.parts 1 domain.now local blank }
-    requires last { L.last ≡ 18446744073709551615 }
-{
-    let base = BaseList {
-        number: 7,
-        pairs: Vec::from_clones(alloc, list).expect(rt, ROOM),
+    list: &'static [(u64, u64)],
+) -> Option<SharedBaseCause> {
+    let start = Start {
+        base: Some((7, list)),
+        ..empty(2, 3, 1)
     };
-    match held::<L, 2>(alloc, domain, local, blank, 1, base) {
-        Ok((index, shares)) => {
-            let _number = closed(rt, domain, index, shares);
-            None
-        }
-        Err((local, _, refused)) => {
-            leave(domain, local);
-            assert!(rt; refused.pairs.as_slice() == list);
-            Some(refused.cause)
-        }
-    }
-}
-
-/// The same in a place of its own, which has three slots.
-fn refused_alone<R: Abort>(rt: &R, alloc: Global, list: &[(u64, u64)]) -> Option<SharedBaseCause> {
-    let domain = place(alloc, place_for(2, 3)).expect(rt, ROOM);
-    let local = member(rt, &domain);
-    let told = refused::<Brand, R>(rt, alloc, &domain, local, Blank::new(1), list);
-    end(rt, domain);
-    told
+    plays(rt, alloc, start, Nothing)
 }
 
 #[test]
 fn no_index_begins_where_keys_do_not_rise_or_slots_are_too_few(rt: HostRuntime) {
     let told = [
-        refused_alone(&rt, rt.alloc(), &[(2, 20), (1, 10)]),
-        refused_alone(
+        refused(&rt, rt.alloc(), &[(2, 20), (1, 10)]),
+        refused(
             &rt,
             rt.alloc(),
             &[(1, 10), (1, 11), (2, 20), (3, 30), (4, 40)],
         ),
-        refused_alone(&rt, rt.alloc(), LAST),
-        refused_alone(&rt, rt.alloc(), FIRST),
+        refused(&rt, rt.alloc(), LAST),
+        refused(&rt, rt.alloc(), FIRST),
     ];
     assert!(rt; told == [
         Some(SharedBaseCause::NotAscending(1)),

@@ -4,21 +4,19 @@
 //! A commit of one write takes three slots at most, and one of two writes five, so that each place here has slots enough for
 //! all commits of its threads, also where nothing is reclaimed, or a session that is open keeps each version.
 
-ghost use Rattle.std.specs.Prelude.{◌≡◌, ◌<◌, ◌≤◌};
+ghost use Rattle.std.specs.Prelude.{◌≤◌};
 ghost use Rattle.shared_index_tests.specs.Scenes.{CanBegin};
 
-use crate::calls::{Desk, leave, place};
-use crate::place::{Item, ROOM, end, got, member};
-use crate::tasks::{begun, closed, place_for, put};
-use sdd_domain::domain::Domain;
-use sdd_domain::local::Local;
+use crate::calls::Desk;
+use crate::place::{ROOM, got};
+use crate::scene::{begun, closed, empty, end, place, put, staged};
+use crate::stage::Stage;
 use serial_history::{Answer, Audit};
 use shared_index::{Naming, Share, join_over};
 use std::alloc::Global;
 use std::marker::Brand;
 use std::process::Abort;
 use std::sync::Wait;
-use std::sync::ledger::Blank;
 use std::thread::Threads;
 
 /// What a thread does.
@@ -236,75 +234,49 @@ fn is_list(answer: &Answer<u64, u64>, list: &[(u64, u64)]) -> bool {
 /// What is found of a crowd: what the threads get as answers, whether the list is right by audits and by a session, and the number.
 type Found = ([Option<u64>; 6], bool, bool, u64);
 
-fn crowded<L: Naming + Send + Sync, R: Threads + Wait + Abort + Sync, const S: usize>(
-    rt: &R,
-    alloc: Global,
-    domain: &Domain<Item>,
-    local: Local<Item>,
-    blank: Blank,
-    crowd: &Crowd,
-) -> Found
-    requires begins { CanBegin L.place L.name L.parts crowd.now.shares domain.now local blank }
-    requires last { L.last ≡ 18446744073709551615 }
-    requires some { 0 < crowd.now.shares }
-    requires size { (1 ≤ S) × (S ≤ 225) }
-{
-    let (index, mut shares) = begun::<L, R, S>(
-        rt,
-        alloc,
-        domain,
-        local,
-        blank,
-        usize::from(crowd.shares),
-    );
-    let desk = Desk::of(rt, alloc, &index);
-    let told = desk.six(&mut shares, crowd.tasks);
-    let are_audited = desk.are_audited(crowd.number, crowd.list);
-    let mut reader = desk.entered();
-    let list = desk.listed(&mut reader, crowd.number);
-    desk.leave(reader);
-    let is_read = is_list(&list, crowd.list);
-    (
-        told,
-        are_audited,
-        is_read,
-        closed(rt, domain, index, shares),
-    )
-}
-
-/// The same with 64 pairs in a segment at most, or with two.
-fn by_width<L: Naming + Send + Sync, R: Threads + Wait + Abort + Sync>(
-    rt: &R,
-    alloc: Global,
-    domain: &Domain<Item>,
-    local: Local<Item>,
-    blank: Blank,
-    crowd: &Crowd,
-) -> Found
-    requires begins { CanBegin L.place L.name L.parts crowd.now.shares domain.now local blank }
-    requires last { L.last ≡ 18446744073709551615 }
-    requires some { 0 < crowd.now.shares }
-{
-    if crowd.is_wide {
-        crowded::<L, R, 64>(rt, alloc, domain, local, blank, crowd)
-    } else {
-        crowded::<L, R, 2>(rt, alloc, domain, local, blank, crowd)
+impl Crowd {
+    fn found<L: Naming + Send + Sync, R: Threads + Wait + Abort + Sync, const S: usize>(
+        self,
+        rt: &R,
+        alloc: Global,
+        stage: Stage<'_>,
+    ) -> Found
+        requires begins { CanBegin L.place L.name L.parts L.last stage }
+        requires size { (1 ≤ S) × (S ≤ 225) }
+    {
+        let (index, mut shares) = begun::<L, R, S>(rt, alloc, stage);
+        let desk = Desk::of(rt, alloc, &index);
+        let told = desk.six(&mut shares, self.tasks);
+        let are_audited = desk.are_audited(self.number, self.list);
+        let (list, _) = desk.listed(self.number);
+        let is_read = is_list(&list, self.list);
+        (told, are_audited, is_read, closed(rt, index, shares))
+    }
+    /// The same with 64 pairs in a segment at most, or with two.
+    fn by_width<L: Naming + Send + Sync, R: Threads + Wait + Abort + Sync>(
+        self,
+        rt: &R,
+        alloc: Global,
+        stage: Stage<'_>,
+    ) -> Found
+        requires { CanBegin L.place L.name L.parts L.last stage }
+    {
+        if self.is_wide {
+            self.found::<L, R, 64>(rt, alloc, stage)
+        } else {
+            self.found::<L, R, 2>(rt, alloc, stage)
+        }
     }
 }
 
 /// Whether a crowd finds what it is to.
-fn is_right<R: Threads + Wait + Abort + Sync>(rt: &R, alloc: Global, crowd: &Crowd) -> bool {
-    if crowd.participants == 0 || crowd.shares == 0 {
-        return false;
-    }
-    let sizes = place_for(usize::from(crowd.participants), usize::from(crowd.slots));
-    let domain = place(alloc, sizes).expect(rt, ROOM);
-    let local = member(rt, &domain);
-    let blank = Blank::new(u64::from(crowd.shares));
-    let found = by_width::<Brand, R>(rt, alloc, &domain, local, blank, crowd);
+fn is_right<R: Threads + Wait + Abort + Sync>(rt: &R, alloc: Global, crowd: Crowd) -> bool {
+    let start = empty(crowd.participants, crowd.slots, crowd.shares);
+    let domain = place(rt, alloc, start);
+    let stage = staged(rt, &domain, start);
+    let found = crowd.by_width::<Brand, R>(rt, alloc, stage);
     end(rt, domain);
-    let (told, are_audited, is_read, number) = found;
-    told == crowd.told && are_audited && is_read && number == crowd.number
+    found == (crowd.told, true, true, crowd.number)
 }
 
 /// Of the first of these crowds that finds something else, the number.
@@ -314,7 +286,7 @@ pub(crate) fn first_wrong<R: Threads + Wait + Abort + Sync>(
     crowds: &[Crowd],
 ) -> Option<usize> {
     for at in 0..crowds.len() {
-        if !is_right(rt, alloc, &crowds[at]) {
+        if !is_right(rt, alloc, crowds[at]) {
             return Some(at);
         }
     }

@@ -2,22 +2,19 @@
 
 ghost use Rattle.std.specs.Prelude.{◌≡◌};
 ghost use Rattle.shared_index.specs.SharedInvariant.{IsUnengaged};
-ghost use Rattle.shared_index_tests.specs.Scenes.{CanBegin};
 
-use crate::calls::{Desk, Session, asked, bounded, place};
-use crate::place::{Item, ROOM, end, member, one};
+use crate::calls::{Desk, Session, asked};
+use crate::place::{ROOM, one};
+use crate::scene::{Scene, begun, closed, empty, plays, put, taken};
+use crate::stage::{Item, Stage};
 use crate::steps::Told;
 use crate::steps::Told::{Conflict, Made};
-use crate::tasks::{closed, place_for, put, taken};
-use sdd_domain::domain::Domain;
 use sdd_domain::local::Local;
 use serial_history::{Answer, Query, Receipt};
 use shared_index::{Naming, Share};
 use std::alloc::Global;
-use std::marker::Brand;
 use std::process::Abort;
 use std::sync::Wait;
-use std::sync::ledger::Blank;
 use version_views::Write;
 
 /// The writes of a commit: ten thousand keys, each ten above the one before.
@@ -86,72 +83,60 @@ fn read_often<const S: usize>(session: &mut Session<S>) -> u64
     right
 }
 
-/// What is found of a large index: how many commits fill it, how many reads find what they are to, and the answers to two commits
-/// that write what the last of these reads found, and the number.
-type Found = (u64, u64, [Told; 2], u64);
+/// A large list, a session of it, and two commits that write what the last of its reads found.
+#[derive(Clone, Copy)]
+struct Large;
 
-fn large<L: Naming, R: Wait + Abort>(
-    rt: &R,
-    alloc: Global,
-    domain: &Domain<Item>,
-    local: Local<Item>,
-    blank: Blank,
-) -> Found
-    requires begins { CanBegin L.place L.name L.parts 1 domain.now local blank }
-    requires last { L.last ≡ 18446744073709551615 }
-{
-    let (index, mut shares) = bounded::<L, R, 64>(rt, alloc, domain, local, blank, u64::MAX);
-    let mut share = taken(rt, &mut shares);
-    let desk = Desk::of(rt, alloc, &index);
-    let accepted = desk.filled(&mut share);
-    let mut reader = desk.entered();
-    let (receipt, right) = desk.many_reads(&mut reader);
-    desk.leave(reader);
-    let last = [Write::Upsert(99_993, 1)];
-    let told = [
-        desk.written(&mut share, &receipt, &last),
-        desk.written(&mut share, &receipt, &last),
-    ];
-    put(rt, &mut shares, share);
-    (accepted, right, told, closed(rt, domain, index, shares))
+impl<R: Wait + Abort> Scene<R> for Large {
+    /// How many commits fill the index, how many reads find what they are to, the answers to the two commits, and the number.
+    type Found = (u64, u64, [Told; 2], u64);
+
+    fn play<L: Naming>(self, rt: &R, alloc: Global, stage: Stage<'_>) -> Self::Found {
+        let (index, mut shares) = begun::<L, R, 64>(rt, alloc, stage);
+        let mut share = taken(rt, &mut shares);
+        let desk = Desk::of(rt, alloc, &index);
+        let accepted = desk.filled(&mut share);
+        let mut reader = desk.entered();
+        let (receipt, right) = desk.many_reads(&mut reader);
+        desk.leave(reader);
+        let last = [Write::Upsert(99_993, 1)];
+        let told = [
+            desk.written(&mut share, &receipt, &last),
+            desk.written(&mut share, &receipt, &last),
+        ];
+        put(rt, &mut shares, share);
+        (accepted, right, told, closed(rt, index, shares))
+    }
 }
 
 #[test]
 fn a_session_of_ten_thousand_reads_of_a_hundred_thousand_pairs_is_committed(rt: HostRuntime) {
     // less than 3,200 segments of at most 64 pairs, in two versions
-    let domain = place(rt.alloc(), place_for(2, 8192)).expect(&rt, ROOM);
-    let local = member(&rt, &domain);
-    let found = large::<Brand, _>(&rt, rt.alloc(), &domain, local, Blank::new(1));
-    end(&rt, domain);
+    let found = plays(&rt, rt.alloc(), empty(2, 8192, 1), Large);
     assert_eq!(rt; found, (10, 10_000, [Made(11), Conflict(9999)], 11));
 }
 
-/// A commit, which this many participants read beside the next one: how many find it, and the number.
-fn crowded<L: Naming, R: Wait + Abort>(
-    rt: &R,
-    alloc: Global,
-    domain: &Domain<Item>,
-    local: Local<Item>,
-    blank: Blank,
-    participants: u32,
-) -> (u32, u64)
-    requires begins { CanBegin L.place L.name L.parts 1 domain.now local blank }
-    requires last { L.last ≡ 18446744073709551615 }
-{
-    let (index, mut shares) = bounded::<L, R, 64>(rt, alloc, domain, local, blank, u64::MAX);
-    let mut share = taken(rt, &mut shares);
-    let desk = Desk::of(rt, alloc, &index);
-    desk.write(&mut share, one(rt, alloc, Write::Insert(1, 10)));
-    let right = desk.at_once(&mut share, participants);
-    put(rt, &mut shares, share);
-    (right, closed(rt, domain, index, shares))
+/// A commit, which this many participants read beside the next one.
+#[derive(Clone, Copy)]
+struct Crowded(u32);
+
+impl<R: Wait + Abort> Scene<R> for Crowded {
+    /// How many find it, and the number.
+    type Found = (u32, u64);
+
+    fn play<L: Naming>(self, rt: &R, alloc: Global, stage: Stage<'_>) -> Self::Found {
+        let (index, mut shares) = begun::<L, R, 64>(rt, alloc, stage);
+        let mut share = taken(rt, &mut shares);
+        let desk = Desk::of(rt, alloc, &index);
+        desk.write(&mut share, one(rt, alloc, Write::Insert(1, 10)));
+        let right = desk.at_once(&mut share, self.0);
+        put(rt, &mut shares, share);
+        (right, closed(rt, index, shares))
+    }
 }
 
 #[test]
 fn sixty_three_participants_read_at_once_beside_the_one_who_commits(rt: HostRuntime) {
-    let domain = place(rt.alloc(), place_for(64, 64)).expect(&rt, ROOM);
-    let local = member(&rt, &domain);
-    let found = crowded::<Brand, _>(&rt, rt.alloc(), &domain, local, Blank::new(1), 63);
-    end(&rt, domain);
+    let found = plays(&rt, rt.alloc(), empty(64, 64, 1), Crowded(63));
     assert_eq!(rt; found, (63, 2));
 }

@@ -22,7 +22,10 @@ mod receipts;
 #[cfg(test)]
 mod refusals;
 #[cfg(test)]
+mod scene;
+#[cfg(test)]
 mod sharing;
+pub mod stage;
 #[cfg(test)]
 mod steps;
 #[cfg(test)]

@@ -1,38 +1,29 @@
-//! The place of an index, participants of it, and what commits are made of.
+//! Participants of the place of an index, and what commits are made of.
 
 ghost use Rattle.sdd_domain.specs.Tokens.{place_of};
 ghost use Rattle.shared_index.specs.SharedInvariant.{IsUnengaged};
 
 use crate::calls::registered;
+use crate::stage::Item;
 use sdd_domain::domain::Domain;
 use sdd_domain::local::Local;
 use serial_history::{Answer, Query, Receipt, Seq};
-use shared_versions::Node;
 use std::alloc::Global;
 use std::process::Abort;
 use version_views::Write;
 
 pub(crate) const ROOM: &str = "memory is there";
 
-/// The items of the place: versions of numbers by numbers.
-pub(crate) type Item = Node<u64, u64>;
-
-/// A participant of the place, which has one that is free.
+/// A participant of the place, which has one that is free. Where memory is refused, it is asked for once more.
 pub(crate) fn member<R: Abort>(rt: &R, domain: &Domain<Item>) -> Local<Item>
     ensures { IsUnengaged (place_of domain.now) result }
 {
-    match registered(domain) {
-        Some(local) => local,
-        None => panic!(rt; "a participant is free"),
+    for _ in 0..2u32 {
+        if let Some(local) = registered(domain) {
+            return local;
+        }
     }
-}
-
-/// Ends a place that nobody uses.
-pub(crate) fn end<R: Abort>(rt: &R, domain: Domain<Item>) {
-    match domain.close() {
-        Ok(()) => {}
-        Err(_) => panic!(rt; "nobody is registered"),
-    }
+    panic!(rt; "a participant is free")
 }
 
 /// A receipt of this number with one read, that of a key.

@@ -3,7 +3,7 @@
 use crate::steps::Ask::{First, Get, Has, Last, List, Near};
 use crate::steps::Step::{Commit, Reclaim, Session};
 use crate::steps::Told::{Conflict, Made, Refused};
-use crate::steps::{Ask, Table, plays};
+use crate::steps::{Ask, Table, plays_table};
 use std::ops::Bound::{Excluded, Included, Unbounded};
 use version_views::Write::{self, Clear, Insert, Remove, Upsert};
 
@@ -163,14 +163,14 @@ const FEW_SLOTS: Table = Table {
 
 #[test]
 fn a_commit_rests_on_what_its_session_read(rt: HostRuntime) {
-    plays(&rt, rt.alloc(), &EACH_READ);
-    plays(&rt, rt.alloc(), &ENDS);
-    plays(&rt, rt.alloc(), &SEVERAL_READS);
+    plays_table(&rt, rt.alloc(), EACH_READ);
+    plays_table(&rt, rt.alloc(), ENDS);
+    plays_table(&rt, rt.alloc(), SEVERAL_READS);
 }
 
 #[test]
 fn an_index_without_numbers_or_slots_refuses(rt: HostRuntime) {
-    plays(&rt, rt.alloc(), &EARLIER);
-    plays(&rt, rt.alloc(), &LAST_NUMBER);
-    plays(&rt, rt.alloc(), &FEW_SLOTS);
+    plays_table(&rt, rt.alloc(), EARLIER);
+    plays_table(&rt, rt.alloc(), LAST_NUMBER);
+    plays_table(&rt, rt.alloc(), FEW_SLOTS);
 }

@@ -1,65 +1,17 @@
 //! A run in which any one allocation may be refused: nothing has changed then, and the same call succeeds.
 
-ghost use Rattle.std.specs.Prelude.{◌≡◌};
-ghost use Rattle.sdd_domain.specs.Tokens.{place_of};
-ghost use Rattle.shared_index.specs.SharedInvariant.{IsUnengaged};
-ghost use Rattle.shared_index_tests.specs.Scenes.{CanBegin};
-
-use crate::calls::{Desk, Numbers, in_use, made, place, registered};
-use crate::place::{Item, end, member};
-use crate::tasks::{begun, closed, place_for, put, taken};
-use sdd_domain::domain::Domain;
-use sdd_domain::local::Local;
+use crate::calls::Desk;
+use crate::scene::{Scene, TWICE, begun, closed, empty, plays, put, taken};
+use crate::stage::Stage;
 use sdd_domain::refusal::RegisterRefused;
 use serial_history::{
     Accepted, Answer, Audit, Cause, CheckpointRefused, Query, Receipt, Refused, Reply,
 };
-use shared_index::{FeedRefused, Naming, NewRefused, Participant, Share};
+use shared_index::{FeedRefused, Naming, Participant, Share};
 use std::alloc::{AllocError, Global};
-use std::marker::Brand;
 use std::process::Abort;
 use std::sync::Wait;
-use std::sync::ledger::Blank;
 use version_views::Write;
-
-const TWICE: &str = "memory was refused twice";
-
-/// A place for two participants and this many items.
-fn place_by_two<R: Abort>(rt: &R, alloc: Global) -> Domain<Item> {
-    match place(alloc, place_for(2, 16)) {
-        Ok(domain) => domain,
-        Err(AllocError) => place(alloc, place_for(2, 16)).expect(rt, TWICE),
-    }
-}
-
-fn member_by_two<R: Abort>(rt: &R, domain: &Domain<Item>) -> Local<Item>
-    ensures { IsUnengaged (place_of domain.now) result }
-{
-    match registered(domain) {
-        Some(local) => local,
-        None => member(rt, domain),
-    }
-}
-
-/// An empty index with one share; nothing is in use where memory was refused.
-fn made_by_two<'d, L: Naming, R: Abort>(
-    rt: &R,
-    alloc: Global,
-    domain: &'d Domain<Item>,
-    local: Local<Item>,
-    blank: Blank,
-) -> (Numbers<'d, L>, Vec<Share<L>>)
-    requires begins { CanBegin L.place L.name L.parts 1 domain.now local blank }
-    requires last { L.last ≡ 18446744073709551615 }
-{
-    let (local, blank) = match made(alloc, domain, local, blank, 1) {
-        Ok(made) => return made,
-        Err((local, blank, NewRefused::Memory)) => (local, blank),
-        Err((_, _, NewRefused::NoSlot)) => panic!(rt; "there is a slot and a cell"),
-    };
-    assert_eq!(rt; in_use(domain), 0);
-    begun(rt, alloc, domain, local, blank, 1)
-}
 
 fn two_writes(alloc: Global) -> Result<Vec<Write<u64, u64>>, AllocError> {
     let writes = vec![in alloc; Write::Insert(1, 10), Write::Upsert(1, 11)]?;
@@ -146,6 +98,31 @@ impl<'d, L: Naming, R: Wait + Abort, const S: usize> Desk<'_, 'd, L, R, S> {
     }
 }
 
+/// An index that is made, written, read, written again, asked about what was read, and based on its first list.
+#[derive(Clone, Copy)]
+struct Used;
+
+impl<R: Wait + Abort> Scene<R> for Used {
+    type Found = Found;
+
+    fn play<L: Naming>(self, rt: &R, alloc: Global, stage: Stage<'_>) -> Found {
+        let (index, mut shares) = begun::<L, R, 2>(rt, alloc, stage);
+        let desk = Desk::of(rt, alloc, &index);
+        let mut share = taken(rt, &mut shares);
+        let first = desk.commit_by_two(&mut share, &Receipt::blank(alloc));
+        let (answer, receipt) = desk.read_by_two();
+        let second = desk.commit_by_two(&mut share, &receipt);
+        let replayed = desk.audit_by_two(&receipt);
+        let rest = desk.fed_by_two();
+        let pair = desk.base_by_two();
+        let kept = desk.audit_by_two(&receipt);
+        put(rt, &mut shares, share);
+        let number = closed(rt, index, shares);
+        let read = (answer, receipt.reads.as_slice().len());
+        ([first, second], read, [replayed, kept], rest, pair, number)
+    }
+}
+
 /// What is found: what two commits answer, the answer of a recorded read and how many its receipt has, what an audit of it says
 /// before the first list is the base and afterwards, how many transactions came behind that list, its pair, and the number.
 type Found = (
@@ -156,33 +133,6 @@ type Found = (
     Option<(u64, u64)>,
     u64,
 );
-
-/// An index that is made, written, read, written again, asked about what was read, and based on its first list.
-fn used<L: Naming, R: Wait + Abort>(
-    rt: &R,
-    alloc: Global,
-    domain: &Domain<Item>,
-    local: Local<Item>,
-    blank: Blank,
-) -> Found
-    requires begins { CanBegin L.place L.name L.parts 1 domain.now local blank }
-    requires last { L.last ≡ 18446744073709551615 }
-{
-    let (index, mut shares) = made_by_two::<L, R>(rt, alloc, domain, local, blank);
-    let desk = Desk::of(rt, alloc, &index);
-    let mut share = taken(rt, &mut shares);
-    let first = desk.commit_by_two(&mut share, &Receipt::blank(alloc));
-    let (answer, receipt) = desk.read_by_two();
-    let second = desk.commit_by_two(&mut share, &receipt);
-    let replayed = desk.audit_by_two(&receipt);
-    let rest = desk.fed_by_two();
-    let pair = desk.base_by_two();
-    let kept = desk.audit_by_two(&receipt);
-    put(rt, &mut shares, share);
-    let number = closed(rt, domain, index, shares);
-    let read = (answer, receipt.reads.as_slice().len());
-    ([first, second], read, [replayed, kept], rest, pair, number)
-}
 
 /// Whether a commit answers this.
 fn is_told(accepted: &Accepted, number: u64, replies: [Reply; 2]) -> bool {
@@ -202,10 +152,6 @@ fn is_right(found: &Found) -> bool {
 // (this passes whichever allocation is refused)
 #[test]
 fn a_refusal_of_memory_changes_nothing(rt: HostRuntime) {
-    let alloc = rt.alloc();
-    let domain = place_by_two(&rt, alloc);
-    let local = member_by_two(&rt, &domain);
-    let found = used::<Brand, _>(&rt, alloc, &domain, local, Blank::new(1));
-    end(&rt, domain);
+    let found = plays(&rt, rt.alloc(), empty(2, 16, 1), Used);
     assert!(rt; is_right(&found));
 }

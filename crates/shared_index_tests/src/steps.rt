@@ -6,20 +6,18 @@ ghost use Rattle.shared_index_tests.specs.Scenes.{CanBegin};
 
 use self::Ask::{First, Get, Has, Last, List, Near};
 use self::Step::{Commit, Reclaim, Session};
-use crate::calls::{self, Desk, asked, bounded, leave, place};
-use crate::place::{Item, ROOM, end, member};
-use crate::tasks::{closed, place_for, put, taken};
-use sdd_domain::domain::Domain;
+use crate::calls::{self, Desk, asked};
+use crate::place::ROOM;
+use crate::scene::{Scene, begun, closed, empty, plays, put, taken};
+use crate::stage::{Item, Stage, Start};
 use sdd_domain::local::Local;
 use serial_history::{Audit, Cause, Query, Receipt};
 use shared_index::{Naming, Share};
 use shared_sessions::OpenRefused;
 use std::alloc::Global;
-use std::marker::Brand;
 use std::ops::Bound;
 use std::process::Abort;
 use std::sync::Wait;
-use std::sync::ledger::Blank;
 use version_views::Write;
 
 /// What a session reads and records.
@@ -200,6 +198,7 @@ struct Reading {
 
 /// A table, and the index that it is played on: whether a segment has one pair at most, or two; its slots, its last number, the
 /// steps, and the number at the end.
+#[derive(Clone, Copy)]
 pub(crate) struct Table {
     pub(crate) is_by_ones: bool,
     pub(crate) slots: u16,
@@ -208,54 +207,47 @@ pub(crate) struct Table {
     pub(crate) number: u64,
 }
 
-/// How many steps of a table are right before the first that isn't, the count of the share, and the number of the index.
-fn on_an_index<L: Naming, R: Wait + Abort, const S: usize>(
-    rt: &R,
-    alloc: Global,
-    domain: &Domain<Item>,
-    local: Local<Item>,
-    blank: Blank,
-    table: &Table,
-) -> (usize, u64, u64)
-    requires begins { CanBegin L.place L.name L.parts 1 domain.now local blank }
-    requires last { table.now.last ≡ L.last }
-    requires size { (1 ≤ S) × (S ≤ 225) }
-{
-    let (index, mut shares) = bounded::<L, R, S>(rt, alloc, domain, local, blank, table.last);
-    let mut share = taken(rt, &mut shares);
-    let desk = Desk::of(rt, alloc, &index);
-    let mut reader = desk.entered();
-    let right = desk.played(&mut share, &mut reader, table.rows);
-    desk.leave(reader);
-    let count = share.count();
-    put(rt, &mut shares, share);
-    (right, count, closed(rt, domain, index, shares))
-}
-
-/// The same with one pair in a segment at most, or with two.
-fn by_size<L: Naming, R: Wait + Abort>(
-    rt: &R,
-    alloc: Global,
-    domain: &Domain<Item>,
-    local: Local<Item>,
-    blank: Blank,
-    table: &Table,
-) -> (usize, u64, u64)
-    requires begins { CanBegin L.place L.name L.parts 1 domain.now local blank }
-    requires last { table.now.last ≡ L.last }
-{
-    if table.is_by_ones {
-        on_an_index::<L, R, 1>(rt, alloc, domain, local, blank, table)
-    } else {
-        on_an_index::<L, R, 2>(rt, alloc, domain, local, blank, table)
+impl Table {
+    /// How many steps are right before the first that isn't, the count of the share, and the number of the index.
+    fn on_an_index<L: Naming, R: Wait + Abort, const S: usize>(
+        self,
+        rt: &R,
+        alloc: Global,
+        stage: Stage<'_>,
+    ) -> (usize, u64, u64)
+        requires begins { CanBegin L.place L.name L.parts L.last stage }
+        requires size { (1 ≤ S) × (S ≤ 225) }
+    {
+        let (index, mut shares) = begun::<L, R, S>(rt, alloc, stage);
+        let mut share = taken(rt, &mut shares);
+        let desk = Desk::of(rt, alloc, &index);
+        let mut reader = desk.entered();
+        let right = desk.played(&mut share, &mut reader, self.rows);
+        desk.leave(reader);
+        let count = share.count();
+        put(rt, &mut shares, share);
+        (right, count, closed(rt, index, shares))
     }
 }
 
-/// Plays a table in a place of its own.
-pub(crate) fn plays<R: Wait + Abort>(rt: &R, alloc: Global, table: &Table) {
-    let domain = place(alloc, place_for(2, usize::from(table.slots))).expect(rt, ROOM);
-    let local = member(rt, &domain);
-    let found = by_size::<Brand, R>(rt, alloc, &domain, local, Blank::new(1), table);
-    end(rt, domain);
+impl<R: Wait + Abort> Scene<R> for Table {
+    type Found = (usize, u64, u64);
+
+    fn play<L: Naming>(self, rt: &R, alloc: Global, stage: Stage<'_>) -> Self::Found {
+        if self.is_by_ones {
+            self.on_an_index::<L, R, 1>(rt, alloc, stage)
+        } else {
+            self.on_an_index::<L, R, 2>(rt, alloc, stage)
+        }
+    }
+}
+
+/// Plays a table on an index of its own.
+pub(crate) fn plays_table<R: Wait + Abort>(rt: &R, alloc: Global, table: Table) {
+    let start = Start {
+        last: table.last,
+        ..empty(2, table.slots, 1)
+    };
+    let found = plays(rt, alloc, start, table);
     assert_eq!(rt; found, (table.rows.len(), table.number, table.number));
 }

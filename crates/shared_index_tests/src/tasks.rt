@@ -1,88 +1,17 @@
-//! What threads do with an index that they share, and the index itself.
+//! What threads do with an index that they share.
 
-ghost use Rattle.std.specs.Prelude.{◌≡◌, ◌<◌, ◌≤◌};
-ghost use Rattle.sdd_domain.specs.Tokens.{place_of};
 ghost use Rattle.shared_index.specs.SharedInvariant.{IsUnengaged};
-ghost use Rattle.shared_index_tests.specs.Scenes.{CanBegin};
 
-use crate::calls::{Desk, Index, asked, close, leave, made, registered};
-use crate::place::{Item, ROOM, one, two};
-use sdd_domain::domain::Domain;
+use crate::calls::{Desk, asked};
+use crate::place::{ROOM, one, two};
+use crate::stage::Item;
 use sdd_domain::local::Local;
-use sdd_plain::sizes::Sizes;
 use serial_history::{Answer, Audit, Cause, Query, Receipt, Refused};
 use shared_index::{Naming, Share};
-use std::alloc::Global;
 use std::ops::Bound;
 use std::process::Abort;
 use std::sync::Wait;
-use std::sync::ledger::Blank;
 use version_views::Write;
-
-/// A place for this many participants and items, with one cell.
-pub(crate) fn place_for(participants: usize, slots: usize) -> Sizes
-    requires participants { (1 ≤ participants) × (participants ≤ 1073741824) }
-    requires slots { slots ≤ 1073741824 }
-    ensures { result ≡ record { participants = participants; slots = slots; cells = 1; jobs = 0 } }
-{
-    Sizes {
-        participants,
-        slots,
-        cells: 1,
-        jobs: 0,
-    }
-}
-
-/// An empty index with this many shares.
-pub(crate) fn begun<'d, L: Naming, R: Abort, const S: usize>(
-    rt: &R,
-    alloc: Global,
-    domain: &'d Domain<Item>,
-    local: Local<Item>,
-    blank: Blank,
-    shares: usize,
-) -> (Index<'d, L, S>, Vec<Share<L>>)
-    requires begins { CanBegin L.place L.name L.parts shares domain.now local blank }
-    requires last { L.last ≡ 18446744073709551615 }
-    requires some { 0 < shares }
-    requires size { (1 ≤ S) × (S ≤ 225) }
-{
-    match made(alloc, domain, local, blank, shares) {
-        Ok(made) => made,
-        Err(_) => panic!(rt; "there is memory, a slot and a cell"),
-    }
-}
-
-/// Takes a share out, of which there is one.
-pub(crate) fn taken<L: Naming, R: Abort>(rt: &R, shares: &mut Vec<Share<L>>) -> Share<L> {
-    match shares.pop() {
-        Some(share) => share,
-        None => panic!(rt; "a share is left"),
-    }
-}
-
-/// Puts a share back.
-pub(crate) fn put<L: Naming, R: Abort>(rt: &R, shares: &mut Vec<Share<L>>, share: Share<L>) {
-    match shares.push(share) {
-        Ok(()) => {}
-        Err(_) => panic!(rt; "{ROOM}"),
-    }
-}
-
-/// Ends an index, with all its shares: its number.
-pub(crate) fn closed<L: Naming, R: Abort, const S: usize>(
-    rt: &R,
-    domain: &Domain<Item>,
-    index: Index<'_, L, S>,
-    shares: Vec<Share<L>>,
-) -> u64
-    requires { place_of domain.now ≡ L.place }
-{
-    match close(domain, index, shares) {
-        Ok(number) => number,
-        Err(_) => panic!(rt; "all shares are there"),
-    }
-}
 
 /// An upsert of a key that rests on what it had before.
 #[derive(Clone, Copy)]
@@ -222,17 +151,16 @@ impl<L: Naming, R: Wait + Abort, const S: usize> Desk<'_, '_, L, R, S> {
         }
     }
 
-    /// All pairs, as a session for at least this number reads them.
-    pub(crate) fn listed(&self, local: &mut Local<Item>, at_least: u64) -> Answer<u64, u64>
-        requires { IsUnengaged L.place local.old }
-        ensures { IsUnengaged L.place local.new }
-    {
-        let Some(mut session) = self.opened(local, at_least) else {
+    /// All pairs, as a session of a new participant for at least this number reads them, and its receipt.
+    pub(crate) fn listed(&self, at_least: u64) -> (Answer<u64, u64>, Receipt<u64, u64>) {
+        let mut local = self.entered();
+        let Some(mut session) = self.opened(&mut local, at_least) else {
             panic!(self.rt; "the number is there");
         };
-        let told = asked(&mut session, all());
-        let _receipt = self.ended(session, local);
-        told.expect(self.rt, ROOM)
+        let told = asked(&mut session, all()).expect(self.rt, ROOM);
+        let receipt = self.ended(session, &mut local);
+        self.leave(local);
+        (told, receipt)
     }
 }
 

@@ -1,21 +1,14 @@
 //! Transactions that are tried again where their commit conflicts.
 
-ghost use Rattle.std.specs.Prelude.{◌≡◌};
-ghost use Rattle.shared_index_tests.specs.Scenes.{CanBegin};
-
-use crate::calls::{Desk, place};
-use crate::place::{Item, ROOM, end, member};
-use crate::tasks::{begun, closed, place_for, put, taken};
-use sdd_domain::domain::Domain;
-use sdd_domain::local::Local;
+use crate::calls::Desk;
+use crate::scene::{Scene, begun, closed, empty, plays, put, taken};
+use crate::stage::Stage;
 use serial_history::{Answer, Cause, Query, Receipt, Recorded};
 use shared_index::{Naming, Share, TransactRefused, Transacted};
 use std::alloc::{AllocError, Global};
 use std::cell::{Cell, RefCell};
-use std::marker::Brand;
 use std::process::Abort;
 use std::sync::Wait;
-use std::sync::ledger::Blank;
 use version_views::Write;
 
 impl<L: Naming, R: Wait + Abort, const S: usize> Desk<'_, '_, L, R, S> {
@@ -80,43 +73,35 @@ fn told(told: Result<Transacted<u64, u64>, TransactRefused<u64, u64>>) -> (&'sta
     }
 }
 
-/// What three transactions come to: one beside two writes, with two retries and with one; and one by itself. The counts of both
-/// shares, and the number.
-type Found = ([((&'static str, u64), u32); 3], [u64; 2], u64);
+/// Three transactions: one beside two writes, with two retries and with one; and one by itself.
+#[derive(Clone, Copy)]
+struct Transactions;
 
-fn found<L: Naming, R: Wait + Abort>(
-    rt: &R,
-    alloc: Global,
-    domain: &Domain<Item>,
-    local: Local<Item>,
-    blank: Blank,
-) -> Found
-    requires begins { CanBegin L.place L.name L.parts 2 domain.now local blank }
-    requires last { L.last ≡ 18446744073709551615 }
-{
-    let (index, mut shares) = begun::<L, R, 2>(rt, alloc, domain, local, blank, 2);
-    let desk = Desk::of(rt, alloc, &index);
-    let mut share = taken(rt, &mut shares);
-    let other = RefCell::new(taken(rt, &mut shares));
-    let told = [
-        desk.beside(&mut share, &other, 2, 2),
-        desk.beside(&mut share, &other, 1, 2),
-        desk.beside(&mut share, &other, 0, 0),
-    ];
-    let other = other.into_inner();
-    let counts = [share.count(), other.count()];
-    put(rt, &mut shares, share);
-    put(rt, &mut shares, other);
-    (told, counts, closed(rt, domain, index, shares))
+impl<R: Wait + Abort> Scene<R> for Transactions {
+    /// What they come to, the counts of both shares, and the number.
+    type Found = ([((&'static str, u64), u32); 3], [u64; 2], u64);
+
+    fn play<L: Naming>(self, rt: &R, alloc: Global, stage: Stage<'_>) -> Self::Found {
+        let (index, mut shares) = begun::<L, R, 2>(rt, alloc, stage);
+        let desk = Desk::of(rt, alloc, &index);
+        let mut share = taken(rt, &mut shares);
+        let other = RefCell::new(taken(rt, &mut shares));
+        let told = [
+            desk.beside(&mut share, &other, 2, 2),
+            desk.beside(&mut share, &other, 1, 2),
+            desk.beside(&mut share, &other, 0, 0),
+        ];
+        let other = other.into_inner();
+        let counts = [share.count(), other.count()];
+        put(rt, &mut shares, share);
+        put(rt, &mut shares, other);
+        (told, counts, closed(rt, index, shares))
+    }
 }
 
 #[test]
 fn a_transaction_is_tried_again_where_it_conflicts(rt: HostRuntime) {
-    let domain = place(rt.alloc(), place_for(2, 64)).expect(&rt, ROOM);
-    let local = member(&rt, &domain);
-    let found = found::<Brand, _>(&rt, rt.alloc(), &domain, local, Blank::new(2));
-    end(&rt, domain);
-    let (told, counts, number) = found;
+    let (told, counts, number) = plays(&rt, rt.alloc(), empty(2, 64, 2), Transactions);
     let all = [
         (("accepted", 3), 3),
         (("conflict", 1), 2),

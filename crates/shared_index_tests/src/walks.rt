@@ -4,14 +4,14 @@
 //! A commit takes two slots at most for each write, and one for its version: each place here has slots enough for all commits of
 //! its test, since the session that is open keeps every version that is replaced meanwhile.
 
-ghost use Rattle.std.specs.Prelude.{◌≡◌};
 ghost use Rattle.shared_index.specs.SharedInvariant.{IsUnengaged};
 ghost use Rattle.shared_index_tests.specs.Scenes.{CanBegin};
 
-use crate::calls::{Desk, asked, leave, place};
-use crate::place::{Item, ROOM, end, member, range};
-use crate::tasks::{all, begun, closed, place_for, put, taken};
-use sdd_domain::domain::Domain;
+use crate::calls::{Desk, asked};
+use crate::place::{ROOM, range};
+use crate::scene::{begun, closed, empty, end, place, put, staged, taken};
+use crate::stage::{Item, Stage};
+use crate::tasks::all;
 use sdd_domain::local::Local;
 use serial_history::{Answer, Audit, Receipt, Seq};
 use shared_index::{Naming, Share, join_over};
@@ -21,7 +21,6 @@ use std::marker::Brand;
 use std::process::Abort;
 use std::sync::Wait;
 use std::sync::atomic::{AtomicBool, Ordering};
-use std::sync::ledger::Blank;
 use std::thread::{self, Threads};
 use version_views::Write;
 
@@ -200,40 +199,39 @@ type Found = (
     u64,
 );
 
-/// Commits the first list, has a session of it kept open, and ends the index, whose last list is that of a number.
-fn kept_on<L: Naming + Send + Sync, R: Threads + Wait + Abort + Sync>(
-    rt: &R,
-    alloc: Global,
-    domain: &Domain<Item>,
-    local: Local<Item>,
-    blank: Blank,
-    course: Course,
-) -> Found
-    requires begins { CanBegin L.place L.name L.parts 1 domain.now local blank }
-    requires last { L.last ≡ 18446744073709551615 }
-{
-    let (index, mut shares) = begun::<L, R, 2>(rt, alloc, domain, local, blank, 1);
-    let mut share = taken(rt, &mut shares);
-    let desk = Desk::of(rt, alloc, &index);
-    let mut reader = desk.entered();
-    let (receipt, is_first) = match course.how {
-        Meanwhile::Waits => {
-            desk.write(&mut share, inserts(rt, alloc, &THREE));
-            desk.walk_and_wait(&mut reader, &mut share)
-        }
-        Meanwhile::Reads => {
-            desk.write(&mut share, inserts(rt, alloc, &TEN));
-            desk.kept_open(&mut reader, &mut share)
-        }
-    };
-    let audit = desk.audit(&receipt);
-    let list = desk.listed(&mut reader, course.last);
-    desk.leave(reader);
-    let count = share.count();
-    put(rt, &mut shares, share);
-    let number = closed(rt, domain, index, shares);
-    let read = (receipt.number, receipt.reads.as_slice().len());
-    (is_first, read, audit, list, count, number)
+impl Course {
+    /// Commits the first list, has a session of it kept open, and ends the index, whose last list is that of a number.
+    fn kept_on<L: Naming + Send + Sync, R: Threads + Wait + Abort + Sync>(
+        self,
+        rt: &R,
+        alloc: Global,
+        stage: Stage<'_>,
+    ) -> Found
+        requires { CanBegin L.place L.name L.parts L.last stage }
+    {
+        let (index, mut shares) = begun::<L, R, 2>(rt, alloc, stage);
+        let mut share = taken(rt, &mut shares);
+        let desk = Desk::of(rt, alloc, &index);
+        let mut reader = desk.entered();
+        let (receipt, is_first) = match self.how {
+            Meanwhile::Waits => {
+                desk.write(&mut share, inserts(rt, alloc, &THREE));
+                desk.walk_and_wait(&mut reader, &mut share)
+            }
+            Meanwhile::Reads => {
+                desk.write(&mut share, inserts(rt, alloc, &TEN));
+                desk.kept_open(&mut reader, &mut share)
+            }
+        };
+        desk.leave(reader);
+        let audit = desk.audit(&receipt);
+        let (list, _) = desk.listed(self.last);
+        let count = share.count();
+        put(rt, &mut shares, share);
+        let number = closed(rt, index, shares);
+        let read = (receipt.number, receipt.reads.as_slice().len());
+        (is_first, read, audit, list, count, number)
+    }
 }
 
 /// The same in a place of its own, for two participants and this many items.
@@ -243,9 +241,10 @@ fn in_a_place<R: Threads + Wait + Abort + Sync>(
     slots: u16,
     course: Course,
 ) -> Found {
-    let domain = place(alloc, place_for(2, usize::from(slots))).expect(rt, ROOM);
-    let local = member(rt, &domain);
-    let found = kept_on::<Brand, R>(rt, alloc, &domain, local, Blank::new(1), course);
+    let start = empty(2, slots, 1);
+    let domain = place(rt, alloc, start);
+    let stage = staged(rt, &domain, start);
+    let found = course.kept_on::<Brand, R>(rt, alloc, stage);
     end(rt, domain);
     found
 }
