@@ -252,6 +252,7 @@ impl Crowd {
         let is_read = is_list(&list, self.list);
         (told, are_audited, is_read, closed(rt, index, shares))
     }
+
     /// The same with 64 pairs in a segment at most, or with two.
     fn by_width<L: Naming + Send + Sync, R: Threads + Wait + Abort + Sync>(
         self,
