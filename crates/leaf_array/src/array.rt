@@ -353,11 +353,11 @@ impl<K: Ord, V> Array<K, V> {
         self.search_entry_counted(key, &mut steps)
     }
 
-    /// The pair with this key, by at most fifteen comparisons, which are counted.
+    /// The pair with this key, by at most ten comparisons, which are counted.
     #[inline(always)]
     pub fn search_entry_counted(&self, key: &K, steps: &mut Steps) -> Option<(&K, &V)>
         ensures pair { LendsPair result (pair_of_key K.cmp key.now self.now.pairs) }
-        ensures cost { steps.new.count ≤ steps.old.count + 15 }
+        ensures cost { steps.new.count ≤ steps.old.count + 10 }
         ensures raised { steps.old.count ≤ steps.new.count }
     {
         match self.found(key, steps) {
@@ -388,12 +388,12 @@ impl<K: Ord, V> Array<K, V> {
         self.lower_bound_counted(key, &mut steps)
     }
 
-    /// The same, by at most fifteen comparisons, which are counted.
+    /// The same, by at most nine comparisons, which are counted.
     #[inline(always)]
     pub fn lower_bound_counted(&self, key: &K, steps: &mut Steps) -> (usize, Option<(&K, &V)>)
         ensures place { result.0 ≡ lesser K.cmp key.now self.now.pairs }
         ensures pair { LendsPair result.1 (slice_get self.now.pairs (lesser K.cmp key.now self.now.pairs)) }
-        ensures cost { steps.new.count ≤ steps.old.count + 15 }
+        ensures cost { steps.new.count ≤ steps.old.count + 9 }
         ensures raised { steps.old.count ≤ steps.new.count }
     {
         self.slots.lower(key, steps)

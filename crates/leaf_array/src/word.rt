@@ -79,11 +79,11 @@ impl<K: Ord, V> Array<K, V> {
         self.min_greater_equal_counted(key, &mut steps)
     }
 
-    /// The same, by at most fifteen comparisons, which are counted.
+    /// The same, by at most nine comparisons, which are counted.
     pub fn min_greater_equal_counted(&self, key: &K, steps: &mut Steps) -> (Option<&V>, usize)
         ensures value { LendsValue result.0 (slice_get self.now.pairs (lesser K.cmp key.now self.now.pairs)) }
         ensures word { result.1 ≡ word self.now }
-        ensures cost { steps.new.count ≤ steps.old.count + 15 }
+        ensures cost { steps.new.count ≤ steps.old.count + 9 }
         ensures raised { steps.old.count ≤ steps.new.count }
     {
         let word = self.metadata();

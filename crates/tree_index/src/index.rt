@@ -238,12 +238,12 @@ impl<K: Ord, V> TreeIndex<K, V> {
         self.peek_entry_counted(key, &mut steps)
     }
 
-    /// The same, by at most fifteen comparisons in the leaf and in each node above it, which are counted: thirty
+    /// The same, by at most ten comparisons in the leaf and in each node above it, which are counted: twenty
     /// in a tree of a depth of at most 1.
     #[inline]
     pub fn peek_entry_counted(&self, key: &K, steps: &mut Steps) -> Option<(&K, &V)>
         ensures pair { LendsPair result (lookup_entry (is_at (K.cmp key.now)) self.now.pairs) }
-        ensures cost { steps.new.count ≤ steps.old.count + 15 * (self.now.depth + 1) }
+        ensures cost { steps.new.count ≤ steps.old.count + 10 * (self.now.depth + 1) }
         ensures raised { steps.old.count ≤ steps.new.count }
     {
         self.arenas.search_entry_counted(key, steps)

@@ -97,13 +97,13 @@ impl<K: Ord, V> Arenas<K, V> {
         self.node_at_counted(left, key, &mut steps)
     }
 
-    /// The same, by at most fifteen comparisons for each node on the way, which are counted.
+    /// The same, by at most ten comparisons for each node on the way, which are counted.
     #[inline(always)]
     fn node_at_counted(&self, left: usize, key: &K, steps: &mut Steps) -> usize
         requires sound { IsSound K.cmp self.now }
         requires within { left ≤ self.now.height }
         ensures place { result ≡ way K.cmp (content_of self.now) key.now (self.now.height - left) self.now.root }
-        ensures cost { steps.new.count ≤ steps.old.count + 15 * (self.now.height - left) }
+        ensures cost { steps.new.count ≤ steps.old.count + 10 * (self.now.height - left) }
         ensures raised { steps.old.count ≤ steps.new.count }
     {
         let mut at = self.root;
@@ -160,12 +160,12 @@ impl<K: Ord, V> Arenas<K, V> {
         self.search_entry_counted(key, &mut steps)
     }
 
-    /// The same, by at most fifteen comparisons in the leaf and in each node above it, which are counted.
+    /// The same, by at most ten comparisons in the leaf and in each node above it, which are counted.
     #[inline(always)]
     pub fn search_entry_counted(&self, key: &K, steps: &mut Steps) -> Option<(&K, &V)>
         requires { IsSound K.cmp self.now }
         ensures pair { LendsPair result (lookup_entry (is_at (K.cmp key.now)) (pairs_of self.now)) }
-        ensures cost { steps.new.count ≤ steps.old.count + 15 * (self.now.height + 1) }
+        ensures cost { steps.new.count ≤ steps.old.count + 10 * (self.now.height + 1) }
         ensures raised { steps.old.count ≤ steps.new.count }
     {
         match self.leaves.get(self.node_at_counted(0, key, steps)) {

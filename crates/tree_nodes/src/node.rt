@@ -135,11 +135,11 @@ impl<K: Ord> InnerNode<K> {
         self.child_counted(key, &mut steps)
     }
 
-    /// The same, by at most fifteen comparisons, which are counted.
+    /// The same, by at most nine comparisons, which are counted.
     #[inline(always)]
     pub(crate) fn child_counted(&self, key: &K, steps: &mut Steps) -> usize
         ensures child { result ≡ child_for K.cmp key.now self.now.children.pairs self.now.last }
-        ensures cost { steps.new.count ≤ steps.old.count + 15 }
+        ensures cost { steps.new.count ≤ steps.old.count + 9 }
         ensures raised { steps.old.count ≤ steps.new.count }
     {
         match self.children.lower_bound_counted(key, steps).1 {
