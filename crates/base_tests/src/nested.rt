@@ -205,11 +205,12 @@ impl<'r, R: Abort> Nest<'r, R> {
             Group(one, two) => self.made(one, two),
             _ => self.group(at),
         };
-        if !world::group::is_here(&self.w, &group) || self.w.participants() == 0 {
+        let name = group.name();
+        if !world::group::is_here(&self.w, name) || self.w.participants() == 0 {
             panic!(rt; "the group has an owner");
         }
         match step {
-            Raise(to) => match world::group::raise(&mut self.w, &group) {
+            Raise(to) => match world::group::raise(&mut self.w, name) {
                 Some(other) => self.put(to, At::Group(other)),
                 None => panic!(rt; "few owners are counted"),
             },

@@ -5,6 +5,7 @@ pub use Rattle.sdd_world.specs.Steps
 pub use Rattle.sdd_world.specs.Place
 pub use Rattle.sdd_world.specs.View
 pub use Rattle.sdd_world.specs.Frame
+pub use Rattle.sdd_world.specs.Groups
 pub use Rattle.sdd_world.specs.Dropping
 pub use Rattle.sdd_world.specs.Holding as WorldHolding
 pub use Rattle.sdd_world.specs.Tokens as WorldTokens

@@ -8,8 +8,8 @@ use Rattle.std.specs.List.{sum_by}
 use Rattle.std.specs.Vec.{with_item}
 use Rattle.sdd_table.specs.Names.{Lists}
 use Rattle.sdd_table.proofs.ListLemmas.{lists_names, lists_pop, lists_push, lists_same, lists_some}
-use Rattle.sdd_table.specs.Arena.{IsArena, group_of, groups_of, is_vacant}
-use Rattle.sdd_table.specs.Groups.{GroupState, IsFreeName, IsOut, count_at, group_at, less_owned, no_group, row_at, row_ended, with_count, without}
+use Rattle.sdd_table.specs.Arena.{IsArena, group_of, groups_of}
+use Rattle.sdd_table.specs.Groups.{GroupState, IsFreeName, IsOut, count_at, group_at, is_vacant, less_owned, no_group, row_at, row_ended, with_count, without}
 use Rattle.sdd_table.specs.Tokens.{kept_slot}
 use Rattle.sdd_table.specs.declared.groups.Entry.{Entry}
 use Rattle.sdd_table.specs.declared.groups.Groups.TheInside.{Inside}

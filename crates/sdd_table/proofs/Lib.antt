@@ -1,5 +1,6 @@
 pub mod ListLemmas
 pub mod ArenaLemmas
+pub mod GroupLemmas
 pub mod ChainLemmas
 pub mod ThreadLemmas
 pub mod BagInvariantLemmas

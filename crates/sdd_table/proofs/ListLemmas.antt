@@ -23,6 +23,14 @@ times-append j xs i =
     let b = sum_by-cons (λ k. hit k j) i [] in
     omega (arith, a, b)
 
+-- what stands in a list is there once at least
+pub named_times : (xs : List ℕ) (x d : ℕ) → x < length xs → 1 ≤ times (get_or xs x d) xs
+named_times [] x d h = absurd (omega (arith, h))
+named_times (y ∷ ys) zero d h = omega (arith, hit-same y, sum_by-cons (λ i. hit i y) y ys)
+named_times (y ∷ ys) (suc x) d h =
+    let j = get_or ys x d in
+    omega (arith, named_times ys x d (omega (arith, h)), sum_by-cons (λ i. hit i j) y ys)
+
 -- a number of a list becomes 1
 pub set_up : (xs : List ℕ) (i j : ℕ) → i < length xs → get_or xs i 0 ≡ 0 → get_or (set xs i 1) j 0 ≡ get_or xs j 0 + hit i j
 set_up xs i j lt was =

@@ -1,6 +1,6 @@
 -- how the fields of groups show them, and what is always true of them
-use Rattle.std.specs.Prelude.{◌≡◌, ℕ, zero, suc, ◌≤◌, List, [], length, map, vec_capacity}
-use Rattle.sdd_table.specs.Groups.{GroupState, count_at, row_at}
+use Rattle.std.specs.Prelude.{◌≡◌, ℕ, ◌≤◌, List, [], length, map, vec_capacity}
+use Rattle.sdd_table.specs.Groups.{GroupState, count_at, is_vacant, row_at}
 use Rattle.sdd_table.specs.Names.{Lists}
 use Rattle.sdd_table.specs.Tokens.{kept_slot}
 use Rattle.sdd_table.specs.declared.groups.Entry.{Entry}
@@ -12,14 +12,6 @@ group_of e = record { count = e.count; row = map kept_slot e.row.items }
 
 abbrev pub groups_of : Inside → List GroupState
 groups_of a = map group_of a.entries.items
-
--- 1 for a free name
-abbrev pub none_or_one : ℕ → ℕ
-none_or_one zero = 1
-none_or_one (suc n) = 0
-
-abbrev pub is_vacant : GroupState → ℕ
-is_vacant g = none_or_one g.count
 
 -- the stack names those that are free, each once, and has room for all; a free one has no row
 pub record IsArena (a : Inside) : Type 0 where

@@ -1,6 +1,7 @@
 -- groups of owners, as clauses see them: each is owned as often as its count says, and its row names what it owns
-use Rattle.std.specs.Prelude.{◌≡◌, ◌≢◌, ◌<◌, ◌+◌, ◌-◌, ℕ, zero, suc, List, [], ◌∷◌, ◌++◌, cond, get_or, leb, length, set}
+use Rattle.std.specs.Prelude.{◌≡◌, ◌≢◌, ◌<◌, ◌+◌, ◌-◌, ℕ, zero, suc, List, [], ◌∷◌, ◌++◌, cond, get_or, leb, length, set, sum_by}
 use Rattle.sdd_table.specs.declared.groups.Group.{Group}
+use Rattle.sdd_table.specs.declared.groups.GroupName.{GroupName}
 
 -- a group: how often it is owned, and the slots of the items whose owners its row keeps; 0 where its name is free
 pub record GroupState : Type 0 where
@@ -13,6 +14,10 @@ no_group = record { count = 0; row = [] }
 -- the name that an owner of a group has
 abbrev pub name_of : Group → ℕ
 name_of group = group.name
+
+-- the group that a name is of
+abbrev pub group_named : GroupName → ℕ
+group_named name = name.number
 
 abbrev pub group_at : List GroupState → ℕ → GroupState
 group_at gs g = get_or gs g no_group
@@ -36,6 +41,30 @@ IsFreeName gs g = (g < length gs) × (count_at gs g ≡ 0)
 
 abbrev pub NoNameFree : List GroupState → Type 0
 NoNameFree gs = (g : ℕ) → g < length gs → count_at gs g ≢ 0
+
+-- 1 for a free name
+abbrev pub none_or_one : ℕ → ℕ
+none_or_one zero = 1
+none_or_one (suc n) = 0
+
+abbrev pub is_vacant : GroupState → ℕ
+is_vacant g = none_or_one g.count
+
+-- how many names are free
+abbrev pub free_names : List GroupState → ℕ
+free_names gs = sum_by is_vacant gs
+
+-- each group that is out stays out, with its row
+abbrev pub GroupsGrow : (gs hs : List GroupState) → Type 0
+GroupsGrow gs hs = (g : ℕ) → IsOut gs g → IsOut hs g × (row_at hs g ≡ row_at gs g)
+
+-- each group that is out was out before, with the same row
+abbrev pub GroupsShrink : (gs hs : List GroupState) → Type 0
+GroupsShrink gs hs = GroupsGrow hs gs
+
+-- a group that is out before and afterwards keeps its row
+abbrev pub SameRows : (gs hs : List GroupState) → Type 0
+SameRows gs hs = (g : ℕ) → IsOut gs g → IsOut hs g → row_at hs g ≡ row_at gs g
 
 -- group g has this count, and no other group has changed
 abbrev pub with_count : ℕ → ℕ → List GroupState → List GroupState

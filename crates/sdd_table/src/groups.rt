@@ -5,7 +5,7 @@
 //! owner of a group ends it: its row is handed over, to be given back by the same call.
 
 ghost use Rattle.std.specs.Prelude.{◌≡◌, ◌↔◌, ◌++◌, ◌∷◌, [], ℕ, map, IfErr, IfNone, IfOk, IfSome, IsFalse, IsTrue, OnErr, OnOk};
-ghost use Rattle.sdd_table.specs.Groups.{IsFreeName, IsOut, NoNameFree, NoneOut, count_at, less_owned, more_owned, name_of, no_group, row_at, row_ended, with_row};
+ghost use Rattle.sdd_table.specs.Groups.{IsFreeName, IsOut, NoNameFree, NoneOut, count_at, free_names, group_named, less_owned, more_owned, name_of, no_group, row_at, row_ended, with_row};
 ghost use Rattle.sdd_table.specs.Tokens.{kept_slot};
 
 use crate::owner::Kept;
@@ -16,6 +16,21 @@ use std::mem;
 /// One of the owners of a group. It must be consumed: given back, or moved into an item.
 pub struct Group {
     pub(crate) name: usize,
+}
+
+/// Which group it is, as plain data: what lets a call change a place while an item in it keeps the owner. It keeps nothing.
+#[derive(Clone, Copy)]
+pub struct GroupName {
+    number: usize,
+}
+
+impl Group {
+    /// The name of the group.
+    pub fn name(&self) -> GroupName
+        ensures { group_named result ≡ name_of self.now }
+    {
+        GroupName { number: self.name }
+    }
 }
 
 /// A row with its count; 0 where the name is free.
@@ -89,18 +104,18 @@ impl Groups {
     }
 
     /// One more owner of a group: one count is written, whatever the length of the row. None where it has `2^32 - 1` owners.
-    pub(crate) fn raise(&mut self, group: &Group) -> Option<Group>
-        requires { IsOut self.old (name_of group.now) }
-        ensures raised { IfSome result (λ other. (name_of other ≡ name_of group.now) × (self.new ≡ more_owned (name_of group.now) self.old)) }
-        ensures refused { IfNone result ((self.new ≡ self.old) × (count_at self.old (name_of group.now) ≡ 4294967295)) }
-        ensures full { count_at self.old (name_of group.now) ≡ 4294967295 → result ≡ None }
+    pub(crate) fn raise(&mut self, name: GroupName) -> Option<Group>
+        requires { IsOut self.old (group_named name) }
+        ensures raised { IfSome result (λ other. (name_of other ≡ group_named name) × (self.new ≡ more_owned (group_named name) self.old)) }
+        ensures refused { IfNone result ((self.new ≡ self.old) × (count_at self.old (group_named name) ≡ 4294967295)) }
+        ensures full { count_at self.old (group_named name) ≡ 4294967295 → result ≡ None }
     {
-        let entry = &mut self.entries[group.name];
+        let entry = &mut self.entries[name.number];
         if entry.count == u32::MAX {
             return None;
         }
         entry.count += 1;
-        Some(Group { name: group.name })
+        Some(Group { name: name.number })
     }
 
     /// An owner of a group is given back. Where it was the last, its row is handed over, and its name is free.
@@ -131,20 +146,20 @@ impl Groups {
     }
 
     /// The row of a group; none where nobody owns it.
-    pub(crate) fn row(&self, group: &Group) -> &[Kept]
-        ensures { map kept_slot result.now ≡ row_at self.now (name_of group.now) }
+    pub(crate) fn row(&self, name: GroupName) -> &[Kept]
+        ensures { map kept_slot result.now ≡ row_at self.now (group_named name) }
     {
-        match self.entries.get(group.name) {
+        match self.entries.get(name.number) {
             Some(entry) => &entry.row,
             None => &[],
         }
     }
 
-    /// Whether a group of this name has an owner: it has, where `group` is one of its owners.
-    pub(crate) fn is_out(&self, group: &Group) -> bool
-        ensures { IsTrue result ↔ IsOut self.now (name_of group.now) }
+    /// Whether the group of this name has an owner.
+    pub(crate) fn is_out(&self, name: GroupName) -> bool
+        ensures { IsTrue result ↔ IsOut self.now (group_named name) }
     {
-        match self.entries.get(group.name) {
+        match self.entries.get(name.number) {
             Some(entry) => entry.count > 0,
             None => false,
         }
@@ -164,6 +179,13 @@ impl Groups {
         ensures free { IsFalse result → (g : ℕ) × IsFreeName self.now g }
     {
         self.free.is_empty()
+    }
+
+    /// How many names are free.
+    pub(crate) fn free_count(&self) -> usize
+        ensures { result ≡ free_names self.now }
+    {
+        self.free.len()
     }
 
     /// Gives the room back, where no group has an owner.

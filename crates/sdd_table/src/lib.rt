@@ -23,7 +23,7 @@ pub mod table;
 pub mod tokens;
 
 pub use cell::{AtomicOwned, AtomicShared};
-pub use groups::Group;
+pub use groups::{Group, GroupName};
 pub use holds::{Held, Holds, KeepsRow};
 pub use job::{Deferred, Job, NoJob, Task};
 pub use link::Link;

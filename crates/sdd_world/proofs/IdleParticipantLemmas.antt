@@ -133,7 +133,7 @@ module _ {T : Type 0} (holds : T → List Hold) where
             let x : State T = with_local p more w in
             let first : State T = cond ((local_at w p).previous == w.count) (count_published p w) (participant_rotated holds p (count_published p w)) in
             let is : o ≡ x = ap (λ (b : Bool). cond b first x) t.0 in
-            let S : Shrinks w x = record { values = λ j u e. e; cells = λ c j e. e; rows = λ g j e. e; jobs = λ j e. e; plain = λ j e. e } in
+            let S : Shrinks w x = record { values = λ j u e. e; cells = λ c j e. e; rows = λ g j e. e; groups = λ g out. (out, refl); jobs = λ j e. e; plain = λ j e. e } in
             let all : Shrinks w x × (in_use x ≤ in_use w) × ((local_at x p).nesting ≡ (local_at w p).nesting + 1) = (S, omega arith, ap (λ (m : ParticipantState). m.local.nesting) (local_set p more w known)) in
             subst (λ (y : State T). Shrinks w y × (in_use y ≤ in_use w) × ((local_at y p).nesting ≡ (local_at w p).nesting + 1)) (sym is) all
       ]

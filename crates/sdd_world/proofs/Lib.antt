@@ -3,9 +3,12 @@ pub use Rattle.sdd_table.proofs.SlotLemmas
 pub use Rattle.sdd_table.proofs.BagInvariantLemmas
 pub use Rattle.sdd_table.proofs.PlaceLemmas
 pub use Rattle.sdd_table.proofs.KeepingLemmas
+pub use Rattle.sdd_table.proofs.GroupLemmas
 pub mod FrameLemmas
 pub mod RowLemmas
 pub mod CountLemmas
+pub mod OwnerBoundLemmas
+pub mod HeldGroupLemmas
 pub mod PrivateCollectorLemmas
 pub mod PassLemmas
 pub mod NoteLemmas

@@ -18,6 +18,7 @@ use Rattle.sdd_table.specs.declared.status.Status.TheVariants as status
 use Rattle.sdd_table.specs.declared.status.Cell.{Cell}
 use Rattle.sdd_table.specs.declared.status.Cell.TheVariants as cell
 use Rattle.sdd_table.specs.declared.status.LocalState.{LocalState}
+use Rattle.sdd_table.proofs.GroupLemmas.{groups_then, lowered_shrinks}
 use Rattle.sdd_table.proofs.ListLemmas.{hit-same, hit-other, times-append}
 use Rattle.sdd_table.proofs.BagInvariantLemmas.{reclaims_next, sound_turned, sound_taken, due_waiting, times_reversed, bag_waits, gives_given, released_known}
 use Rattle.sdd_table.proofs.PlaceLemmas.{rotates, place_local, place_closed, place_begun}
@@ -73,10 +74,10 @@ plain_vacated status.Idle e = absurd (false≢true e)
 plain_vacated status.Deferred e = absurd (false≢true e)
 
 pub shrinks_refl : {T : Type 0} (w : State T) → Shrinks w w
-shrinks_refl w = record { values = λ j u e. e; cells = λ c j e. e; rows = λ g j e. e; jobs = λ j e. e; plain = λ j e. e }
+shrinks_refl w = record { values = λ j u e. e; cells = λ c j e. e; rows = λ g j e. e; groups = λ g out. (out, refl); jobs = λ j e. e; plain = λ j e. e }
 
 pub shrinks_then : {T : Type 0} (u v w : State T) → Shrinks u v → Shrinks v w → Shrinks u w
-shrinks_then u v w a b = record { values = λ j x e. a.values j x (b.values j x e); cells = λ c j e. a.cells c j (b.cells c j e); rows = λ g j e. a.rows g j (b.rows g j e); jobs = λ j e. a.jobs j (b.jobs j e); plain = λ j e. b.plain j (a.plain j e) }
+shrinks_then u v w a b = record { values = λ j x e. a.values j x (b.values j x e); cells = λ c j e. a.cells c j (b.cells c j e); rows = λ g j e. a.rows g j (b.rows g j e); groups = groups_then w.groups v.groups u.groups b.groups a.groups; jobs = λ j e. a.jobs j (b.jobs j e); plain = λ j e. b.plain j (a.plain j e) }
 
 held_before : {T : Type 0} (w w' : State T) → Shrinks w w' → (h : Hold) (j : ℕ) → Reaches w' h j → Reaches w h j
 held_before w w' s (OwnedItem i) j e = e
@@ -100,7 +101,7 @@ adds_retired : {T : Type 0} (w : State T) (p i : ℕ) → p < length w.participa
 adds_retired w p i known =
     let at : participant_at (retired p i w) p ≡ put_participant i (participant_at w p) = get_or-set_same w.participants p (put_participant i (participant_at w p)) nobody known in
     record {
-      shrinks = record { values = λ j u e. e; cells = λ c j e. e; rows = λ g j e. e; jobs = λ j e. status_before w.states i j status.Retired (λ f. cc) e; plain = λ j e. plain_after w.states i j status.Retired (λ f. refl) e };
+      shrinks = record { values = λ j u e. e; cells = λ c j e. e; rows = λ g j e. e; groups = λ g out. (out, refl); jobs = λ j e. status_before w.states i j status.Retired (λ f. cc) e; plain = λ j e. plain_after w.states i j status.Retired (λ f. refl) e };
       added = λ j s. elim (eqb_tells j i) [
         | inl t ↦ inr (ap (λ (k : ℕ). Some k) (sym t.1))
         | inr t ↦ let bag = ap (λ (m : ParticipantState). times j m.current) at in let more = times-append j (participant_at w p).current i in let none = hit-other i j t.1 in inl (omega (arith, s, bag, more, none))
@@ -108,7 +109,7 @@ adds_retired w p i known =
     }
 
 adds_status : {T : Type 0} (w : State T) (p i n : ℕ) (o : Option ℕ) → ltb 0 n ≡ true → Adds p o w (with_status i (status.Shared n) w)
-adds_status w p i n o some = record { shrinks = record { values = λ j u e. e; cells = λ c j e. e; rows = λ g j e. e; jobs = λ j e. status_before w.states i j (status.Shared n) (λ f. cc) e; plain = λ j e. plain_after w.states i j (status.Shared n) (λ f. some) e }; added = λ j s. inl s }
+adds_status w p i n o some = record { shrinks = record { values = λ j u e. e; cells = λ c j e. e; rows = λ g j e. e; groups = λ g out. (out, refl); jobs = λ j e. status_before w.states i j (status.Shared n) (λ f. cc) e; plain = λ j e. plain_after w.states i j (status.Shared n) (λ f. some) e }; added = λ j s. inl s }
 
 left_some : (n : ℕ) → leb n 1 ≡ false → ltb 0 (n - 1) ≡ true
 left_some zero e = absurd (false≢true (sym e))
@@ -136,7 +137,7 @@ adds_disowned w p i status.Idle known = adds_refl p (Some i) w
 adds_disowned w p i status.Deferred known = adds_refl p (Some i) w
 
 adds_cell : {T : Type 0} (w : State T) (p c : ℕ) (o : Option ℕ) → Adds p o w (with_cell c cell.Free w)
-adds_cell w p c o = record { shrinks = record { values = λ j u e. e; cells = λ d j e. cell_before w.cells c d j e; rows = λ g j e. e; jobs = λ j e. e; plain = λ j e. e }; added = λ j s. inl s }
+adds_cell w p c o = record { shrinks = record { values = λ j u e. e; cells = λ d j e. cell_before w.cells c d j e; rows = λ g j e. e; groups = λ g out. (out, refl); jobs = λ j e. e; plain = λ j e. e }; added = λ j s. inl s }
 
 -- a cell ends first
 adds_after : {T : Type 0} (w w' : State T) (p c : ℕ) (o : Option ℕ) → Adds p o (with_cell c cell.Free w) w' → Adds p o w w'
@@ -211,7 +212,7 @@ adds_group w p g known =
     let u = with_groups (less_owned g w.groups) w in
     let a = adds_each u p (reverse (row_ended g w.groups)) known in
     record {
-      shrinks = shrinks_then w u _ (record { values = λ j v e. e; cells = λ c j e. e; rows = λ k j e. less_before w.groups g k j e; jobs = λ j e. e; plain = λ j e. e }) a.shrinks;
+      shrinks = shrinks_then w u _ (record { values = λ j v e. e; cells = λ c j e. e; rows = λ k j e. less_before w.groups g k j e; groups = lowered_shrinks w.groups g; jobs = λ j e. e; plain = λ j e. e }) a.shrinks;
       added = λ j s. elim (a.added j s) [ inl t ↦ inl t | inr t ↦ inr (ended_before w.groups g j (omega (arith, t, times_reversed j (row_ended g w.groups)))) ];
     }
 
@@ -259,7 +260,7 @@ holder holds (Some v) h s = (v, refl, s)
 
 module _ {T : Type 0} (holds : T → List Hold) where
   shrinks_taken : (p i : ℕ) (is : List ℕ) (w : State T) → Shrinks w (taken p i is w)
-  shrinks_taken p i is w = record { values = λ j u e. value_before w.values i j u e; cells = λ c j e. e; rows = λ g j e. e; jobs = λ j e. status_before w.states i j (vacated (status_at w i)) (vacated_idle (status_at w i)) e; plain = λ j e. plain_after w.states i j (vacated (status_at w i)) (plain_vacated (status_at w i)) e }
+  shrinks_taken p i is w = record { values = λ j u e. value_before w.values i j u e; cells = λ c j e. e; rows = λ g j e. e; groups = λ g out. (out, refl); jobs = λ j e. status_before w.states i j (vacated (status_at w i)) (vacated_idle (status_at w i)) e; plain = λ j e. plain_after w.states i j (vacated (status_at w i)) (plain_vacated (status_at w i)) e }
 
   adds_due : (p i : ℕ) (is : List ℕ) (w : State T) → Sound w → p < length w.participants → (participant_at w p).due ≡ i ∷ is → AddsAll p (held_in holds (value_at w i)) (taken p i is w) (due_reclaimed holds p w)
   adds_due p i is w h known was =
@@ -288,7 +289,7 @@ module _ {T : Type 0} (holds : T → List Hold) where
       let size : length u.participants ≡ length w.participants = length-set w.participants p (bags_moved_on (participant_at w p)) in
       let due = due_turned w p known in
       let s = shrinks_runs p (length (participant_at w p).oldest) u (participant_at u p).due refl (ap length due ∙ length-reverse (participant_at w p).oldest) (sound_turned w p h.sound known (h.idle p)) (omega (arith, size, known)) in
-      record { values = s.values; cells = s.cells; rows = s.rows; jobs = s.jobs; plain = s.plain }
+      record { values = s.values; cells = s.cells; rows = s.rows; groups = s.groups; jobs = s.jobs; plain = s.plain }
 
 module _ {T : Type 0} (holds : T → List Hold) (level : T → ℕ) where
   -- what is in a list of places has a level below n
@@ -382,7 +383,7 @@ module _ {T : Type 0} (holds : T → List Hold) (w : State T) (p : ℕ) (h : IsP
     others = λ k n. get_or-set_other w.participants p k (with_local_state begin_local (participant_at w p)) nobody n;
     participants = length-set w.participants p (with_local_state begin_local (participant_at w p));
     place = place_begun w p h known;
-    shrinks = record { values = λ j u e. e; cells = λ c j e. e; rows = λ g j e. e; jobs = λ j e. e; plain = λ j e. e };
+    shrinks = record { values = λ j u e. e; cells = λ c j e. e; rows = λ g j e. e; groups = λ g out. (out, refl); jobs = λ j e. e; plain = λ j e. e };
   }
 
   opens_turned : Opens p w (participant_rotated holds p (count_published p w))
@@ -398,7 +399,7 @@ module _ {T : Type 0} (holds : T → List Hold) (w : State T) (p : ℕ) (h : IsP
         others = λ k n. r.others k n ∙ b.others k n;
         participants = r.known ∙ b.participants;
         place = r.place;
-        shrinks = record { values = s.values; cells = s.cells; rows = s.rows; jobs = s.jobs; plain = s.plain };
+        shrinks = record { values = s.values; cells = s.cells; rows = s.rows; groups = s.groups; jobs = s.jobs; plain = s.plain };
       }
 
   pub opens : Opens p w (guard_opened holds p w)
@@ -506,7 +507,7 @@ module _ {T : Type 0} (holds : T → List Hold) where
         prior = ap (λ (m : ParticipantState). m.prior) atx ∙ ap (λ (m : ParticipantState). m.prior) ata;
         oldest = ap (λ (m : ParticipantState). m.oldest) atx ∙ ap (λ (m : ParticipantState). m.oldest) ata;
         values = refl;
-        shrinks = record { values = O.shrinks.values; cells = O.shrinks.cells; rows = O.shrinks.rows; jobs = O.shrinks.jobs; plain = O.shrinks.plain };
+        shrinks = record { values = O.shrinks.values; cells = O.shrinks.cells; rows = O.shrinks.rows; groups = O.shrinks.groups; jobs = O.shrinks.jobs; plain = O.shrinks.plain };
         place = placex;
       } in
       subst (λ (s : State T). IsPassed p w o s) (sym is) whole

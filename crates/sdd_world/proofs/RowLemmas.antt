@@ -97,6 +97,12 @@ module _ (gs : List GroupState) (g : ℕ) (i : ℕ) where
   counted_without h =
       omega (arith, times_rows gs i, times_rows (without g gs) i, set_named no_group (out_inside gs g h), once_some (count_at gs g) (times i (row_at gs g)) h)
 
+  -- one owner of a group less takes away its row at most
+  pub row_lowered : IsOut gs g → times i (rows_of gs) ≤ times i (rows_of (with_count g (count_at gs g - 1) gs)) + times i (row_at gs g)
+  row_lowered h =
+      let t = times i (row_at gs g) in
+      omega (arith, times_rows gs i, times_rows (with_count g (count_at gs g - 1) gs) i, set_named (record { count = count_at gs g - 1; row = row_at gs g }) (out_inside gs g h), once_some (count_at gs g) t h)
+
   counted_made : (row : List ℕ) → IsFreeName gs g → times i (rows_of (with_row g row gs)) ≡ times i (rows_of gs) + times i row
   counted_made row free =
       omega (arith, times_rows gs i, times_rows (with_row g row gs) i, set_named (record { count = 1; row = row }) free.0, once_none (count_at gs g) (times i (row_at gs g)) free.1)

@@ -1,6 +1,6 @@
 -- what accelerated guards, opened and closed one by one, make of what waits
 use Rattle.std.specs.Prelude.{◌≡◌, ◌≢◌, ℕ, zero, suc, ◌+◌, ◌-◌, ◌<◌, ◌≤◌, Bool, true, false, ltb, Option, None, Some, List, length}
-use Rattle.sdd_table.specs.Groups.{row_at}
+use Rattle.sdd_table.specs.Groups.{GroupsShrink, row_at}
 use Rattle.sdd_table.specs.Holding.{Hold, OwnedItem, SharedItem, OwnedIn, SharedIn, OwnerGroup}
 use Rattle.sdd_table.specs.State.{State, participant_at, local_at, status_at, value_at, cell_at, with_local, in_use}
 use Rattle.sdd_table.specs.Steps.{times, guard_opened, guard_closed, released, bags_empty, NoneOpen}
@@ -34,11 +34,12 @@ is_plain status.Deferred = false
 abbrev pub IsPlain : {T : Type 0} → State T → Type 0
 IsPlain w = (j : ℕ) → is_plain (status_at w j) ≡ true
 
--- values, what cells and rows name, and jobs only go; a plain place stays plain
+-- values, what cells and rows name, groups and jobs only go; a plain place stays plain
 pub record Shrinks {T : Type 0} (w w' : State T) : Type 0 where
   pub values : (j : ℕ) (u : T) → value_at w' j ≡ Some u → value_at w j ≡ Some u
   pub cells : (c j : ℕ) → slot_kept (cell_at w' c) ≡ Some j → slot_kept (cell_at w c) ≡ Some j
   pub rows : (g j : ℕ) → 1 ≤ times j (row_at w'.groups g) → 1 ≤ times j (row_at w.groups g)
+  pub groups : GroupsShrink w.groups w'.groups
   pub jobs : (j : ℕ) → status_at w' j ≡ status.Deferred → status_at w j ≡ status.Deferred
   pub plain : (j : ℕ) → is_plain (status_at w j) ≡ true → is_plain (status_at w' j) ≡ true
 

@@ -21,7 +21,7 @@ pub use guard::WorldGuard;
 pub use pointer::{Loaded, Ptr, RawPtr};
 pub use refusal::{GuardsOpen, Nested, NoSlot, NotLent};
 pub use sdd_table::{
-    Deferred, Epoch, Group, Held, Holds, Job, KeepsRow, Kept, Link, NoJob, Owned, Plain, Shared,
-    Sizes, Tag, Task, epoch, holds, job, link, owner, plain, sizes, status, tag,
+    Deferred, Epoch, Group, GroupName, Held, Holds, Job, KeepsRow, Kept, Link, NoJob, Owned, Plain,
+    Shared, Sizes, Tag, Task, epoch, groups, holds, job, link, owner, plain, sizes, status, tag,
 };
 pub use world::World;

@@ -1,12 +1,12 @@
 //! Groups of owners in a table.
 
 ghost use Rattle.std.specs.Prelude.{◌≡◌, ◌↔◌, ◌+◌, ◌-◌, ◌≤◌, ◌++◌, ◌∷◌, [], ℕ, length, map, vec_capacity, None, IfErr, IfNone, IfOk, IfSome, IsFalse, IsTrue, OnErr, OnOk};
-ghost use Rattle.sdd_table.specs.Groups.{IsFreeName, IsOut, NoNameFree, count_at, less_owned, more_owned, name_of, no_group, row_at, row_ended, with_row};
+ghost use Rattle.sdd_table.specs.Groups.{IsFreeName, IsOut, NoNameFree, count_at, free_names, group_named, less_owned, more_owned, name_of, no_group, row_at, row_ended, with_row};
 ghost use Rattle.sdd_table.specs.Place.{AddsOwners, TakeOwners, row_between};
 ghost use Rattle.sdd_table.specs.State.{with_groups};
 ghost use Rattle.sdd_table.specs.Tokens.{kept_slot};
 
-use crate::groups::Group;
+use crate::groups::{Group, GroupName};
 use crate::job::Deferred;
 use crate::keeping;
 use crate::owner::Kept;
@@ -32,13 +32,13 @@ impl<T, J: Deferred> Table<T, J> {
     }
 
     /// One more owner of a group: one count is written, whatever the length of the row. None where it has `2^32 - 1` owners.
-    pub fn raise_group(&mut self, group: &Group) -> Option<Group>
-        requires { IsOut self.old.groups (name_of group.now) }
-        ensures raised { IfSome result (λ other. (name_of other ≡ name_of group.now) × (self.new ≡ with_groups (more_owned (name_of group.now) self.old.groups) self.old)) }
-        ensures refused { IfNone result ((self.new ≡ self.old) × (count_at self.old.groups (name_of group.now) ≡ 4294967295)) }
-        ensures full { count_at self.old.groups (name_of group.now) ≡ 4294967295 → result ≡ None }
+    pub fn raise_group(&mut self, name: GroupName) -> Option<Group>
+        requires { IsOut self.old.groups (group_named name) }
+        ensures raised { IfSome result (λ other. (name_of other ≡ group_named name) × (self.new ≡ with_groups (more_owned (group_named name) self.old.groups) self.old)) }
+        ensures refused { IfNone result ((self.new ≡ self.old) × (count_at self.old.groups (group_named name) ≡ 4294967295)) }
+        ensures full { count_at self.old.groups (group_named name) ≡ 4294967295 → result ≡ None }
     {
-        self.groups.raise(group)
+        self.groups.raise(name)
     }
 
     /// An owner of a group is given back. Where it was the last, its row is handed over, and its name is free.
@@ -54,31 +54,44 @@ impl<T, J: Deferred> Table<T, J> {
     pub fn group_row(&self, group: &Group) -> &[Kept]
         ensures { map kept_slot result.now ≡ row_at self.now.groups (name_of group.now) }
     {
-        self.groups.row(group)
+        self.groups.row(group.name())
     }
 
     /// One more owner of each item that the row of a group names, from one place of it up to another, for another row to keep.
     /// The counts alone are written. Condition: the row has these places, and each item there has owners, fewer than
     /// `2^32 - 1`, and is there once.
-    pub fn keep_group_row(&mut self, group: &Group, from: usize, upto: usize, into: &mut Vec<Kept>)
+    pub fn keep_group_row(
+        &mut self,
+        name: GroupName,
+        from: usize,
+        upto: usize,
+        into: &mut Vec<Kept>,
+    )
         requires ordered { from ≤ upto }
-        requires within { upto ≤ length (row_at self.old.groups (name_of group.now)) }
-        requires takes { TakeOwners (row_between self.old (name_of group.now) from upto) self.old }
+        requires within { upto ≤ length (row_at self.old.groups (group_named name)) }
+        requires takes { TakeOwners (row_between self.old (group_named name) from upto) self.old }
         requires room { length into.old.items + (upto - from) ≤ vec_capacity into.old }
-        ensures owners { map kept_slot into.new.items ≡ map kept_slot into.old.items ++ row_between self.old (name_of group.now) from upto }
-        ensures raised { AddsOwners (row_between self.old (name_of group.now) from upto) self.old self.new }
+        ensures owners { map kept_slot into.new.items ≡ map kept_slot into.old.items ++ row_between self.old (group_named name) from upto }
+        ensures raised { AddsOwners (row_between self.old (group_named name) from upto) self.old self.new }
         ensures long { length into.new.items ≡ length into.old.items + (upto - from) }
         ensures room { vec_capacity into.old ≤ vec_capacity into.new }
     {
-        let row = self.groups.row(group);
+        let row = self.groups.row(name);
         keeping::keep_each(&row[from..upto], &mut self.states, into);
     }
 
-    /// Whether a group of this name has an owner: it has, where `group` is one of its owners.
-    pub fn is_group_out(&self, group: &Group) -> bool
-        ensures { IsTrue result ↔ IsOut self.now.groups (name_of group.now) }
+    /// Whether the group of this name has an owner.
+    pub fn is_group_out(&self, name: GroupName) -> bool
+        ensures { IsTrue result ↔ IsOut self.now.groups (group_named name) }
     {
-        self.groups.is_out(group)
+        self.groups.is_out(name)
+    }
+
+    /// How many names for groups are free.
+    pub fn free_group_count(&self) -> usize
+        ensures { result ≡ free_names self.now.groups }
+    {
+        self.groups.free_count()
     }
 
     /// Whether no name of a group is free.

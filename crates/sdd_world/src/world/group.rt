@@ -5,7 +5,7 @@
 
 ghost use Rattle.std.specs.Prelude.{◌≡◌, ◌↔◌, ◌<◌, ◌≤◌, ◌+◌, ◌-◌, ◌++◌, ◌∷◌, [], ℕ, length, map, vec_capacity, IfErr, IfNone, IfOk, IfSome, IsFalse, IsTrue, OnErr, OnOk, None};
 ghost use Rattle.sdd_table.specs.Frame.{Frame, OnlyParticipant, SameNesting};
-ghost use Rattle.sdd_table.specs.Groups.{IsFreeName, IsOut, NoNameFree, count_at, more_owned, name_of, no_group, row_at, with_row};
+ghost use Rattle.sdd_table.specs.Groups.{IsFreeName, IsOut, NoNameFree, count_at, free_names, group_named, more_owned, name_of, no_group, row_at, with_row};
 ghost use Rattle.sdd_table.specs.Place.{AddsOwners, TakeOwners, row_between};
 ghost use Rattle.sdd_table.specs.State.{with_groups};
 ghost use Rattle.sdd_table.specs.Steps.{group_given};
@@ -14,7 +14,7 @@ ghost use Rattle.sdd_world.specs.Tokens.{kept_slot};
 use crate::job::Deferred;
 use crate::owner::Kept;
 use crate::world::World;
-use sdd_table::groups::Group;
+use sdd_table::groups::{Group, GroupName};
 use sdd_table::reclaim;
 use std::alloc::AllocError;
 
@@ -37,16 +37,16 @@ pub fn make<T, J: Deferred>(w: &mut World<T, J>, row: Vec<Kept>) -> Result<Group
     w.table.make_group(row)
 }
 
-/// One more owner of a group, and so of each item that its row names: one count is written, whatever the length of the row.
-/// None where it has `2^32 - 1` owners.
-pub fn raise<T, J: Deferred>(w: &mut World<T, J>, group: &Group) -> Option<Group>
-    requires { IsOut w.old.groups (name_of group.now) }
-    ensures raised { IfSome result (λ other. (name_of other ≡ name_of group.now) × (w.new ≡ with_groups (more_owned (name_of group.now) w.old.groups) w.old)) }
-    ensures refused { IfNone result ((w.new ≡ w.old) × (count_at w.old.groups (name_of group.now) ≡ 4294967295)) }
-    ensures full { count_at w.old.groups (name_of group.now) ≡ 4294967295 → result ≡ None }
+/// One more owner of the group of this name, and so of each item that its row names: one count is written, whatever the length
+/// of the row. None where it has `2^32 - 1` owners.
+pub fn raise<T, J: Deferred>(w: &mut World<T, J>, name: GroupName) -> Option<Group>
+    requires { IsOut w.old.groups (group_named name) }
+    ensures raised { IfSome result (λ other. (name_of other ≡ group_named name) × (w.new ≡ with_groups (more_owned (group_named name) w.old.groups) w.old)) }
+    ensures refused { IfNone result ((w.new ≡ w.old) × (count_at w.old.groups (group_named name) ≡ 4294967295)) }
+    ensures full { count_at w.old.groups (group_named name) ≡ 4294967295 → result ≡ None }
     ensures keeps { Frame w.old w.new }
 {
-    w.table.raise_group(group)
+    w.table.raise_group(name)
 }
 
 /// Gives an owner of a group back. The last one ends the group: one owner of each item that its row names is given back, from
@@ -72,29 +72,36 @@ pub fn row<'w, T, J: Deferred>(w: &'w World<T, J>, group: &Group) -> &'w [Kept]
 /// Condition: the row has these places, and each item there has owners, fewer than `2^32 - 1`, and is there once.
 pub fn keep_row<T, J: Deferred>(
     w: &mut World<T, J>,
-    group: &Group,
+    name: GroupName,
     from: usize,
     upto: usize,
     into: &mut Vec<Kept>,
 )
     requires ordered { from ≤ upto }
-    requires within { upto ≤ length (row_at w.old.groups (name_of group.now)) }
-    requires takes { TakeOwners (row_between w.old (name_of group.now) from upto) w.old }
+    requires within { upto ≤ length (row_at w.old.groups (group_named name)) }
+    requires takes { TakeOwners (row_between w.old (group_named name) from upto) w.old }
     requires room { length into.old.items + (upto - from) ≤ vec_capacity into.old }
-    ensures owners { map kept_slot into.new.items ≡ map kept_slot into.old.items ++ row_between w.old (name_of group.now) from upto }
-    ensures raised { AddsOwners (row_between w.old (name_of group.now) from upto) w.old w.new }
+    ensures owners { map kept_slot into.new.items ≡ map kept_slot into.old.items ++ row_between w.old (group_named name) from upto }
+    ensures raised { AddsOwners (row_between w.old (group_named name) from upto) w.old w.new }
     ensures long { length into.new.items ≡ length into.old.items + (upto - from) }
     ensures room { vec_capacity into.old ≤ vec_capacity into.new }
     ensures keeps { Frame w.old w.new }
 {
-    w.table.keep_group_row(group, from, upto, into);
+    w.table.keep_group_row(name, from, upto, into);
 }
 
-/// Whether a group of this name has an owner: it has, where `group` is one of its owners in this place.
-pub fn is_here<T, J: Deferred>(w: &World<T, J>, group: &Group) -> bool
-    ensures { IsTrue result ↔ IsOut w.now.groups (name_of group.now) }
+/// Whether the group of this name has an owner: it has, where one of its owners in this place gave the name.
+pub fn is_here<T, J: Deferred>(w: &World<T, J>, name: GroupName) -> bool
+    ensures { IsTrue result ↔ IsOut w.now.groups (group_named name) }
 {
-    w.table.is_group_out(group)
+    w.table.is_group_out(name)
+}
+
+/// How many names for groups are free: so many groups can be made before another `grow`.
+pub fn free_count<T, J: Deferred>(w: &World<T, J>) -> usize
+    ensures { result ≡ free_names w.now.groups }
+{
+    w.table.free_group_count()
 }
 
 /// Whether no name of a group is free.

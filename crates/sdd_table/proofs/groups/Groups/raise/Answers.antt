@@ -6,14 +6,14 @@ use Rattle.sdd_table.proofs.groups.Groups.raise.Goals as goal
 
 pub invariant_of-self-2 : goal.invariant_of-self-2
 invariant_of-self-2 c =
-    let name = c.args.group.now.name in
+    let name = c.args.name.number in
     let out = subst (λ (x : List GroupState). IsOut x name) (sym c.self.view_is) c.requires in
     let inside = within c.self.inside name (out_inside _ name out) in
     arena_counted c.self.inside name _ c.self.invariant inside out (omega arith)
 
 pub returns-clause-raised : goal.returns-clause-raised
 returns-clause-raised c =
-    let name = c.args.group.now.name in
+    let name = c.args.name.number in
     let out = subst (λ (x : List GroupState). IsOut x name) (sym c.self.view_is) c.requires in
     let inside = within c.self.inside name (out_inside _ name out) in
     let is = known c.self.inside name c.index_mut-entry.result.now inside c.index_mut-entry.ensures.value in (
