@@ -47,6 +47,7 @@ pub fn value_in<'w, K: Ord, V, W: Trees<K, V>>(
 
 /// The same, with its comparisons of keys counted: at most thirty, and one more for each binary digit of the number of
 /// segments. An empty version makes none.
+#[inline(always)]
 pub fn value_in_counted<'w, K: Ord, V, W: Trees<K, V>>(
     version: &VersionView<'w, K, V, W>,
     key: &K,

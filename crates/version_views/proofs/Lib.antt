@@ -6,8 +6,14 @@ pub mod FilterLemmas
 pub mod FlipLemmas
 pub mod FoundLemmas
 pub mod HalvingLemmas
+pub mod HoldLemmas
 pub mod LocatingLemmas
 pub mod OptionLemmas
 pub mod PlaceLemmas
+pub mod RowLemmas
+pub mod RowSearchLemmas
+pub mod RowViewLemmas
 pub mod SeparatorSearchLemmas
 pub mod SlotLemmas
+pub mod SpotLemmas
+pub mod VersionLemmas

@@ -18,12 +18,12 @@ use Rattle.version_views.proofs.BlockLemmas.{place_inside, take_all}
 use Rattle.version_views.proofs.SeparatorSearchLemmas.{around_block, up_to_block, get_some, front_below, back_above}
 
 module _ {X : Type 0} where
-  get_fore : (ms ys : List X) (p : ℕ) → p < length ms → slice_get (ms ++ ys) p ≡ slice_get ms p
+  pub get_fore : (ms ys : List X) (p : ℕ) → p < length ms → slice_get (ms ++ ys) p ≡ slice_get ms p
   get_fore [] ys p h = absurd (omega (arith, h))
   get_fore (m ∷ ms) ys zero h = refl
   get_fore (m ∷ ms) ys (suc p) h = get_fore ms ys p (omega (arith, h))
 
-  get_rear : (xs ms : List X) (k p : ℕ) → k ≡ length xs + p → slice_get (xs ++ ms) k ≡ slice_get ms p
+  pub get_rear : (xs ms : List X) (k p : ℕ) → k ≡ length xs + p → slice_get (xs ++ ms) k ≡ slice_get ms p
   get_rear [] ms k p e = let same : k ≡ p = omega (arith, e) in ap (slice_get ms) same
   get_rear (x ∷ xs) ms zero p e = absurd (omega (arith, e))
   get_rear (x ∷ xs) ms (suc k) p e = get_rear xs ms k p (omega (arith, e))

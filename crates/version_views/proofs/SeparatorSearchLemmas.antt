@@ -35,7 +35,7 @@ got_mapped f [] i d h = absurd (omega (arith, h))
 got_mapped f (x ∷ xs) zero d h = refl
 got_mapped f (x ∷ xs) (suc i) d h = got_mapped f xs i d (omega (arith, h))
 
-le_or : (i n : ℕ) → (n ≤ suc i) ⊎ (i + 1 < n)
+pub le_or : (i n : ℕ) → (n ≤ suc i) ⊎ (i + 1 < n)
 le_or i zero = inl (omega arith)
 le_or i (suc zero) = inl (omega arith)
 le_or zero (suc (suc n)) = inr (omega arith)

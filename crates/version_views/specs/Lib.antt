@@ -1,5 +1,6 @@
 pub mod Cuts
 pub mod Items
+pub mod Rows
 pub mod Versions
 pub mod Views
 pub mod CursorEnds

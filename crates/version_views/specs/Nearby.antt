@@ -5,7 +5,7 @@ use Rattle.version_views.specs.declared.nearby.Nearby.{Nearby}
 use Rattle.version_views.specs.declared.nearby.Nearby.TheVariants as versions
 
 -- the same case with the same cursor
-abbrev pub as_proximity : {K V W O : Type 0} → Nearby K V W O → Proximity K V
+abbrev pub as_proximity : {K V W O R : Type 0} → Nearby K V W O R → Proximity K V
 as_proximity (versions.Exact c) = trees.Exact c
 as_proximity (versions.Between c) = trees.Between c
 as_proximity (versions.Smaller c) = trees.Smaller c

@@ -8,19 +8,22 @@ use Rattle.std.specs.Map.{lookup_entry}
 pub use Rattle.tree_index.specs.Cursor.{cursor_within}
 use Rattle.version_views.specs.Cuts.{pairs_in}
 use Rattle.version_views.specs.Items.{segment_owners}
-use Rattle.version_views.specs.SeparatorSearch.{IsOrdered}
+use Rattle.version_views.specs.CursorEnds.{AreRising}
+use Rattle.version_views.specs.Rows.{IsRowed}
 use Rattle.version_views.specs.declared.directory.Directory.{Directory}
 
--- the blocks of a directory, where its owners' segments have these pairs
-abbrev pub blocks_at : {K V O : Type 0} → (O → List (K × V)) → Directory K O → List (List (K × V))
-blocks_at pairs d = map pairs (segment_owners d)
+-- the blocks of a directory, where its rows have these owners, and their segments these pairs
+abbrev pub blocks_at : {K V R O : Type 0} → (R → List O) → (O → List (K × V)) → Directory K R → List (List (K × V))
+blocks_at owners pairs d = map pairs (segment_owners owners d)
 
--- each owner has a segment; they hold the pairs of a list by rising keys, each but the last with its greatest key as
--- separator; and the pairs are counted
-pub record IsView {K V O : Type 0} (cmp : K → K → Ordering) (has : O → Type 0) (pairs : O → List (K × V)) (d : Directory K O) : Type 0 where
-  pub segments : All has (segment_owners d)
-  pub ordered : IsOrdered cmp (blocks_at pairs d) d.separators.items
-  pub counted : d.length ≡ length (pairs_in (blocks_at pairs d))
+-- each row is there, and each owner has a segment; they stand in rows, and hold the pairs of a list by rising keys; and the
+-- pairs are counted
+pub record IsView {K V R O : Type 0} (cmp : K → K → Ordering) (has_row : R → Type 0) (owners : R → List O) (has : O → Type 0) (pairs : O → List (K × V)) (d : Directory K R) : Type 0 where
+  pub there : All (λ r. has_row r.segments) d.rows.items
+  pub segments : All has (segment_owners owners d)
+  pub rowed : IsRowed (λ r. map pairs (owners r)) d
+  pub rising : AreRising cmp (blocks_at owners pairs d)
+  pub counted : d.length ≡ length (pairs_in (blocks_at owners pairs d))
 
 -- what a look-up gives: the pair with the key, or none where there is none
 abbrev pub LooksUp : {K V : Type 0} → (K → K → Ordering) → K → List (K × V) → Option (Bor K × Bor V) → Type 0

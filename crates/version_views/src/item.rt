@@ -5,19 +5,19 @@ ghost use Rattle.version_views.specs.Versions.{IsSegment, segment_pairs};
 
 use crate::directory::Directory;
 use crate::segment::Segment;
-use sdd_table::holds::{Held, Holds, KeepsRow};
-use sdd_table::owner::Kept;
+use sdd_table::groups::Group;
+use sdd_table::holds::{Held, Holds};
 use tree_index::TreeIndex;
 
 /// What is in a slot: a version, or a segment of versions.
 pub enum Item<K: Ord, V, const S: usize> {
-    Directory(Directory<K, Kept>),
+    Directory(Directory<K, Group>),
     Segment(Segment<K, V>),
 }
 
 impl<K: Ord, V, const S: usize> Item<K, V, S> {
     /// The directory of a version, or none where it is a segment.
-    pub fn directory(&self) -> Option<&Directory<K, Kept>>
+    pub fn directory(&self) -> Option<&Directory<K, Group>>
         ensures some { IfSome result (λ d. self.now ≡ Item.Directory d.now) }
         ensures none { IfNone result (IsSegment (Some self.now)) }
     {
@@ -40,21 +40,7 @@ impl<K: Ord, V, const S: usize> Item<K, V, S> {
     }
 }
 
-/// A directory keeps the owners of its segments, in order; a segment keeps none.
-impl<K: Ord, V, const S: usize> KeepsRow for Item<K, V, S> {
-    ghost use Rattle.version_views.specs.Items.{slots_kept};
-
-    ghost kept = { slots_kept };
-
-    fn row(&self) -> &[Kept] {
-        match self {
-            Item::Directory(directory) => directory.owners(),
-            Item::Segment(_) => &[],
-        }
-    }
-}
-
-/// A directory gives its segments up, from the last one on; a segment holds nothing.
+/// A directory gives its rows up, from the last one on; a segment holds nothing.
 impl<K: Ord + Drop, V: Drop, const S: usize> Holds for Item<K, V, S> {
     ghost use Rattle.version_views.specs.Items.{held_by};
 
@@ -62,8 +48,8 @@ impl<K: Ord + Drop, V: Drop, const S: usize> Holds for Item<K, V, S> {
 
     fn give_up(&mut self) -> Option<Held<Item<K, V, S>>> {
         match self {
-            Item::Directory(directory) => match directory.segments.pop() {
-                Some(segment) => Some(Held::Shared(segment.into_shared())),
+            Item::Directory(directory) => match directory.rows.pop() {
+                Some(row) => Some(Held::Group(row.into_owners())),
                 None => None,
             },
             Item::Segment(_) => None,
@@ -72,15 +58,7 @@ impl<K: Ord + Drop, V: Drop, const S: usize> Holds for Item<K, V, S> {
 
     fn end(self) {
         match self {
-            Item::Directory(directory) => {
-                let Directory {
-                    number: _,
-                    length: _,
-                    segments,
-                    separators: _,
-                } = directory;
-                segments.destroy_empty();
-            }
+            Item::Directory(directory) => directory.into_rows().destroy_empty(),
             Item::Segment(_) => {}
         }
     }

@@ -31,7 +31,7 @@ pub enum Nearby<'a, K: Ord, V, W: Trees<K, V>> {
 
 impl<'a, K: Ord, V, W: Trees<K, V>> VersionView<'a, K, V, W> {
     /// Where a key is among the pairs: at its pair, or between its neighbours, with a walk there. It takes one search of
-    /// the directory and one of a tree.
+    /// the directory, one of a row and one of a tree.
     pub fn locate(&self, key: &K) -> Nearby<'a, K, V, W>
         ensures { IsLocated K.cmp key.now (pairs_in self.now) (as_proximity result) }
     {

@@ -11,7 +11,7 @@ use std::marker::Model;
 use tree_index::{Iter, TreeIndex};
 
 /// A tree of at most 225 pairs that were inserted in ascending order: at most one node is above its leaves, so a look-up
-/// makes at most thirty comparisons.
+/// makes at most twenty comparisons.
 #[derive(Drop)]
 pub struct Segment<K: Ord, V> {
     tree: TreeIndex<K, V>,

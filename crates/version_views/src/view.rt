@@ -1,17 +1,18 @@
 //! A version to be read, whatever lends its segments.
 
-ghost use Rattle.std.specs.Prelude.{◌≡◌, ◌<◌, ◌≤◌, ◌+◌, ◌*◌, ◌-◌, ◌^◌, [], ℕ, None, Some, false, length, slice_get, true};
+ghost use Rattle.std.specs.Prelude.{◌≡◌, ◌<◌, ◌≤◌, ◌+◌, ◌^◌, ◌↔◌, [], ℕ, IsTrue, List, Some, length, option_copied, slice_get};
 ghost use Rattle.leaf_array.specs.Pairs.{has_key};
-ghost use Rattle.version_views.specs.Cuts.{pairs_in, separators_of};
+ghost use Rattle.version_views.specs.Cuts.{greatest_key, pairs_in, separators_of};
 ghost use Rattle.version_views.specs.CursorEnds.{AreRising, IsBlockAround};
+ghost use Rattle.version_views.specs.Rows.{place_at, IsInside};
 ghost use Rattle.version_views.specs.SeparatorSearch.{IsPlaceOf};
 ghost use Rattle.version_views.specs.Views.{IsView, LooksUp, blocks_at, cursor_within};
 
-use crate::directory::Directory;
+use crate::directory::{Directory, Spot};
 use crate::position::CursorEnd;
+use crate::search::place_of_counted;
 use crate::trees::Trees;
 use crate::walking::Walk;
-use std::cmp::Ordering;
 use std::marker::{Model, PhantomData};
 use std::ops::Bound;
 use tree_index::{Steps, TreeIndex};
@@ -23,28 +24,28 @@ use tree_index::{Steps, TreeIndex};
 #[derive(Drop)]
 pub struct VersionView<'a, K: Ord, V, W: Trees<K, V>> {
     source: &'a W,
-    directory: &'a Directory<K, W::Owner>,
+    directory: &'a Directory<K, W::Owners>,
     of: PhantomData<V>,
 }
 
-/// Invariant: specs/Views.antt, IsView: each owner has a segment, and the segments are a list by rising keys, separated
-/// and counted.
+/// Invariant: specs/Views.antt, IsView: each row is there, and each owner has a segment; the segments stand in rows, and
+/// are a list by rising keys, separated and counted.
 impl<'a, K: Ord, V, W: Trees<K, V>> Model for VersionView<'a, K, V, W> {
     ghost use Rattle.std.specs.Prelude.{List};
     ghost use Rattle.version_views.specs.Views.{IsView, blocks_at};
 
     ghost Value = { List (List (K × V)) };
 
-    ghost view = { λ v. blocks_at (W.pairs v.source.now) v.directory.now };
+    ghost view = { λ v. blocks_at (W.owners v.source.now) (W.pairs v.source.now) v.directory.now };
 
-    ghost invariant = { λ v. IsView K.cmp (W.has v.source.now) (W.pairs v.source.now) v.directory.now };
+    ghost invariant = { λ v. IsView K.cmp (W.has_row v.source.now) (W.owners v.source.now) (W.has v.source.now) (W.pairs v.source.now) v.directory.now };
 }
 
 impl<'a, K: Ord, V, W: Trees<K, V>> VersionView<'a, K, V, W> {
     /// The version of a directory. Condition: it is one, of segments that `source` lends.
-    pub fn new(source: &'a W, directory: &'a Directory<K, W::Owner>) -> Self
-        requires { IsView K.cmp (W.has source.now) (W.pairs source.now) directory.now }
-        ensures { result ≡ blocks_at (W.pairs source.now) directory.now }
+    pub fn new(source: &'a W, directory: &'a Directory<K, W::Owners>) -> Self
+        requires { IsView K.cmp (W.has_row source.now) (W.owners source.now) (W.has source.now) (W.pairs source.now) directory.now }
+        ensures { result ≡ blocks_at (W.owners source.now) (W.pairs source.now) directory.now }
     {
         VersionView {
             source,
@@ -91,7 +92,9 @@ impl<'a, K: Ord, V, W: Trees<K, V>> VersionView<'a, K, V, W> {
         self.directory.length
     }
 
-    /// The pair with this key: one search of the directory by halving, and one of a tree. It clones nothing.
+    /// The pair with this key: one search of the directory by halving, one of a row, and one of a tree. It clones
+    /// nothing.
+    #[inline(always)]
     pub fn get(&self, key: &K) -> Option<(&'a K, &'a V)>
         ensures { LooksUp K.cmp key.now (pairs_in self.now) result }
     {
@@ -101,7 +104,7 @@ impl<'a, K: Ord, V, W: Trees<K, V>> VersionView<'a, K, V, W> {
 
     /// The same, with its comparisons counted: at most one for each binary digit of the number of segments, and
     /// thirty more. There is none where there is no segment.
-    #[inline]
+    #[inline(always)]
     pub fn get_counted(&self, key: &K, steps: &mut Steps) -> Option<(&'a K, &'a V)>
         ensures pair { LooksUp K.cmp key.now (pairs_in self.now) result }
         ensures cost { (digits : ℕ) → length self.now < 2 ^ digits → steps.new.count ≤ steps.old.count + 30 + digits }
@@ -109,11 +112,11 @@ impl<'a, K: Ord, V, W: Trees<K, V>> VersionView<'a, K, V, W> {
         ensures none { pairs_in self.now ≡ [] → steps.new.count ≡ steps.old.count }
     {
         self.laws();
-        if self.segment_count() == 0 {
+        if self.is_empty() {
             return None;
         }
-        self.tree(self.around_counted(key, steps))
-            .peek_entry_counted(key, steps)
+        let spot = spot_around::<K, V, W>(self.source, self.directory, key, steps);
+        tree_at(self.source, self.directory, spot).peek_entry_counted(key, steps)
     }
 
     /// A cursor over the pairs within two bounds. Reversed bounds contain no pair. It takes no memory.
@@ -140,14 +143,46 @@ impl<'a, K: Ord, V, W: Trees<K, V>> VersionView<'a, K, V, W> {
     pub fn segment_count(&self) -> usize
         ensures { result ≡ length self.now }
     {
-        self.directory.segments.len()
+        self.directory.segments()
     }
 
-    /// The greatest key of each segment but the last, in order.
-    pub fn separators(&self) -> &'a [K]
-        ensures { result.now ≡ separators_of self.now }
+    /// Whether there is no segment.
+    #[inline]
+    fn is_empty(&self) -> bool
+        ensures { IsTrue result ↔ length self.now ≡ 0 }
     {
-        &self.directory.separators
+        self.directory.row_count() == 0
+    }
+
+    /// The place of the segment whose keys are the last ones that a key may be among.
+    pub fn place_of(&self, key: &K) -> usize
+        ensures { IsPlaceOf K.cmp key.now (separators_of self.now) result }
+    {
+        if self.is_empty() {
+            return 0;
+        }
+        let mut steps = Steps::new();
+        let spot = spot_around::<K, V, W>(self.source, self.directory, key, &mut steps);
+        self.directory.place_at(spot)
+    }
+
+    /// The greatest key of the segment at a place: a separator, or that of its tree where none lies behind it. Condition:
+    /// there is one.
+    pub fn greatest_at(&self, place: usize) -> Option<&'a K>
+    where
+        V: 'a,
+        requires { place < length self.now }
+        ensures { (b : List (K × V)) → Some b ≡ slice_get self.now place → option_copied result ≡ greatest_key b }
+    {
+        let spot = self.directory.spot_of(place);
+        let row = &self.directory.rows[spot.row];
+        if let Some(key) = row.keys().get(spot.at) {
+            return Some(key);
+        }
+        if let Some(key) = self.directory.separators.get(spot.row) {
+            return Some(key);
+        }
+        greatest(tree_at(self.source, self.directory, spot))
     }
 
     /// The tree of the segment at a place. Condition: there is one.
@@ -164,7 +199,7 @@ impl<'a, K: Ord, V, W: Trees<K, V>> VersionView<'a, K, V, W> {
         ensures pairs { slice_get self.now place ≡ Some result.now.pairs }
         ensures flat { result.now.depth ≤ 1 }
     {
-        self.source.tree(&self.directory.segments[place])
+        tree_at(self.source, self.directory, self.directory.spot_of(place))
     }
 
     /// The segment that a key lies in or beside: those before it have lesser keys, and those behind it greater ones.
@@ -172,56 +207,53 @@ impl<'a, K: Ord, V, W: Trees<K, V>> VersionView<'a, K, V, W> {
         requires { 0 < length self.now }
         ensures { IsBlockAround K.cmp key.now self.now result }
     {
-        place_of(&self.directory.separators, key)
-    }
-
-    /// The same, by at most one comparison for each binary digit of the number of segments, which are counted.
-    #[inline]
-    fn around_counted(&self, key: &K, steps: &mut Steps) -> usize
-        requires { 0 < length self.now }
-        ensures place { IsBlockAround K.cmp key.now self.now result }
-        ensures cost { (digits : ℕ) → length self.now < 2 ^ digits → steps.new.count ≤ steps.old.count + digits }
-        ensures raised { steps.old.count ≤ steps.new.count }
-    {
-        place_of_counted(&self.directory.separators, key, steps)
+        self.laws();
+        self.place_of(key)
     }
 }
 
-/// The segment whose keys are the last ones that the key may be among.
+/// The place in a row that a key lies in or beside, by at most eight comparisons and one for each binary digit of the
+/// number of segments, which are counted. Condition: there is a row.
 #[inline]
-pub fn place_of<K: Ord>(separators: &[K], key: &K) -> usize
-    ensures { IsPlaceOf K.cmp key.now separators.now result }
-{
-    let mut steps = Steps::new();
-    place_of_counted(separators, key, &mut steps)
-}
-
-/// The same, by comparisons that are counted, each of which halves what is left.
-///
-/// The result of a comparison is added up and not branched on: either result is as likely, so a processor would
-/// mispredict every other branch.
-fn place_of_counted<K: Ord>(separators: &[K], key: &K, steps: &mut Steps) -> usize
-    ensures place { IsPlaceOf K.cmp key.now separators.now result }
-    ensures cost { 2 ^ (steps.new.count - steps.old.count) ≤ 2 * length separators.now + 1 }
+fn spot_around<K: Ord, V, W: Trees<K, V>>(
+    source: &W,
+    directory: &Directory<K, W::Owners>,
+    key: &K,
+    steps: &mut Steps,
+) -> Spot
+    requires view { IsView K.cmp (W.has_row source.now) (W.owners source.now) (W.has source.now) (W.pairs source.now) directory.now }
+    requires some { 0 < length (blocks_at (W.owners source.now) (W.pairs source.now) directory.now) }
+    ensures inside { IsInside directory.now.ends.items result }
+    ensures place { IsPlaceOf K.cmp key.now (separators_of (blocks_at (W.owners source.now) (W.pairs source.now) directory.now)) (place_at directory.now.ends.items result) }
+    ensures cost { (digits : ℕ) → length (blocks_at (W.owners source.now) (W.pairs source.now) directory.now) < 2 ^ digits → steps.new.count ≤ steps.old.count + 8 + digits }
     ensures raised { steps.old.count ≤ steps.new.count }
 {
-    let mut low = 0;
-    let mut left = separators.len();
-    while left > 0 {
-        let half = (left - 1) / 2;
-        let is_less = steps.compare(&separators[low + half], key) == Ordering::Less;
-        low += count_past(half, is_less);
-        left /= 2;
-    }
-    low
+    let row = place_of_counted(&directory.separators, key, steps);
+    let at = place_of_counted(directory.rows[row].keys(), key, steps);
+    Spot { row, at }
 }
 
-/// How many separators are passed: `half` and the one behind them, or none.
+/// The tree of the segment at a place in a row. Condition: it is there.
 #[inline]
-fn count_past(half: usize, is_past: bool) -> usize
-    requires { half < 2 ^ 63 }
-    ensures past { is_past ≡ true → result ≡ half + 1 }
-    ensures none { is_past ≡ false → result ≡ 0 }
+fn tree_at<'a, K: Ord, V, W: Trees<K, V>>(
+    source: &'a W,
+    directory: &'a Directory<K, W::Owners>,
+    spot: Spot,
+) -> &'a TreeIndex<K, V>
+    requires view { IsView K.cmp (W.has_row source.now) (W.owners source.now) (W.has source.now) (W.pairs source.now) directory.now }
+    requires inside { IsInside directory.now.ends.items spot }
+    ensures pairs { slice_get (blocks_at (W.owners source.now) (W.pairs source.now) directory.now) (place_at directory.now.ends.items spot) ≡ Some result.now.pairs }
+    ensures flat { result.now.depth ≤ 1 }
 {
-    (half << u32::from(is_past)) - half + usize::from(is_past)
+    source.tree(&source.owners(&directory.rows[spot.row].segments)[spot.at])
+}
+
+/// The greatest key of a tree.
+pub fn greatest<K: Ord, V>(tree: &TreeIndex<K, V>) -> Option<&K>
+    ensures { option_copied result ≡ greatest_key tree.now.pairs }
+{
+    match tree.iter().next_back() {
+        Some((key, _)) => Some(key),
+        None => None,
+    }
 }

@@ -17,7 +17,7 @@ use std::ops::Bound;
 /// An end is unopened, at a pair, or done. The forward end starts at the first pair within the lower bound and
 /// gives pairs as long as they lie within the upper one; the backward end is its mirror. The ends don't pass one another,
 /// and an end that moved past the last pair gives none for good. Reversed bounds contain no pair. A step takes no memory;
-/// the first one of an end searches the directory and a segment.
+/// the first one of an end searches the directory, a row and a segment.
 #[derive(Drop)]
 pub struct Walk<'a, K: Ord, V, W: Trees<K, V>> {
     pub(crate) version: VersionView<'a, K, V, W>,
@@ -129,6 +129,11 @@ impl<'a, K: Ord, V, W: Trees<K, V>> Iterator for Walk<'a, K, V, W> {
             Some(pair) if self.version.precedes(pair, &self.backward) => below(pair, self.upper),
             _ => None,
         }
+    }
+
+    /// No bound is known.
+    fn size_hint(&self) -> (usize, Option<usize>) {
+        (0, None)
     }
 }
 

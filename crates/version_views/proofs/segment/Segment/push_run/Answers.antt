@@ -1,1 +1,0 @@
-use Rattle.version_views.proofs.segment.Segment.push_run.Goals as goal

@@ -7,7 +7,7 @@ use Rattle.std.specs.declared.cmp.Ordering.{Ordering}
 use Rattle.std.specs.declared.cmp.Ordering.TheVariants.{Less, Equal, Greater}
 use Rattle.std.specs.Ordering.{ordering_index}
 use Rattle.version_views.proofs.HalvingLemmas.{halved}
-use Rattle.version_views.proofs.view.place_of_counted.Goals as goal
+use Rattle.version_views.proofs.search.place_of_counted.Goals as goal
 
 less_told : (o : Ordering) → true ≡ (ordering_index o == 0) → o ≡ Less
 less_told Less h = refl

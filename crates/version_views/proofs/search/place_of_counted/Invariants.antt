@@ -1,6 +1,6 @@
 use Rattle.std.proofs.Common.{◌≡◌, ◌≢◌, ℕ, ◌≤◌, ◌+◌, ◌*◌, ◌-◌, ◌^◌, length, slice_get, Some}
 use Rattle.std.specs.declared.cmp.Ordering.TheVariants.{Less}
-use Rattle.version_views.proofs.view.place_of_counted.Given as goal
+use Rattle.version_views.proofs.search.place_of_counted.Given as goal
 
 -- the separator before the rest is less than the key, and the one behind it, or its last one, is not; each comparison has halved the rest
 abbrev pub invariant-loop-left : goal.invariant-loop-left
