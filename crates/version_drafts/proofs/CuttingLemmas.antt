@@ -1,7 +1,7 @@
 -- A list that is being cut takes more, and ends.
-use Rattle.std.proofs.Common.{◌≡◌, ◌⊎◌, inl, inr, Bool, true, false, cond, nat_lt, ℕ, ◌+◌, ◌-◌, ◌*◌, ◌≤◌, ◌<◌, List, [], ◌∷◌, ◌++◌, Some, None, length, map, take, drop, append_assoc, append-nil, length-append, refl, sym, ap, ◌∙◌, subst, arith}
+use Rattle.std.proofs.Common.{◌≡◌, ◌⊎◌, inl, inr, Bool, true, false, cond, nat_lt, ℕ, ◌+◌, ◌-◌, ◌*◌, ◌≤◌, ◌<◌, List, [], ◌∷◌, ◌++◌, Some, None, length, take, drop, append_assoc, append-nil, length-append, refl, sym, ap, ◌∙◌, subst, arith}
 use Rattle.std.proofs.lemmas.Bool.Decides.{eqb_tells, nat_tests}
-use Rattle.std.proofs.lemmas.List.{map-append, length-map, take-map, take_at}
+use Rattle.std.proofs.lemmas.List.{take_at}
 use Rattle.std.proofs.lemmas.List.Elements.{All-append, All-push, All-head, All-cons, All-tail, All-nil}
 use Rattle.std.proofs.lemmas.List.Sums.{sum_by-append, sum_by-cons}
 use Rattle.std.specs.Cmp.{IsTotalOrder}
@@ -11,7 +11,7 @@ use Rattle.std.specs.List.{All}
 use Rattle.std.proofs.lemmas.Option.{slice_get_within}
 use Rattle.leaf_array.specs.Pairs.{IsAscending}
 use Rattle.tree_index.specs.Depth.{IsAbove}
-use Rattle.version_views.specs.Cuts.{greatest_key, pairs_in, IsTight}
+use Rattle.version_views.specs.Cuts.{pairs_in, IsTight}
 use Rattle.version_drafts.specs.Cutting.{CountsFrom, CountsGiven, GivesNoMoreThanRead, IsClosing, IsCutting, IsHeld, IsHeldAt, IsSegmentRow, IsSegmentSized, given_pairs, last_size, one_open, room_spent}
 use Rattle.version_drafts.specs.Parts.{LiesWithin, between, blocks_of_parts, made_in, makes, part_blocks, stretch_of}
 use Rattle.version_drafts.specs.declared.segments.Part.{Part}
@@ -95,13 +95,6 @@ popped front x items less n e size l =
     let one : n - 1 ≡ length front = omega (arith, size, ap length e, long) in
     l ∙ (ap (λ m. take m items) one ∙ (ap (take (length front)) e ∙ take_at front (x ∷ []) (length front) refl))
 
-pub less_separated : {K V : Type 0} (keys less : List K) (blocks : List (List (K × V))) (n : ℕ) → map Some keys ≡ map greatest_key blocks → n ≡ length keys → less ≡ take (n - 1) keys → map Some less ≡ map greatest_key (take (length blocks - 1) blocks)
-less_separated keys less blocks n sep size l =
-    let long = length-map keys Some in
-    let long' = length-map blocks greatest_key in
-    let same : n - 1 ≡ length blocks - 1 = omega (arith, size, long, long', ap length sep) in
-    ap (map Some) l ∙ (sym (take-map Some (n - 1) keys) ∙ (ap (take (n - 1)) sep ∙ (ap (λ m. take m (map greatest_key blocks)) same ∙ take-map greatest_key (length blocks - 1) blocks)))
-
 all_fore : {X : Type 0} (P : X → Type 0) (xs ys : List X) → All P (xs ++ ys) → All P xs
 all_fore P [] ys a = All-nil P
 all_fore P (x ∷ xs) ys a = All-cons P x xs (All-head P x (xs ++ ys) a) (all_fore P xs ys (All-tail P x (xs ++ ys) a))
@@ -116,7 +109,6 @@ module _ {K V : Type 0} {cmp : K → K → Ordering} {s : ℕ} {blocks : List (L
       record {
         sizes = All-push (IsSegmentSized s) (blocks_of_parts blocks c.row.parts.items) c.tail.pairs h.row.sizes (some, h.room);
         tight = tight_next s (blocks_of_parts blocks c.row.parts.items) c.tail.pairs h.row.sizes h.row.tight behind;
-        separated = h.row.separated;
         within = h.row.within;
       }
 
@@ -174,7 +166,7 @@ module _ {K V : Type 0} {cmp : K → K → Ordering} {s : ℕ} {blocks : List (L
           omega (arith, none, less, is)
 
     -- both in one tree
-    module _ (c' : SegmentBuilder K V) (fits : length c.tail.pairs + c.row.last ≤ s) (some : 0 < length c.tail.pairs) (fewer : c'.row.parts.items ≡ held_at.front ++ stretch_of held_at.from place) (n : ℕ) (size : n ≡ length c.row.separators.items) (less : c'.row.separators.items ≡ take (n - 1) c.row.separators.items) (both : c'.tail.pairs ≡ held_at.block ++ c.tail.pairs) where
+    module _ (c' : SegmentBuilder K V) (fits : length c.tail.pairs + c.row.last ≤ s) (some : 0 < length c.tail.pairs) (fewer : c'.row.parts.items ≡ held_at.front ++ stretch_of held_at.from place) (both : c'.tail.pairs ≡ held_at.block ++ c.tail.pairs) where
       pub closing_joined : IsClosing blocks s c'
       closing_joined =
           let b = held_at.block ++ c.tail.pairs in
@@ -188,7 +180,6 @@ module _ {K V : Type 0} {cmp : K → K → Ordering} {s : ℕ} {blocks : List (L
           record {
             sizes = subst (All (IsSegmentSized s)) (sym blocks') (All-push (IsSegmentSized s) fore b (all_fore (IsSegmentSized s) fore (held_at.block ∷ []) (subst (All (IsSegmentSized s)) whole h.row.sizes)) sized);
             tight = subst (IsTight s) (sym blocks') (tight_larger s fore held_at.block b (omega (arith, long)) (subst (IsTight s) whole h.row.tight));
-            separated = less_separated c.row.separators.items c'.row.separators.items all n h.row.separated size less ∙ (ap (map greatest_key) shorter ∙ sym (ap (map greatest_key) left));
             within = within_left c'.row.parts.items fewer;
           }
 
@@ -199,11 +190,10 @@ module _ {K V : Type 0} (blocks : List (List (K × V))) (front : List (Part K V)
   pub blocks_given : blocks_of_parts blocks row.parts.items ≡ blocks_of_parts blocks front ++ b ∷ []
   blocks_given = ap (blocks_of_parts blocks) items ∙ (blocks_behind blocks front p ∙ ap (λ bs. blocks_of_parts blocks front ++ bs) same)
 
-  pub row_given : (s : ℕ) (keys : List K) → All (IsSegmentSized s) (blocks_of_parts blocks front ++ b ∷ []) → IsTight s (blocks_of_parts blocks front ++ b ∷ []) → map Some keys ≡ map greatest_key (blocks_of_parts blocks front) → All (LiesWithin (length blocks)) front → LiesWithin (length blocks) p → map Some row.separators.items ≡ map Some keys ++ greatest_key b ∷ [] → row.last ≡ length b → IsSegmentRow blocks s row
-  row_given s keys sizes tight separated within lies more last = record {
+  pub row_given : (s : ℕ) → All (IsSegmentSized s) (blocks_of_parts blocks front ++ b ∷ []) → IsTight s (blocks_of_parts blocks front ++ b ∷ []) → All (LiesWithin (length blocks)) front → LiesWithin (length blocks) p → row.last ≡ length b → IsSegmentRow blocks s row
+  row_given s sizes tight within lies last = record {
     sizes = subst (All (IsSegmentSized s)) (sym blocks_given) sizes;
     tight = subst (IsTight s) (sym blocks_given) tight;
-    separated = more ∙ (ap (λ ks. ks ++ greatest_key b ∷ []) separated ∙ (sym (map-append greatest_key (blocks_of_parts blocks front) (b ∷ [])) ∙ ap (map greatest_key) (sym blocks_given)));
     last = last ∙ (sym (last_behind (blocks_of_parts blocks front) b) ∙ ap last_size (sym blocks_given));
     within = subst (All (LiesWithin (length blocks))) (sym items) (All-push (LiesWithin (length blocks)) front p within lies);
   }
@@ -212,8 +202,8 @@ module _ {K V : Type 0} (blocks : List (List (K × V))) (front : List (Part K V)
   pairs_given = ap pairs_in blocks_given ∙ pairs_behind (blocks_of_parts blocks front) b
 
 module _ {K V : Type 0} {blocks : List (List (K × V))} {s : ℕ} (c : SegmentBuilder K V) (h : IsClosing blocks s c) (row : Row K V) (p : Part K V) (tail : part_blocks blocks p ≡ c.tail.pairs ∷ []) (items : row.parts.items ≡ c.row.parts.items ++ p ∷ []) where
-  pub row_closed : LiesWithin (length blocks) p → map Some row.separators.items ≡ map Some c.row.separators.items ++ greatest_key c.tail.pairs ∷ [] → row.last ≡ length c.tail.pairs → IsSegmentRow blocks s row
-  row_closed lies keys last = row_given blocks c.row.parts.items c.tail.pairs row p tail items s c.row.separators.items h.sizes h.tight h.separated h.within lies keys last
+  pub row_closed : LiesWithin (length blocks) p → row.last ≡ length c.tail.pairs → IsSegmentRow blocks s row
+  row_closed lies last = row_given blocks c.row.parts.items c.tail.pairs row p tail items s h.sizes h.tight h.within lies last
 
   pub pairs_closed : pairs_in (blocks_of_parts blocks row.parts.items) ≡ given_pairs blocks c
   pairs_closed = pairs_given blocks c.row.parts.items c.tail.pairs row p tail items
@@ -295,14 +285,14 @@ module _ {K V : Type 0} {cmp : K → K → Ordering} (o : IsTotalOrder cmp) {s :
     pub given_next : given_pairs blocks c' ≡ given_pairs blocks c ++ (key, val) ∷ []
     given_next = ap (λ ps. ps ++ c'.tail.pairs) (pairs_given blocks c.row.parts.items c.tail.pairs c'.row p was items) ∙ ap (λ ps. given_pairs blocks c ++ ps) tail
 
-    pub cutting_next : LiesWithin (length blocks) p → length c.tail.pairs ≡ s → map Some c'.row.separators.items ≡ map Some c.row.separators.items ++ greatest_key c.tail.pairs ∷ [] → c'.row.last ≡ length c.tail.pairs → c'.held ≡ None → IsCutting cmp s blocks c'
-    cutting_next lies full keys last none =
+    pub cutting_next : LiesWithin (length blocks) p → length c.tail.pairs ≡ s → c'.row.last ≡ length c.tail.pairs → c'.held ≡ None → IsCutting cmp s blocks c'
+    cutting_next lies full last none =
         let one = ap length tail in
         let least = h.least in
         record {
           least = h.least;
           most = h.most;
-          row = row_closed c (closing_full full) c'.row p was items lies keys last;
+          row = row_closed c (closing_full full) c'.row p was items lies last;
           room = omega (arith, one, least);
           rising = subst (IsAscending cmp) (sym given_next) up;
           held = subst (IsHeld blocks c'.row.parts.items) (sym none) tt;
@@ -351,8 +341,8 @@ module _ {K V : Type 0} (blocks : List (List (K × V))) (s : ℕ) (c c' : Segmen
       }
 
 -- nothing was given
-pub cutting_none : {K V : Type 0} (cmp : K → K → Ordering) (s : ℕ) (blocks : List (List (K × V))) (c : SegmentBuilder K V) → 1 ≤ s → s ≤ 225 → c.row.parts.items ≡ [] → c.row.separators.items ≡ [] → c.row.last ≡ 0 → c.held ≡ None → c.tail.pairs ≡ [] → IsCutting cmp s blocks c
-cutting_none {K} {V} cmp s blocks c least most parts' keys last held tail =
+pub cutting_none : {K V : Type 0} (cmp : K → K → Ordering) (s : ℕ) (blocks : List (List (K × V))) (c : SegmentBuilder K V) → 1 ≤ s → s ≤ 225 → c.row.parts.items ≡ [] → c.row.last ≡ 0 → c.held ≡ None → c.tail.pairs ≡ [] → IsCutting cmp s blocks c
+cutting_none {K} {V} cmp s blocks c least most parts' last held tail =
     let none = ap (blocks_of_parts blocks) parts' in
     let empty : given_pairs blocks c ≡ [] = ap (λ bs. pairs_in bs ++ c.tail.pairs) none ∙ tail in
     record {
@@ -361,7 +351,6 @@ cutting_none {K} {V} cmp s blocks c least most parts' keys last held tail =
       row = record {
         sizes = subst (All (IsSegmentSized s)) (sym none) (All-nil (IsSegmentSized s));
         tight = subst (IsTight s) (sym none) tt;
-        separated = ap (map Some) keys ∙ ap (map greatest_key) (sym none);
         last = last ∙ ap last_size (sym none);
         within = subst (All (LiesWithin (length blocks))) (sym parts') (All-nil (LiesWithin (length blocks)));
       };

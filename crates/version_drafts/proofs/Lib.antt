@@ -1,12 +1,16 @@
 pub mod CuttingLemmas
 pub mod DeltaLemmas
 pub mod GapLemmas
+pub mod KeyLemmas
 pub mod ListedLemmas
 pub mod MergeLemmas
 pub mod PartLemmas
+pub mod PlanLemmas
+pub mod RoomLemmas
 pub mod RowLemmas
 pub mod RunLemmas
 pub mod RangeLemmas
+pub mod ShelfLemmas
 pub mod SpanLemmas
 pub mod StretchLemmas
 pub mod TakenLemmas

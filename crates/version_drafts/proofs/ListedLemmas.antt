@@ -1,19 +1,22 @@
 -- Segments of a list, none of which is taken over.
-use Rattle.std.proofs.Common.{◌≡◌, true, false, not, ℕ, ◌+◌, ◌*◌, ◌<◌, ◌≤◌, List, [], ◌∷◌, ◌++◌, ◌-◌, Some, length, get_or, map, take, drop, append_assoc, refl, sym, ap, ◌∙◌, subst, arith, take-append-drop}
+use Rattle.std.proofs.Common.{◌≡◌, true, false, not, ℕ, ◌+◌, ◌*◌, ◌<◌, ◌≤◌, List, [], ◌∷◌, ◌++◌, ◌-◌, Some, length, get_or, map, slice_get, take, drop, append_assoc, refl, sym, ap, ◌∙◌, subst, arith, take-append-drop}
 use Rattle.std.proofs.lemmas.Bool.{false≢true}
 use Rattle.std.proofs.lemmas.List.{drop_more, take_more}
 use Rattle.std.proofs.lemmas.List.Elements.{All-cons, All-head, All-nil, All-tail}
 use Rattle.std.proofs.lemmas.List.Sums.{sum_by-cons}
-use Rattle.std.specs.List.{All}
+use Rattle.std.specs.List.{All, flat_map}
 use Rattle.std.specs.Ordering.{ordering_index}
 use Rattle.std.specs.Bool.{◌==◌}
 use Rattle.std.specs.Cmp.{IsTotalOrder}
 use Rattle.std.specs.declared.cmp.Ordering.{Ordering}
 use Rattle.std.specs.declared.cmp.Ordering.TheVariants.{Less, Equal, Greater}
 use Rattle.leaf_array.specs.Pairs.{IsAscending}
-use Rattle.version_views.specs.Cuts.{greatest_key, pairs_in}
-use Rattle.version_views.specs.Views.{IsView}
+use Rattle.version_views.specs.Cuts.{IsSeparated, pairs_in}
+use Rattle.version_views.specs.Items.{row_keys, row_owners, segment_owners}
+use Rattle.version_views.specs.Rows.{CutsInRows, IsRow, IsRowed, count_in}
+use Rattle.version_views.specs.Views.{IsView, blocks_at}
 use Rattle.version_views.specs.declared.directory.Directory.{Directory}
+use Rattle.version_views.specs.declared.row.Row as view_rows
 use Rattle.version_drafts.specs.Cutting.{one_open, room_spent, trees}
 use Rattle.version_drafts.specs.Parts.{LiesWithin, blocks_of_parts, made_in, makes}
 use Rattle.version_drafts.specs.declared.segments.Part.{Part}
@@ -121,19 +124,49 @@ is_not_less Less e l = false≢true (sym e)
 is_not_less Equal e l = cc
 is_not_less Greater e l = cc
 
--- a directory without segments is a version
-pub view_none : {K V O : Type 0} (cmp : K → K → Ordering) (has : O → Type 0) (pairs : O → List (K × V)) (d : Directory K O) → d.segments.items ≡ [] → d.separators.items ≡ [] → d.length ≡ 0 → IsView cmp has pairs d
-view_none {K} {V} {O} cmp has pairs d none keys count =
-    let blocks : map pairs d.segments.items ≡ [] = ap (map pairs) none in
-    record {
-      segments = subst (All has) (sym none) (All-nil has);
-      ordered = record {
-        some = subst (All (λ b. 1 ≤ length b)) (sym blocks) (All-nil (λ b. 1 ≤ length b));
-        rising = subst (λ bs. IsAscending cmp (pairs_in bs)) (sym blocks) (rising_none V cmp);
-        separated = ap (map Some) keys ∙ sym (ap (λ bs. map greatest_key (take (length bs - 1) bs)) blocks);
-      };
-      counted = count ∙ sym (ap (λ bs. length (pairs_in bs)) blocks);
-    }
+-- a directory without rows has no segment
+pub none_at : {K V R O : Type 0} (owners : R → List O) (pairs : O → List (K × V)) (d : Directory K R) → d.rows.items ≡ [] → blocks_at owners pairs d ≡ []
+none_at owners pairs d none = ap (λ rs. map pairs (flat_map (row_owners owners) rs)) none
+
+-- it is a version
+module _ {K R : Type 0} (d : Directory K R) (none : d.rows.items ≡ []) (keys : d.separators.items ≡ []) where
+  pub rowed_none : {V : Type 0} (blocks : R → List (List (K × V))) → d.ends.items ≡ [] → IsRowed blocks d
+  rowed_none blocks ends =
+      let total : map (λ (r : view_rows.Row K R). pairs_in (blocks r.segments)) d.rows.items ≡ [] = ap (map (λ (r : view_rows.Row K R). pairs_in (blocks r.segments))) none in
+      record {
+        rows = subst (All (λ r. IsRow (blocks r.segments) (row_keys r))) (sym none) (All-nil (λ r. IsRow (blocks r.segments) (row_keys r)));
+        separated = subst (λ bs. IsSeparated bs d.separators.items) (sym total) (ap (map Some) keys);
+        ends = record {
+          count = ap length ends ∙ sym (ap length none);
+          each = λ i h. let size = ap length none in absurd (omega (arith, h, size));
+        };
+      }
+
+  -- it cuts no blocks
+  pub cuts_none : {V : Type 0} → d.ends.items ≡ [] → CutsInRows {V = V} [] d
+  cuts_none ends = record {
+    count = ap length ends ∙ sym (ap length none);
+    upto = ap count_in ends;
+    rising = λ i h. let size = ap length ends in absurd (omega (arith, h, size));
+    within = λ i h. let size = ap length ends in absurd (omega (arith, h, size));
+    rows = λ i r here. let nothing = subst (λ rs. slice_get rs i ≡ Some r) none here in absurd (cc);
+    greatest = λ i k told. let nothing = subst (λ ks. slice_get ks i ≡ Some k) keys told in absurd (cc);
+  }
+
+  pub view_none : {V O : Type 0} (cmp : K → K → Ordering) (has_row : R → Type 0) (owners : R → List O) (has : O → Type 0) (pairs : O → List (K × V)) → d.ends.items ≡ [] → d.length ≡ 0 → IsView cmp has_row owners has pairs d
+  view_none {V} cmp has_row owners has pairs ends count =
+      let all : segment_owners owners d ≡ [] = ap (flat_map (row_owners owners)) none in
+      let blocks : blocks_at owners pairs d ≡ [] = ap (map pairs) all in
+      record {
+        there = subst (All (λ r. has_row r.segments)) (sym none) (All-nil (λ r. has_row r.segments));
+        segments = subst (All has) (sym all) (All-nil has);
+        rowed = rowed_none (λ r. map pairs (owners r)) ends;
+        rising = record {
+          some = subst (All (λ b. 1 ≤ length b)) (sym blocks) (All-nil (λ b. 1 ≤ length b));
+          rising = subst (λ bs. IsAscending cmp (pairs_in bs)) (sym blocks) (rising_none V cmp);
+        };
+        counted = count ∙ sym (ap (λ bs. length (pairs_in bs)) blocks);
+      }
 
 -- what has no stretch lies within any version
 pub lies_more : {K V : Type 0} (n : ℕ) (ps : List (Part K V)) → All (LiesWithin 0) ps → All (LiesWithin n) ps

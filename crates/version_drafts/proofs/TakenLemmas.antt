@@ -1,13 +1,12 @@
 -- A stretch of older segments is taken over.
-use Rattle.std.proofs.Common.{◌≡◌, ◌⊎◌, inl, inr, ℕ, zero, suc, ◌+◌, ◌-◌, ◌≤◌, ◌<◌, List, [], ◌∷◌, ◌++◌, Some, length, map, take, drop, slice_get, append_assoc, append-nil, refl, sym, ap, ◌∙◌, subst, arith}
+use Rattle.std.proofs.Common.{◌≡◌, ◌⊎◌, inl, inr, ℕ, zero, suc, ◌+◌, ◌-◌, ◌≤◌, ◌<◌, List, [], ◌∷◌, ◌++◌, Some, length, take, drop, slice_get, append_assoc, append-nil, refl, sym, ap, ◌∙◌, subst, arith}
 use Rattle.std.proofs.lemmas.Bool.Decides.{eqb_tells}
-use Rattle.std.proofs.lemmas.List.{map-append, take-map, take-take, drop-take}
 use Rattle.std.proofs.lemmas.List.Elements.{All-append, All-drop, All-tail, All-head, All-push, All-take}
 use Rattle.std.specs.declared.cmp.Ordering.{Ordering}
 use Rattle.std.specs.List.{All, AllZip}
 use Rattle.leaf_array.specs.Pairs.{IsAscending}
 use Rattle.leaf_array.specs.Values.{ClonesAreSame}
-use Rattle.version_views.specs.Cuts.{IsCut, IsSeparated, IsTight, greatest_key, pairs_in}
+use Rattle.version_views.specs.Cuts.{IsCut, IsTight, pairs_in}
 use Rattle.version_views.proofs.BlockListLemmas.{pairs_in-append}
 use Rattle.version_views.proofs.SeparatorSearchLemmas.{get_some}
 use Rattle.version_drafts.specs.Cutting.{IsCutting, IsHeld, IsSegmentRow, IsSegmentSized, StaysApart, given_pairs, last_size, one_open, trees}
@@ -24,38 +23,6 @@ same_clones clones same [] [] z = refl
 same_clones clones same [] (y ∷ ys) z = absurd z
 same_clones clones same (x ∷ xs) [] z = absurd z
 same_clones clones same (x ∷ xs) (y ∷ ys) z = ap (λ v. v ∷ ys) (same x y z.0) ∙ ap (λ vs. x ∷ vs) (same_clones clones same xs ys z.1)
-
--- ---- the separators of a stretch
-
--- where the keys are those of all but the last, those before a place are a slice of them
-pub separators_between : {K V : Type 0} (blocks : List (List (K × V))) (keys : List K) (from last : ℕ) → IsSeparated blocks keys → from ≤ last → last < length blocks → map Some (take (last - from) (drop from keys)) ≡ map greatest_key (between from last blocks)
-separators_between blocks keys from last sep le inside =
-    let n = length blocks - 1 in
-    let k = n - from in
-    let all : from + k ≡ n = omega (arith, le, inside) in
-    let less : last - from ≤ k = omega (arith, le, inside) in
-    sym (take-map Some (last - from) (drop from keys))
-    ∙ (ap (take (last - from)) (dropped_map Some from keys)
-    ∙ (ap (λ ks. take (last - from) (drop from ks)) sep
-    ∙ (ap (take (last - from)) (sym (dropped_map greatest_key from (take n blocks)))
-    ∙ (take-map greatest_key (last - from) (drop from (take n blocks))
-    ∙ (ap (λ m. map greatest_key (take (last - from) (drop from (take m blocks)))) (sym all)
-    ∙ (ap (λ bs. map greatest_key (take (last - from) bs)) (drop-take from k blocks)
-    ∙ ap (map greatest_key) (take-take (last - from) k (drop from blocks) less)))))))
-  where
-    dropped_map : {X Y : Type 0} (f : X → Y) (n : ℕ) (xs : List X) → map f (drop n xs) ≡ drop n (map f xs)
-    dropped_map f zero xs = refl
-    dropped_map f (suc n) [] = refl
-    dropped_map f (suc n) (x ∷ xs) = dropped_map f n xs
-
--- clones of a part of the keys go behind keys, and then the one of the last segment
-pub keys_behind : {K V : Type 0} (blocks : List (List (K × V))) (from upto : ℕ) → from < upto → (b : List (K × V)) → slice_get blocks (upto - 1) ≡ Some b → (old part new : List K) (last : K) → new ≡ (old ++ part) ++ last ∷ [] → map Some part ≡ map greatest_key (between from (upto - 1) blocks) → Some last ≡ greatest_key b → map Some new ≡ map Some old ++ map greatest_key (between from upto blocks)
-keys_behind blocks from upto some b here old part new last is same key =
-    let front = between from (upto - 1) blocks in
-    let next : upto ≡ upto - 1 + 1 = omega (arith, some) in
-    let ends : between from upto blocks ≡ front ++ b ∷ [] = ap (λ n. between from n blocks) next ∙ between_more from (upto - 1) blocks b (omega (arith, some)) here in
-    let whole : map greatest_key front ++ Some last ∷ [] ≡ map greatest_key (between from upto blocks) = ap (λ k. map greatest_key front ++ k ∷ []) key ∙ (sym (map-append greatest_key front (b ∷ [])) ∙ ap (map greatest_key) (sym ends)) in
-    ap (map (λ k. Some k)) is ∙ (map-append (λ k. Some k) (old ++ part) (last ∷ []) ∙ (ap (λ ks. ks ++ Some last ∷ []) (map-append (λ k. Some k) old part ∙ ap (λ ks. map (λ k. Some k) old ++ ks) same) ∙ (append_assoc (map (λ k. Some k) old) (map greatest_key front) (Some last ∷ []) ∙ ap (λ ks. map (λ k. Some k) old ++ ks) whole)))
 
 -- ---- blocks in a row
 
@@ -129,14 +96,13 @@ module _ {K V : Type 0} {cmp : K → K → Ordering} {s : ℕ} {blocks : List (L
     begins : stretch ≡ a.block ∷ between (from + 1) upto blocks
     begins = between_at blocks from upto a.block some (sym a.there)
 
-    row_stretch : (mid.row.last ≡ 0) ⊎ (s < mid.row.last + length a.block) → map Some c'.row.separators.items ≡ map Some mid.row.separators.items ++ map greatest_key stretch → c'.row.last ≡ length final.0 → IsSegmentRow blocks s c'.row
-    row_stretch apart' more last =
+    row_stretch : (mid.row.last ≡ 0) ⊎ (s < mid.row.last + length a.block) → c'.row.last ≡ length final.0 → IsSegmentRow blocks s c'.row
+    row_stretch apart' last =
         let behind : (last_size fronts ≡ 0) ⊎ (s < last_size fronts + length a.block) = subst (λ n. (n ≡ 0) ⊎ (s < n + length a.block)) row.last apart' in
         let tight = tight_take s (upto - from) (drop from blocks) (tight_drop s from blocks cut.tight) in
         record {
           sizes = subst (All (IsSegmentSized s)) (sym blocks_more) (All-append (IsSegmentSized s) fronts stretch row.sizes (All-take (IsSegmentSized s) (upto - from) (drop from blocks) (All-drop (IsSegmentSized s) from blocks cut.sizes)));
           tight = subst (IsTight s) (sym blocks_more) (subst (λ bs. IsTight s (fronts ++ bs)) (sym begins) (tight_both s fronts a.block (between (from + 1) upto blocks) row.sizes row.tight behind (subst (IsTight s) begins tight)));
-          separated = more ∙ (ap (λ ks. ks ++ map greatest_key stretch) row.separated ∙ (sym (map-append greatest_key fronts stretch) ∙ ap (map greatest_key) (sym blocks_more)));
           last = last ∙ sym last_of;
           within = subst (All (LiesWithin (length blocks))) (sym t) (All-push (LiesWithin (length blocks)) mid.row.parts.items (parts.Taken from upto) row.within (some, within));
         }
@@ -152,13 +118,13 @@ module _ {K V : Type 0} {cmp : K → K → Ordering} {s : ℕ} {blocks : List (L
     }
 
     pub cutting_stretch : (0 < length c.tail.pairs → length c.tail.pairs ≤ mid.row.last) → (length c.tail.pairs ≡ 0 → mid.row.last ≡ c.row.last)
-        → map Some c'.row.separators.items ≡ map Some mid.row.separators.items ++ map greatest_key stretch → ((b : List (K × V)) → Some b ≡ slice_get blocks (upto - 1) → c'.row.last ≡ length b) → c'.held ≡ Some (upto - 1) → IsAscending cmp (given_pairs blocks c ++ pairs_in stretch) → IsCutting cmp s blocks c'
-    cutting_stretch last same keys' sized held up =
+        → ((b : List (K × V)) → Some b ≡ slice_get blocks (upto - 1) → c'.row.last ≡ length b) → c'.held ≡ Some (upto - 1) → IsAscending cmp (given_pairs blocks c ++ pairs_in stretch) → IsCutting cmp s blocks c'
+    cutting_stretch last same sized held up =
         let all = given_stretch pairs in
         record {
           least = h.least;
           most = h.most;
-          row = row_stretch (apart last same) keys' (sized final.0 (sym final.1));
+          row = row_stretch (apart last same) (sized final.0 (sym final.1));
           room = (let z = ap length none in omega (arith, z));
           rising = subst (IsAscending cmp) (sym all) up;
           held = subst (IsHeld blocks c'.row.parts.items) (sym held) held_stretch;

@@ -1,5 +1,5 @@
 -- A list that is being cut.
-use Rattle.std.specs.Prelude.{◌≡◌, ◌≢◌, ◌⊎◌, Bool, true, false, ℕ, ◌+◌, ◌-◌, ◌*◌, ◌≤◌, ◌<◌, List, [], ◌∷◌, ◌++◌, drop, length, map, slice_get, IfSome, Option, Some, None}
+use Rattle.std.specs.Prelude.{◌≡◌, ◌≢◌, ◌⊎◌, Bool, true, false, ℕ, ◌+◌, ◌-◌, ◌*◌, ◌≤◌, ◌<◌, List, [], ◌∷◌, ◌++◌, drop, length, slice_get, IfSome, Option, Some, None}
 use Rattle.std.specs.Borrow.{Bor}
 use Rattle.std.specs.declared.cmp.Ordering.{Ordering}
 use Rattle.std.specs.declared.cmp.Ordering.TheVariants.{Less, Greater}
@@ -7,7 +7,7 @@ use Rattle.std.specs.List.{All}
 use Rattle.leaf_array.specs.Pairs.{IsAscending}
 use Rattle.tree_index.specs.Shape.{AllKeys}
 use Rattle.version_drafts.specs.Changes.{ahead, apply_delta}
-use Rattle.version_views.specs.Cuts.{IsTight, greatest_key, pairs_in}
+use Rattle.version_views.specs.Cuts.{IsTight, pairs_in}
 use Rattle.version_drafts.specs.Gone.{is_gone, without_gone}
 use Rattle.version_drafts.specs.Parts.{LiesWithin, blocks_of_parts, made_in}
 use Rattle.version_drafts.specs.declared.gone.Gone.{Gone}
@@ -60,11 +60,10 @@ module _ {K V : Type 0} where
     abbrev pub given_pairs : SegmentBuilder K V → List (K × V)
     given_pairs c = pairs_in (blocks_of_parts blocks c.row.parts.items) ++ c.tail.pairs
 
-    -- segments of 1 to s pairs, none of which two neighbours could do without, with the greatest key of each
+    -- segments of 1 to s pairs, none of which two neighbours could do without
     pub record IsSegmentRow (s : ℕ) (row : Row K V) : Type 0 where
       pub sizes : All (IsSegmentSized s) (blocks_of_parts blocks row.parts.items)
       pub tight : IsTight s (blocks_of_parts blocks row.parts.items)
-      pub separated : map Some row.separators.items ≡ map greatest_key (blocks_of_parts blocks row.parts.items)
       pub last : row.last ≡ last_size (blocks_of_parts blocks row.parts.items)
       pub within : All (LiesWithin (length blocks)) row.parts.items
 
@@ -93,7 +92,6 @@ module _ {K V : Type 0} where
     pub record IsClosing (s : ℕ) (c : SegmentBuilder K V) : Type 0 where
       pub sizes : All (IsSegmentSized s) (blocks_of_parts blocks c.row.parts.items ++ c.tail.pairs ∷ [])
       pub tight : IsTight s (blocks_of_parts blocks c.row.parts.items ++ c.tail.pairs ∷ [])
-      pub separated : map Some c.row.separators.items ≡ map greatest_key (blocks_of_parts blocks c.row.parts.items)
       pub within : All (LiesWithin (length blocks)) c.row.parts.items
 
   module _ (cmp : K → K → Ordering) (s : ℕ) (blocks : List (List (K × V))) where

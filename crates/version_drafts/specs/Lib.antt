@@ -4,3 +4,4 @@ pub mod Cutting
 pub mod Drafts
 pub mod Gone
 pub mod Rows
+pub mod Shelves

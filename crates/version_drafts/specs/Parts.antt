@@ -1,12 +1,9 @@
 -- parts of a version that is being built
-use Rattle.std.specs.Prelude.{◌≡◌, ℕ, ◌+◌, ◌-◌, ◌<◌, ◌≤◌, List, [], ◌∷◌, ◌++◌, cond, nat_lt, drop, sum_by, take}
+use Rattle.std.specs.Prelude.{◌≡◌, ℕ, ◌+◌, ◌-◌, ◌<◌, ◌≤◌, List, [], ◌∷◌, ◌++◌, cond, nat_lt, sum_by}
 use Rattle.version_views.specs.Cuts.{pairs_in}
+pub use Rattle.version_views.specs.Rows.{between}
 use Rattle.version_drafts.specs.declared.segments.Part.{Part}
 use Rattle.version_drafts.specs.declared.segments.Part.TheVariants as parts
-
--- what lies from one place of a list up to another
-abbrev pub between : {X : Type 0} → ℕ → ℕ → List X → List X
-between from upto xs = take (upto - from) (drop from xs)
 
 module _ {K V : Type 0} where
   -- the pairs of the segments of a part, where the older version has these

@@ -27,7 +27,7 @@ pub fn drafted<K: Clone + Ord + Drop, V: Clone + Drop, W: Trees<K, V>, const S: 
     requires keys { ClonesAreSame K.is_clone }
     requires values { ClonesAreSame V.is_clone }
     requires whole { IsCut K.cmp S old.now (separators_of old.now) }
-    ensures cut { IfOk result (λ made. IsCut K.cmp S (blocks_of_parts old.now made.0.parts.items) made.0.separators.items) }
+    ensures cut { IfOk result (λ made. IsCut K.cmp S (blocks_of_parts old.now made.0.parts.items) (separators_of (blocks_of_parts old.now made.0.parts.items))) }
     ensures list { IfOk result (λ made. list_of_parts old.now made.0.parts.items ≡ after_writes K.cmp writes.now (pairs_in old.now)) }
     ensures within { IfOk result (λ made. All (LiesWithin (length old.now)) made.0.parts.items) }
     ensures length { IfOk result (λ made. made.0.length ≡ length (list_of_parts old.now made.0.parts.items)) }

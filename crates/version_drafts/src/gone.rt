@@ -12,7 +12,7 @@ use crate::scans::PairScan;
 use std::alloc::AllocError;
 use std::ops::Bound;
 use tree_index::TreeIndex;
-use version_views::{Trees, VersionView, is_within, place_of};
+use version_views::{Trees, VersionView, is_within};
 
 /// A range of keys whose pairs are gone.
 #[derive(Drop)]
@@ -55,8 +55,8 @@ fn end_of<K: Ord, V, W: Trees<K, V>>(
     ensures { IsEndAt K.cmp old.now bound.now result }
 {
     match bound {
-        Bound::Included(key) => Some(place_of(old.separators(), key)),
-        Bound::Excluded(key) => Some(place_of(old.separators(), key)),
+        Bound::Included(key) => Some(old.place_of(key)),
+        Bound::Excluded(key) => Some(old.place_of(key)),
         Bound::Unbounded => None,
     }
 }

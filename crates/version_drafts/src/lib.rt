@@ -16,3 +16,5 @@ mod room;
 mod row;
 mod scans;
 mod segments;
+pub mod shelves;
+mod shelving;

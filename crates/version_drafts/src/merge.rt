@@ -17,11 +17,11 @@ use crate::gone::{Gone, apart_upto, covers, thins};
 use crate::row::{ChangeScan, Edit, EditRow};
 use crate::scans::Sieve;
 use crate::segments::{
-    SegmentBuilder, Segments, begun, count_out, expect, finish, greatest_at, push, take_stretch,
+    SegmentBuilder, Segments, begun, count_out, expect, finish, push, take_stretch,
 };
 use std::alloc::{AllocError, Global};
 use std::cmp::Ordering;
-use version_views::{Trees, VersionView, place_of};
+use version_views::{Trees, VersionView};
 
 /// The segments of the list that changes make of a version. A segment that no change touches is taken over, save where it
 /// has to be joined with what comes before it.
@@ -35,7 +35,7 @@ pub(crate) fn merged<K: Clone + Ord + Drop, V: Clone + Drop, W: Trees<K, V>, con
     requires values { ClonesAreSame V.is_clone }
     requires whole { IsCut K.cmp S old.now (separators_of old.now) }
     requires spans { All (IsSpan K.cmp old.now) changes.now.gone.items }
-    ensures cut { IfOk result (λ made. IsCut K.cmp S (blocks_of_parts old.now made.parts.items) made.separators.items) }
+    ensures cut { IfOk result (λ made. IsCut K.cmp S (blocks_of_parts old.now made.parts.items) (separators_of (blocks_of_parts old.now made.parts.items))) }
     ensures list { IfOk result (λ made. list_of_parts old.now made.parts.items ≡ list_changed K.cmp changes.now old.now) }
     ensures within { IfOk result (λ made. All (LiesWithin (length old.now)) made.parts.items) }
     ensures length { IfOk result (λ made. made.length ≡ length (list_of_parts old.now made.parts.items)) }
@@ -62,7 +62,7 @@ fn merged_with<K: Clone + Ord + Drop, V: Clone + Drop, W: Trees<K, V>, const S: 
     requires values { ClonesAreSame V.is_clone }
     requires whole { IsCut K.cmp S old.now (separators_of old.now) }
     requires spans { All (IsSpan K.cmp old.now) gone.now }
-    ensures cut { IfOk result (λ made. IsCut K.cmp S (blocks_of_parts old.now made.parts.items) made.separators.items) }
+    ensures cut { IfOk result (λ made. IsCut K.cmp S (blocks_of_parts old.now made.parts.items) (separators_of (blocks_of_parts old.now made.parts.items))) }
     ensures list { IfOk result (λ made. list_of_parts old.now made.parts.items ≡ apply_delta K.cmp edits.now (without_gone K.cmp gone.now (pairs_in old.now))) }
     ensures within { IfOk result (λ made. All (LiesWithin (length old.now)) made.parts.items) }
     ensures length { IfOk result (λ made. made.length ≡ length (list_of_parts old.now made.parts.items)) }
@@ -161,7 +161,7 @@ fn reached_at<K: Ord, V, W: Trees<K, V>>(
 {
     match changes.front() {
         None => old.segment_count(),
-        Some((key, _)) => place_of(old.separators(), key),
+        Some((key, _)) => old.place_of(key),
     }
 }
 
@@ -197,7 +197,7 @@ fn reaches<K: Ord, V, W: Trees<K, V>, const S: usize>(
 {
     match changes.front() {
         None => false,
-        Some((key, _)) => match greatest_at(old, place) {
+        Some((key, _)) => match old.greatest_at(place) {
             Some(last) => match key.cmp(last) {
                 Ordering::Less => true,
                 Ordering::Equal => true,
@@ -267,7 +267,7 @@ fn pass_upto<K: Ord, V, W: Trees<K, V>, const S: usize>(
     requires separated { IsSeparated old.now (separators_of old.now) }
     requires within { place < length old.now }
 {
-    let Some(last) = greatest_at(old, place) else {
+    let Some(last) = old.greatest_at(place) else {
         return 0;
     };
     for count in 0..S {

@@ -1,144 +1,163 @@
 //! Drafts: versions that aren't placed yet.
 
-ghost use Rattle.std.specs.Prelude.{◌≡◌, ◌≤◌, ◌<◌, ◌+◌, ◌*◌, ◌/◌, [], List, length, IfOk};
+ghost use Rattle.std.specs.Prelude.{◌≡◌, ◌≤◌, ◌<◌, ◌+◌, ◌*◌, ◌/◌, [], ℕ, List, length, IfOk};
 ghost use Rattle.leaf_array.specs.Pairs.{IsAscending};
 ghost use Rattle.leaf_array.specs.Values.{ClonesAreSame};
 ghost use Rattle.version_views.specs.Cuts.{IsCut, pairs_in, separators_of};
+ghost use Rattle.version_views.specs.Rows.{CutsInRows};
 ghost use Rattle.version_views.specs.Sizes.{room_for};
 ghost use Rattle.version_views.specs.Writes.{after_writes, replies_to};
-ghost use Rattle.version_drafts.specs.Drafts.{IsPlanned, list_planned, plan_of, slots_for};
-ghost use Rattle.version_drafts.specs.Parts.{segments_in};
+ghost use Rattle.version_drafts.specs.Drafts.{IsPlanned, RoomsFit, list_planned, number_of, slots_for};
+ghost use Rattle.version_drafts.specs.Shelves.{made_on_all};
 
 use crate::draft::drafted;
-use crate::listed::listed;
+use crate::listed::{listed, shelved_alone};
 pub use crate::room::OwnersRoom;
-use crate::segments::{Segments, count_of, made_of};
+use crate::room::{end_all, rooms_for};
+use crate::segments::made_of;
+use crate::shelves::{Shelf, shelved};
 use std::alloc::{AllocError, Global};
 use std::marker::Model;
-use version_views::{Reply, Trees, VersionView, Write};
+use version_views::{Directory, Reply, Row, Trees, VersionView, Write};
 
-/// A version that isn't placed yet: the number of its list, and its segments, of which some are those of an older version,
-/// with room for their owners.
+/// A version that isn't placed yet: its directory, of whose rows some are those of an older version, with room for the owners
+/// of each.
 pub struct Draft<K: Ord, V, R: OwnersRoom, const S: usize> {
-    number: u64,
-    segments: Segments<K, V>,
-    // how many of them are new
-    made: usize,
-    room: R,
+    shelves: Directory<K, Shelf<K, V>>,
+    // how many slots it takes
+    slots: usize,
+    // that of the first row last
+    rooms: Vec<R>,
 }
 
-/// Invariant: specs/Drafts.antt, IsDrafted: the segments are few, and those that are new are counted; and there is room for
-/// the owners of all.
+/// Invariant: specs/Drafts.antt, IsDrafted and RoomsFit: its slots are few, and counted; and there is room for the owners of each
+/// row.
 impl<K: Ord, V, R: OwnersRoom, const S: usize> Model for Draft<K, V, R, S> {
-    ghost use Rattle.version_drafts.specs.Drafts.{IsDrafted, Plan};
-    ghost use Rattle.version_drafts.specs.Parts.{segments_in};
+    ghost use Rattle.version_drafts.specs.Drafts.{IsDrafted, Plan, RoomsFit};
 
     ghost Value = { Plan K V S };
 
-    ghost view = { λ d. record { number = d.number; parts = d.segments.parts.items; separators = d.segments.separators.items; length = d.segments.length } };
+    ghost view = { λ d. record { shelves = d.shelves } };
 
-    ghost invariant = { λ d. IsDrafted S d.segments d.made × R.fits d.room (segments_in d.segments.parts.items) };
+    ghost invariant = { λ d. IsDrafted S d.shelves d.slots × RoomsFit R.fits R.fits_whole d.rooms.items d.shelves.rows.items };
 }
 
 impl<K: Ord, V, R: OwnersRoom, const S: usize> Draft<K, V, R, S> {
     /// The empty list, with number 0. It takes no memory.
     pub fn empty(alloc: Global) -> Self
-        ensures { result ≡ record { number = 0; parts = []; separators = []; length = 0 } }
+        ensures number { number_of result ≡ 0 }
+        ensures slots { slots_for result ≡ 1 }
+        ensures list { (blocks : List (List (K × V))) → list_planned blocks result ≡ [] }
+        ensures planned { (blocks : List (List (K × V))) (ends : List ℕ) → IsPlanned K.cmp blocks ends result }
     {
+        let shelves = Directory::new(0, 0, Vec::new(alloc), Vec::new(alloc), Vec::new(alloc));
         Draft {
-            number: 0,
-            segments: Segments {
-                parts: Vec::new(alloc),
-                separators: Vec::new(alloc),
-                length: 0,
-            },
-            made: 0,
-            room: R::none(alloc),
+            shelves,
+            slots: 1,
+            rooms: Vec::new(alloc),
         }
     }
 
-    /// The version of these segments under a number, with room for their owners. Fails only if an allocation fails.
-    /// Condition: they are few.
-    fn of(alloc: Global, number: u64, segments: Segments<K, V>) -> Result<Self, AllocError>
+    /// The version of these rows, which takes so many slots, with room for their owners. Fails only if an allocation fails.
+    /// Condition: it does, and they are few.
+    fn of(
+        alloc: Global,
+        shelves: Directory<K, Shelf<K, V>>,
+        slots: usize,
+    ) -> Result<Self, AllocError>
     where
         K: Drop,
         V: Drop,
-        requires few { segments_in segments.parts.items ≤ 2 * (segments.length / (S + 1)) + 1 }
-        ensures { IfOk result (λ draft. draft ≡ plan_of number segments) }
+        requires counted { slots ≡ made_on_all shelves.rows.items + 1 }
+        requires few { slots ≤ 2 * (shelves.length / (S + 1)) + 2 }
+        ensures { IfOk result (λ draft. draft.shelves ≡ shelves) }
     {
-        let Some(count) = count_of(&segments.parts) else {
-            return Err(AllocError);
-        };
-        let made = made_of(&segments.parts);
-        let room = R::with_room(alloc, count)?;
+        let rooms = rooms_for(alloc, shelves.rows())?;
         Ok(Draft {
-            number,
-            segments,
-            made,
-            room,
+            shelves,
+            slots,
+            rooms,
         })
     }
 
     /// The same list under this number.
     pub fn numbered(self, number: u64) -> Self
-        ensures { result ≡ record self { number = number } }
+        ensures { result.shelves ≡ record self.shelves { number = number } }
     {
-        let mut draft = self;
-        draft.number = number;
-        draft
+        let Draft {
+            shelves,
+            slots,
+            rooms,
+        } = self;
+        Draft {
+            shelves: shelves.numbered(number),
+            slots,
+            rooms,
+        }
     }
 
     /// How many slots it takes: one for each new segment, and one for its directory. A list of `n` pairs takes at most
     /// `2 * (n / (S + 1)) + 2`, and so do `w` writes at most `2 * w + 1`.
     pub fn slots(&self) -> usize
         ensures count { result ≡ slots_for self.now }
-        ensures few { result ≤ 2 * (self.now.length / (S + 1)) + 2 }
+        ensures few { result ≤ 2 * (self.now.shelves.length / (S + 1)) + 2 }
     {
-        self.made + 1
+        self.slots
     }
 
-    /// Its number, its segments, and room for their owners.
-    pub fn into_parts(self) -> (u64, Segments<K, V>, R)
-        ensures plan { record { number = result.0; parts = result.1.parts.items; separators = result.1.separators.items; length = result.1.length } ≡ self }
-        ensures room { R.fits result.2 (segments_in result.1.parts.items) }
+    /// Its rows, in order.
+    pub fn rows(&self) -> &[Row<K, Shelf<K, V>>]
+        ensures { result.now ≡ self.now.shelves.rows.items }
+    {
+        self.shelves.rows()
+    }
+
+    /// Its directory, and room for the owners of each row, that of the first row last.
+    pub fn into_parts(self) -> (Directory<K, Shelf<K, V>>, Vec<R>)
+        ensures shelves { result.0 ≡ self.shelves }
+        ensures rooms { RoomsFit R.fits R.fits_whole result.1.items result.0.rows.items }
     {
         let Draft {
-            number,
-            segments,
-            made: _,
-            room,
+            shelves,
+            slots: _,
+            rooms,
         } = self;
-        (number, segments, room)
+        (shelves, rooms)
     }
 }
 
 impl<K: Ord + Drop, V: Drop, R: OwnersRoom, const S: usize> Drop for Draft<K, V, R, S> {
     fn drop(self) {
-        let (_, _, room) = self.into_parts();
-        room.end();
+        let (_, rooms) = self.into_parts();
+        end_all(rooms);
     }
 }
 
-/// The version that writes make of an older one, under a number, and the replies. Fails only if an allocation fails.
-/// Segments that no write touches are taken over, so the older version has to be there when it is placed.
+/// The version that writes make of an older one, under a number, and the replies; `rows` is the directory of the older one. Fails
+/// only if an allocation fails. Rows and segments that no write touches are taken over, so the older version has to be there when
+/// it is placed.
 pub fn build<K: Clone + Ord + Drop, V: Clone + Drop, W: Trees<K, V>, R: OwnersRoom, const S: usize>(
     alloc: Global,
     number: u64,
     old: &VersionView<'_, K, V, W>,
+    rows: &Directory<K, W::Owners>,
     writes: &[Write<K, V>],
 ) -> Result<(Draft<K, V, R, S>, Vec<Reply>), AllocError>
     requires size { (1 ≤ S) × (S ≤ 225) }
     requires keys { ClonesAreSame K.is_clone }
     requires values { ClonesAreSame V.is_clone }
     requires whole { IsCut K.cmp S old.now (separators_of old.now) }
-    ensures number { IfOk result (λ made. made.0.number ≡ number) }
+    requires rows { CutsInRows old.now rows.now }
+    ensures number { IfOk result (λ made. number_of made.0 ≡ number) }
     ensures list { IfOk result (λ made. list_planned old.now made.0 ≡ after_writes K.cmp writes.now (pairs_in old.now)) }
     ensures few { IfOk result (λ made. slots_for made.0 ≤ 2 * length writes.now + 1) }
-    ensures planned { IfOk result (λ made. IsPlanned K.cmp old.now made.0) }
+    ensures planned { IfOk result (λ made. IsPlanned K.cmp old.now rows.now.ends.items made.0) }
     ensures replies { IfOk result (λ made. made.1.items ≡ replies_to K.cmp writes.now (pairs_in old.now)) }
 {
     let (segments, replies) = drafted::<K, V, W, S>(alloc, old, writes)?;
-    let draft = Draft::of(alloc, number, segments)?;
+    let slots = made_of(&segments.parts) + 1;
+    let shelves = shelved(alloc, number, old, rows, segments)?;
+    let draft = Draft::of(alloc, shelves, slots)?;
     Ok((draft, replies))
 }
 
@@ -153,13 +172,15 @@ pub fn build_list<K: Clone + Ord + Drop, V: Clone + Drop, R: OwnersRoom, const S
     requires keys { ClonesAreSame K.is_clone }
     requires values { ClonesAreSame V.is_clone }
     requires rising { IsAscending K.cmp pairs.now }
-    ensures number { IfOk result (λ made. made.number ≡ number) }
+    ensures number { IfOk result (λ made. number_of made ≡ number) }
     ensures list { IfOk result (λ made. (blocks : List (List (K × V))) → list_planned blocks made ≡ pairs.now) }
-    ensures length { IfOk result (λ made. made.length ≡ length pairs.now) }
+    ensures length { IfOk result (λ made. made.shelves.length ≡ length pairs.now) }
     ensures few { IfOk result (λ made. slots_for made ≤ room_for S (length pairs.now)) }
     ensures fewest { IfOk result (λ made. S * slots_for made < length pairs.now + 2 * S) }
-    ensures planned { IfOk result (λ made. (blocks : List (List (K × V))) → IsPlanned K.cmp blocks made) }
+    ensures planned { IfOk result (λ made. (blocks : List (List (K × V))) (ends : List ℕ) → IsPlanned K.cmp blocks ends made) }
 {
     let segments = listed::<K, V, S>(alloc, pairs)?;
-    Draft::of(alloc, number, segments)
+    let slots = made_of(&segments.parts) + 1;
+    let shelves = shelved_alone(alloc, number, segments)?;
+    Draft::of(alloc, shelves, slots)
 }

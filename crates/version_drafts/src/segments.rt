@@ -28,42 +28,21 @@ pub enum Part<K: Ord, V> {
     Made(Segment<K, V>),
 }
 
-/// The segments of a list, in order, by parts, with the greatest key of each but the last.
+/// The segments of a list, in order, by parts.
 #[derive(Drop)]
 pub struct Segments<K: Ord, V> {
     /// The stretches that are taken over, and the new segments.
     pub parts: Vec<Part<K, V>>,
-    /// The greatest key of each segment but the last.
-    pub separators: Vec<K>,
     /// How many pairs all segments hold.
     pub length: usize,
 }
 
-/// Parts in a row, with the greatest key of each segment.
+/// Parts in a row.
 #[derive(Drop)]
 pub(crate) struct Row<K: Ord, V> {
     pub(crate) parts: Vec<Part<K, V>>,
-    pub(crate) separators: Vec<K>,
     // how many pairs the last segment has; 0 where there is none
     pub(crate) last: usize,
-}
-
-/// Puts a new segment behind the others, with its greatest key and how many pairs it has.
-#[inline(always)]
-fn give<K: Ord + Drop, V: Drop>(
-    row: &mut Row<K, V>,
-    part: Part<K, V>,
-    greatest: K,
-    size: usize,
-) -> Result<(), AllocError>
-    ensures parts { OnOk result (row.new.parts.items ≡ row.old.parts.items ++ part ∷ []) }
-    ensures separators { OnOk result (row.new.separators.items ≡ row.old.separators.items ++ greatest ∷ []) }
-    ensures last { OnOk result (row.new.last ≡ size) }
-{
-    row.parts.push(part)?;
-    row.separators.push(greatest)?;
-    row.last = size;
-    Ok(())
 }
 
 /// How many parts are new.
@@ -113,8 +92,7 @@ pub(crate) struct SegmentBuilder<K: Ord, V> {
     pub(crate) until: usize,
 }
 
-/// A builder that was given no pair, with room for the separators of all segments that changes of that many keys and ranges
-/// can leave.
+/// A builder that was given no pair, with room for the parts that changes of that many keys and ranges can leave.
 pub(crate) fn begun<K: Ord + Drop, V: Drop, W: Trees<K, V>, const S: usize>(
     alloc: Global,
     old: &VersionView<'_, K, V, W>,
@@ -128,14 +106,9 @@ pub(crate) fn begun<K: Ord + Drop, V: Drop, W: Trees<K, V>, const S: usize>(
 {
     let most = most_segments(old.segment_count(), named, S);
     let parts = Vec::with_capacity(alloc, most.min(most_parts(named)))?;
-    let separators = Vec::with_capacity(alloc, most)?;
     Ok(SegmentBuilder {
         alloc,
-        row: Row {
-            parts,
-            separators,
-            last: 0,
-        },
+        row: Row { parts, last: 0 },
         held: None,
         tail: Segment::new(alloc),
         length: old.len(),
@@ -254,33 +227,9 @@ pub(crate) fn take_stretch<K: Clone + Ord + Drop, V: Clone + Drop, W: Trees<K, V
 {
     seal::<K, V, W, S>(out, old)?;
     out.row.parts.push(Part::Taken { from, upto })?;
-    copy_separators(&mut out.row.separators, old, from, upto)?;
     let last = upto - 1;
     out.row.last = old.segment(last).len();
     out.held = Some(last);
-    Ok(())
-}
-
-/// Puts clones of the greatest keys of the older segments from one place up to another behind keys: a slice of the
-/// separators, and the key of the last segment.
-fn copy_separators<K: Clone + Ord + Drop, V, W: Trees<K, V>>(
-    keys: &mut Vec<K>,
-    old: &VersionView<'_, K, V, W>,
-    from: usize,
-    upto: usize,
-) -> Result<(), AllocError>
-    requires keys { ClonesAreSame K.is_clone }
-    requires separated { IsSeparated old.now (separators_of old.now) }
-    requires some { from < upto }
-    requires within { upto ≤ length old.now }
-    ensures { OnOk result (map Some keys.new.items ≡ map Some keys.old.items ++ map greatest_key (between from upto old.now)) }
-{
-    let last = match greatest_at(old, upto - 1) {
-        Some(key) => key.clone()?,
-        None => return Err(AllocError),
-    };
-    keys.extend_from_slice(&old.separators()[from..upto - 1])?;
-    keys.push(last)?;
     Ok(())
 }
 
@@ -293,7 +242,7 @@ pub(crate) fn finish<K: Clone + Ord + Drop, V: Clone + Drop, W: Trees<K, V>, con
     requires values { ClonesAreSame V.is_clone }
     requires whole { IsCutting K.cmp S old.now out }
     requires counted { out.length ≡ length (given_pairs old.now out) }
-    ensures cut { IfOk result (λ made. IsCut K.cmp S (blocks_of_parts old.now made.parts.items) made.separators.items) }
+    ensures cut { IfOk result (λ made. IsCut K.cmp S (blocks_of_parts old.now made.parts.items) (separators_of (blocks_of_parts old.now made.parts.items))) }
     ensures list { IfOk result (λ made. list_of_parts old.now made.parts.items ≡ given_pairs old.now out) }
     ensures within { IfOk result (λ made. All (LiesWithin (length old.now)) made.parts.items) }
     ensures length { IfOk result (λ made. made.length ≡ length (list_of_parts old.now made.parts.items)) }
@@ -308,17 +257,8 @@ pub(crate) fn finish<K: Clone + Ord + Drop, V: Clone + Drop, W: Trees<K, V>, con
         length,
         until: _,
     } = out;
-    let Row {
-        parts,
-        mut separators,
-        last: _,
-    } = row;
-    let _greatest = separators.pop();
-    Ok(Segments {
-        parts,
-        separators,
-        length,
-    })
+    let Row { parts, last: _ } = row;
+    Ok(Segments { parts, length })
 }
 
 /// Ends the open tree if it has a pair, with the older segment before it where both fit into one.
@@ -370,7 +310,6 @@ fn join<K: Clone + Ord + Drop, V: Clone + Drop, W: Trees<K, V>, const S: usize>(
     }
     absorb(out.alloc, &mut out.tail, old.segment(place))?;
     shorten(&mut out.row.parts, place)?;
-    let _greatest = out.row.separators.pop();
     Ok(())
 }
 
@@ -396,25 +335,20 @@ fn shorten<K: Ord + Drop, V: Drop>(
 }
 
 /// Puts the open tree behind the segments that are done, and begins another one.
-fn close<K: Clone + Ord + Drop, V: Drop>(
+fn close<K: Ord + Drop, V: Drop>(
     out: &mut SegmentBuilder<K, V>,
     next: Segment<K, V>,
 ) -> Result<(), AllocError>
-    requires { ClonesAreSame K.is_clone }
     ensures parts { OnOk result (out.new.row.parts.items ≡ out.old.row.parts.items ++ Part.Made out.old.tail ∷ []) }
-    ensures separators { OnOk result (map Some out.new.row.separators.items ≡ map Some out.old.row.separators.items ++ greatest_key out.old.tail.pairs ∷ []) }
     ensures last { OnOk result (out.new.row.last ≡ length out.old.tail.pairs) }
     ensures held { OnOk result (out.new.held ≡ None) }
     ensures tail { OnOk result (out.new.tail ≡ next) }
     ensures length { OnOk result (out.new.length ≡ out.old.length) }
 {
-    let key = match greatest(out.tail.tree()) {
-        Some(key) => key.clone()?,
-        None => return Err(AllocError),
-    };
     let size = out.tail.len();
     let part = Part::Made(mem::replace(&mut out.tail, next));
-    give(&mut out.row, part, key, size)?;
+    out.row.parts.push(part)?;
+    out.row.last = size;
     out.held = None;
     Ok(())
 }
@@ -467,30 +401,5 @@ fn single<K: Clone + Ord + Drop, V: Drop>(
     match tree.push(key, value) {
         Ok(()) => Ok(tree),
         Err(_) => Err(AllocError),
-    }
-}
-
-/// The greatest key of the segment at a place: of each but the last, its separator.
-pub(crate) fn greatest_at<'o, K: Ord + 'o, V: 'o, W: Trees<K, V> + 'o>(
-    old: &VersionView<'o, K, V, W>,
-    place: usize,
-) -> Option<&'o K>
-    requires separated { IsSeparated old.now (separators_of old.now) }
-    requires within { place < length old.now }
-    ensures { (b : List (K × V)) → Some b ≡ slice_get old.now place → option_copied result ≡ greatest_key b }
-{
-    match old.separators().get(place) {
-        Some(key) => Some(key),
-        None => greatest(old.segment(place)),
-    }
-}
-
-/// The greatest key of a tree.
-fn greatest<K: Ord, V>(tree: &TreeIndex<K, V>) -> Option<&K>
-    ensures { option_copied result ≡ greatest_key tree.now.pairs }
-{
-    match tree.iter().next_back() {
-        Some((key, _)) => Some(key),
-        None => None,
     }
 }

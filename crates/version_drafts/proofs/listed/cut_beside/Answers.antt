@@ -2,7 +2,7 @@ use Rattle.std.proofs.Common.{◌≡◌, ◌+◌, ◌*◌, ◌<◌, ◌++◌, �
 use Rattle.std.proofs.lemmas.List.{take_all, take_more}
 use Rattle.std.specs.List.{All}
 use Rattle.leaf_array.specs.Pairs.{IsAscending}
-use Rattle.version_views.specs.Cuts.{IsCut, pairs_in}
+use Rattle.version_views.specs.Cuts.{IsCut, pairs_in, separators_of}
 use Rattle.version_drafts.specs.Parts.{LiesWithin, blocks_of_parts}
 use Rattle.version_drafts.proofs.CuttingLemmas.{counts_on, counts_same, cutting_same, given_same}
 use Rattle.version_drafts.proofs.ListedLemmas.{fewest, none_spent, pair_cloned, rising_taken, spent_same}
@@ -51,7 +51,7 @@ pub finish-requires-clause-counted : goal.finish-requires-clause-counted
 finish-requires-clause-counted g c = let none = ap (λ bs. length (pairs_in bs)) c.requires.none in omega (arith, c.loop-pair.invariant.counted, none)
 
 pub returns-clause-cut : goal.returns-clause-cut
-returns-clause-cut g c = subst (λ bs. IsCut g.K.Ord.cmp g.row.S (blocks_of_parts bs c.in_ok-segments.segments.parts.items) c.in_ok-segments.segments.separators.items) c.requires.none c.in_ok-segments.ensures.cut
+returns-clause-cut g c = subst (λ bs. IsCut g.K.Ord.cmp g.row.S (blocks_of_parts bs c.in_ok-segments.segments.parts.items) (separators_of (blocks_of_parts bs c.in_ok-segments.segments.parts.items))) c.requires.none c.in_ok-segments.ensures.cut
 
 pub returns-clause-list : goal.returns-clause-list
 returns-clause-list g c = ap (λ bs. pairs_in (blocks_of_parts bs c.in_ok-segments.segments.parts.items)) (sym c.requires.none) ∙ c.in_ok-segments.ensures.list ∙ c.loop-pair.invariant.given ∙ take_all c.loop-pair.pair-index c.args.pairs.now c.loop-pair-test.false

@@ -1,6 +1,7 @@
 use Rattle.std.proofs.Common.{length, sym, ap, ◌∙◌, subst}
 use Rattle.leaf_array.specs.Pairs.{IsAscending}
-use Rattle.version_drafts.proofs.CuttingLemmas.{less_separated}
+use Rattle.version_drafts.specs.Parts.{blocks_of_parts}
+use Rattle.version_views.proofs.RowSearchLemmas.{are_separated}
 use Rattle.version_drafts.proofs.segments.finish.Goals as goal
 
 pub returns-clause-cut : goal.returns-clause-cut
@@ -10,7 +11,7 @@ returns-clause-cut g c =
       sizes = row.sizes;
       tight = row.tight;
       rising = subst (IsAscending g.K.Ord.cmp) (sym c.in_ok-seal.ensures.pairs) c.requires.whole.rising;
-      separated = less_separated c.seal.new.out.row.separators.items c.pop-greatest.new.self.items _ _ row.separated c.seal.new.out.row.separators.ok.0 c.pop-greatest.ensures.rest;
+      separated = are_separated (blocks_of_parts c.args.old.now c.seal.new.out.row.parts.items) (λ k d h. (row.sizes k d h).0);
     }
 
 pub returns-clause-length : goal.returns-clause-length

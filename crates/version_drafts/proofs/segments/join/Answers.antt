@@ -44,7 +44,7 @@ returns-clause-closing g c =
     let less = c.if-len-out.false in
     let size = c.len.ensures in
     let parts = c.in_ok-shorten.ensures h.front h.from h.is in
-    closing_joined c.requires.whole c.in-Some.place c.in-Some.is _ (omega (arith, less, size, room)) c.requires.some parts _ c.args.out.now.row.separators.ok.0 c.pop-greatest.ensures.rest (c.in_ok-absorb.ensures ∙ ap (λ ps. ps ++ c.args.out.now.tail.pairs) same)
+    closing_joined c.requires.whole c.in-Some.place c.in-Some.is _ (omega (arith, less, size, room)) c.requires.some parts (c.in_ok-absorb.ensures ∙ ap (λ ps. ps ++ c.args.out.now.tail.pairs) same)
 
 pub returns-clause-pairs : goal.returns-clause-pairs
 returns-clause-pairs g c =

@@ -38,7 +38,7 @@ returns-in_ok-close-clause-whole g c =
     let more = c.if-len.false in
     let room = c.requires.whole.room in
     let e = c.in_ok-close.ensures in
-    cutting_next g.met.K.Ord.total c.requires.whole c.args.key c.args.value c.requires.rising c' (parts.Made c.args.out.now.tail) refl e.parts (ap (λ t. t.pairs) e.tail ∙ c.in_ok-next.ensures) tt (omega (arith, size, more, room)) e.separators e.last e.held
+    cutting_next g.met.K.Ord.total c.requires.whole c.args.key c.args.value c.requires.rising c' (parts.Made c.args.out.now.tail) refl e.parts (ap (λ t. t.pairs) e.tail ∙ c.in_ok-next.ensures) tt (omega (arith, size, more, room)) e.last e.held
 
 pub returns-in_ok-close-clause-pairs : goal.returns-in_ok-close-clause-pairs
 returns-in_ok-close-clause-pairs g c =

@@ -34,7 +34,7 @@ join-requires-clause-some g c =
     grind (arith, nat_tests)
 
 pub returns-clause-row : goal.returns-clause-row
-returns-clause-row g c = row_closed c.join.new.out c.in_ok-join.ensures.closing _ (parts.Made c.join.new.out.tail) refl c.in_ok-close.ensures.parts tt c.in_ok-close.ensures.separators c.in_ok-close.ensures.last
+returns-clause-row g c = row_closed c.join.new.out c.in_ok-join.ensures.closing _ (parts.Made c.join.new.out.tail) refl c.in_ok-close.ensures.parts tt c.in_ok-close.ensures.last
 
 pub returns-clause-pairs : goal.returns-clause-pairs
 returns-clause-pairs g c = pairs_closed c.join.new.out c.in_ok-join.ensures.closing c.close.new.out.row (parts.Made c.join.new.out.tail) refl c.in_ok-close.ensures.parts ∙ c.in_ok-join.ensures.pairs

@@ -15,9 +15,9 @@ returns-clause-whole g c =
     let n = c.in_ok-push.ensures.items in
     let r = c.requires in
     let mid = c.seal.new.out in
-    let row : Row g.row.K.Denot g.row.V.Denot = record mid.row { parts = c.push.new.self; separators = c.copy_separators.new.keys; last = c.len-out.result } in
+    let row : Row g.row.K.Denot g.row.V.Denot = record mid.row { parts = c.push.new.self; last = c.len-out.result } in
     let c' : SegmentBuilder g.row.K.Denot g.row.V.Denot = record mid { row = row; held = Some (c.args.upto - 1) } in
-    cutting_stretch r.whole c.args.from c.args.upto r.some r.within mid c' n s.tail r.apart (separators_of c.args.old.now) r.old s.row s.pairs s.last s.same c.in_ok-copy_separators.ensures (returns-clause-last g c) refl r.rising
+    cutting_stretch r.whole c.args.from c.args.upto r.some r.within mid c' n s.tail r.apart (separators_of c.args.old.now) r.old s.row s.pairs s.last s.same (returns-clause-last g c) refl r.rising
 
 pub returns-clause-pairs : goal.returns-clause-pairs
 returns-clause-pairs g c =
@@ -25,7 +25,7 @@ returns-clause-pairs g c =
     let n = c.in_ok-push.ensures.items in
     let r = c.requires in
     let mid = c.seal.new.out in
-    let row : Row g.row.K.Denot g.row.V.Denot = record mid.row { parts = c.push.new.self; separators = c.copy_separators.new.keys; last = c.len-out.result } in
+    let row : Row g.row.K.Denot g.row.V.Denot = record mid.row { parts = c.push.new.self; last = c.len-out.result } in
     let c' : SegmentBuilder g.row.K.Denot g.row.V.Denot = record mid { row = row; held = Some (c.args.upto - 1) } in
     given_stretch r.whole c.args.from c.args.upto r.some r.within mid c' n s.tail s.pairs
 
@@ -35,6 +35,6 @@ returns-clause-trees g c =
     let n = c.in_ok-push.ensures.items in
     let r = c.requires in
     let mid = c.seal.new.out in
-    let row : Row g.row.K.Denot g.row.V.Denot = record mid.row { parts = c.push.new.self; separators = c.copy_separators.new.keys; last = c.len-out.result } in
+    let row : Row g.row.K.Denot g.row.V.Denot = record mid.row { parts = c.push.new.self; last = c.len-out.result } in
     let c' : SegmentBuilder g.row.K.Denot g.row.V.Denot = record mid { row = row; held = Some (c.args.upto - 1) } in
     trees_stretch r.whole c.args.from c.args.upto r.some r.within mid c' n s.tail s.made
