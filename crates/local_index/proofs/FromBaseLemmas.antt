@@ -5,7 +5,9 @@ use Rattle.std.specs.Prelude.{IfSome}
 use Rattle.std.specs.declared.cmp.Ordering.{Ordering}
 use Rattle.serial_history.specs.Histories.{HistoryState}
 use Rattle.serial_history.specs.Serial.{Base}
-use Rattle.local_versions.specs.Placing.{Plan, StandsAlone, list_alone, slots_for}
+use Rattle.version_views.specs.declared.directory.Directory.{Directory}
+use Rattle.version_drafts.specs.declared.shelves.Shelf.{Shelf}
+use Rattle.local_versions.specs.Placing.{Plan, StandsAlone, list_alone, number_of, slots_for}
 use Rattle.local_versions.specs.Store.{Store}
 use Rattle.local_index.specs.Invariant.{IsIndex, HasListOfNumber}
 
@@ -32,26 +34,34 @@ module _ {K V : Type 0} (cmp : K → K → Ordering) (width places slots number 
       (subst (λ (x : HistoryState K V). IsIndex cmp width (unread store.used) x.base x.transactions) (sym is) (begins store.used some fits))
 
 -- a version that takes nothing over does so under another number
-pub renumbered : {K V : Type 0} {s : ℕ} (cmp : K → K → Ordering) (p : Plan K V s) (number : ℕ) → StandsAlone cmp p → StandsAlone cmp (record p { number = number })
+pub renumbered : {K V : Type 0} {s : ℕ} (cmp : K → K → Ordering) (p : Plan K V s) (number : ℕ) → StandsAlone cmp p → StandsAlone {s = s} cmp (record { shelves = record p.shelves { number = number } })
 renumbered cmp p number alone = record {
   placeable = λ w.
       let placeable = alone.placeable w in
       let planned = placeable.planned in
-      record { planned = record { cut = planned.cut; counted = planned.counted; there = planned.there }; there = placeable.there };
+      let rowed = planned.rowed in
+      record {
+        planned = record { cut = planned.cut; rowed = record { rows = rowed.rows; separated = rowed.separated; ends = rowed.ends }; counted = planned.counted; there = planned.there };
+        there = placeable.there;
+      };
   list = alone.list;
 }
 
 -- a store that holds the version of a list under a number
-module _ {K V : Type 0} {s : ℕ} (built held : Plan K V s) (number places slots : ℕ) (pairs : List (K × V)) (is : held ≡ record built { number = number }) (list : list_alone built ≡ pairs) where
+module _ {K V : Type 0} {s : ℕ} (built held : Plan K V s) (number places slots : ℕ) (pairs : List (K × V)) (is : held.shelves ≡ record built.shelves { number = number }) (list : list_alone built ≡ pairs) where
+  -- of a directory with the rows of the plan
+  abbrev plan_of : Directory K (Shelf K V) → Plan K V s
+  plan_of d = record { shelves = d }
+
   abbrev pub Holds : Store K V → Type 0
-  Holds store = store ≡ record { present = record { number = held.number; pairs = list_alone held }; readers = replicate places None; slots = slots; used = slots_for held; raises = 0 }
+  Holds store = store ≡ record { present = record { number = number_of held; pairs = list_alone held }; readers = replicate places None; slots = slots; used = slots_for held; raises = 0 }
 
   pub holds_list : (store : Store K V) → Holds store → store ≡ record { present = record { number = number; pairs = pairs }; readers = replicate places None; slots = slots; used = store.used; raises = 0 }
   holds_list store e =
       e
-      ∙ ap (λ (p : Plan K V s). record { present = record { number = p.number; pairs = list_alone p }; readers = replicate places None; slots = slots; used = slots_for held; raises = 0 }) is
+      ∙ ap (λ (d : Directory K (Shelf K V)). record { present = record { number = d.number; pairs = list_alone (plan_of d) }; readers = replicate places None; slots = slots; used = slots_for held; raises = 0 }) is
       ∙ ap (λ (ps : List (K × V)). record { present = record { number = number; pairs = ps }; readers = replicate places None; slots = slots; used = slots_for held; raises = 0 }) list
       ∙ ap (λ (n : ℕ). record { present = record { number = number; pairs = pairs }; readers = replicate places None; slots = slots; used = n; raises = 0 }) (sym (ap (λ (t : Store K V). t.used) e))
 
   pub same_slots : slots_for held ≡ slots_for built
-  same_slots = ap (λ (p : Plan K V s). slots_for p) is
+  same_slots = ap (λ (d : Directory K (Shelf K V)). slots_for (plan_of d)) is

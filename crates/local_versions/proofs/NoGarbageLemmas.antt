@@ -1,10 +1,10 @@
 -- what is in use where nothing waits
-use Rattle.std.proofs.Common.{◌≡◌, ℕ, zero, suc, ◌+◌, ◌<◌, ◌≤◌, ◌&&◌, ◌⊎◌, Bool, true, false, Option, None, Some, List, [], ◌∷◌, length, get_or, set, map, refl, sym, ap, ◌∙◌, arith, subst, cond, inl, inr, is_some, sum_by, get_or-set_same, get_or-set_other}
+use Rattle.std.proofs.Common.{◌≡◌, ℕ, zero, suc, ◌+◌, ◌<◌, ◌≤◌, ◌&&◌, ◌⊎◌, Bool, true, false, Option, None, Some, List, [], ◌∷◌, length, get_or, set, refl, sym, ap, ◌∙◌, arith, subst, cond, inl, inr, is_some, sum_by, get_or-set_same, get_or-set_other}
 use Rattle.std.proofs.lemmas.Bool.{false≢true}
 use Rattle.std.proofs.lemmas.Bool.Decides.{eqb_tells, nat_tests}
-use Rattle.std.proofs.lemmas.List.Sums.{sum_by-set, sum_by-cons}
+use Rattle.std.proofs.lemmas.List.Sums.{sum_by-append, sum_by-set, sum_by-cons}
 use Rattle.sdd_world.specs.Counting.{Counted, tally, same_hold, rows_held, kept_by, shared_owners, keeps_shared}
-use Rattle.sdd_world.specs.Groups.{NoneOut, rows_of}
+use Rattle.sdd_world.specs.Groups.{GroupState, IsOut, NoneOut, count_at, row_at, row_if, rows_of}
 use Rattle.sdd_world.specs.Holding.{Hold, OwnedItem, SharedItem, OwnedIn, SharedIn, OwnerGroup}
 use Rattle.sdd_world.specs.Passing.{IsPlain, is_plain}
 use Rattle.sdd_world.specs.Place.{IsPlace, held_times}
@@ -16,14 +16,15 @@ use Rattle.sdd_world.specs.declared.tag.Tag.{Tag}
 use Rattle.sdd_world.specs.declared.status.Status.{Status}
 use Rattle.sdd_world.specs.declared.status.Status.TheVariants as status
 use Rattle.sdd_world.proofs.ListLemmas.{hit-same, hit-other}
-use Rattle.sdd_world.proofs.RowLemmas.{rows_none}
-use Rattle.version_views.specs.Items.{held_by, slots_of}
+use Rattle.sdd_world.proofs.OwnerBoundLemmas.{cells_ungrouped, rows_ungrouped}
+use Rattle.sdd_world.proofs.RowLemmas.{tally-often}
+use Rattle.version_views.specs.Items.{held_by, names_of, slots_of}
 use Rattle.local_versions.specs.Placing.{IsFlat, IsNoDirectory}
-use Rattle.sdd_world.specs.declared.owner.Kept.{Kept}
+use Rattle.sdd_world.specs.declared.groups.Group.{Group}
 use Rattle.version_views.specs.declared.directory.Directory.{Directory}
 use Rattle.version_views.specs.declared.item.Item.{Item}
 use Rattle.version_views.specs.declared.item.Item.TheVariants as items
-use Rattle.local_versions.proofs.PlacingLemmas.{tally_reverse}
+use Rattle.local_versions.proofs.RowSlotLemmas.{all_named, held_groups, held_none, holds_none, named_in}
 
 -- a sum that isn't zero has a term that isn't
 sum_some : {X : Type 0} (f : X → ℕ) (d : X) (xs : List X) → 1 ≤ sum_by f xs → (k : ℕ) × (k < length xs) × (1 ≤ f (get_or xs k d))
@@ -76,37 +77,12 @@ named_all f d xs (i ∷ names) zero' one named =
     weighs_inside (x ∷ xs) zero h = omega arith
     weighs_inside (x ∷ xs) (suc i) h = let r = weighs_inside xs i h in omega (arith, r)
 
--- what an item holds are owners of segments
-held_owner : (h : Hold) (xs : List ℕ) → 1 ≤ tally h (map SharedItem xs) → (k : ℕ) × (k < length xs) × (h ≡ SharedItem (get_or xs k 0))
-held_owner h [] some = absurd (omega (arith, some))
-held_owner h (x ∷ xs) some =
-    let sum = sum_by-cons (λ k. same_hold h k) (SharedItem x) (map SharedItem xs) in
-    elim (same_or h x) [
-      | inl e ↦ (0, omega arith, e)
-      | inr none ↦ let r = held_owner h xs (omega (arith, some, sum, none)) in let inside = r.1 in (suc r.0, omega (arith, inside), r.2)
-    ]
-  where
-    same_or : (h : Hold) (x : ℕ) → (h ≡ SharedItem x) ⊎ (same_hold h (SharedItem x) ≡ 0)
-    same_or (OwnedItem i) x = inr refl
-    same_or (SharedItem i) x = elim (eqb_tells x i) [
-      | inl t ↦ inl (ap SharedItem (sym t.1))
-      | inr t ↦ inr (hit-other x i (λ e. t.1 (sym e)))
-    ]
-    same_or (OwnedIn c) x = inr refl
-    same_or (SharedIn c) x = inr refl
-    same_or (OwnerGroup g) x = inr refl
-
 -- a sum of nothings is nothing
 all_none : {X : Type 0} (f : X → ℕ) (d : X) (xs : List X) → ((k : ℕ) → f (get_or xs k d) ≡ 0) → sum_by f xs ≡ 0
 all_none f d xs none = elim (eqb_tells (sum_by f xs) 0) [
   | inl z ↦ z.1
   | inr z ↦ let some = z.1 in let k = sum_some f d xs (omega (arith, some)) in let no = none k.0 in let more = k.2 in absurd (omega (arith, no, more))
 ]
-
-times_at : (xs : List ℕ) (x : ℕ) → x < length xs → 1 ≤ times (get_or xs x 0) xs
-times_at [] x h = absurd (omega (arith, h))
-times_at (y ∷ xs) zero h = let sum = sum_by-cons (λ k. hit k y) y xs in let one = hit-same y in omega (arith, sum, one)
-times_at (y ∷ xs) (suc x) h = let sum = sum_by-cons (λ k. hit k (get_or xs x 0)) y xs in let rest = times_at xs x (omega (arith, h)) in omega (arith, sum, rest)
 
 -- where a participant's bags are empty, it has nothing waiting
 nil_of : (xs : List ℕ) → is_nil xs ≡ true → xs ≡ []
@@ -164,15 +140,6 @@ no_cell_in_cells c (cell.OfShared None t) = refl
 no_cell_in_cells c (cell.OfShared (Some x) t) = sum_by-cons (λ y. same_hold (SharedIn c) y) (SharedItem x) []
 no_cell_in_cells c (cell.OfRaw o t) = refl
 
--- no cell keeps an owner of a group
-no_group_in_cells : (g : ℕ) (k : Cell) → tally (OwnerGroup g) (kept_by k) ≡ 0
-no_group_in_cells g cell.Free = refl
-no_group_in_cells g (cell.OfOwned None t) = refl
-no_group_in_cells g (cell.OfOwned (Some x) t) = sum_by-cons (λ y. same_hold (OwnerGroup g) y) (OwnedItem x) []
-no_group_in_cells g (cell.OfShared None t) = refl
-no_group_in_cells g (cell.OfShared (Some x) t) = sum_by-cons (λ y. same_hold (OwnerGroup g) y) (SharedItem x) []
-no_group_in_cells g (cell.OfRaw o t) = refl
-
 pub free_cells : (cs : List Cell) → ((c : ℕ) → get_or cs c cell.Free ≡ cell.Free) → sum_by emptiness cs ≡ length cs
 free_cells [] free = refl
 free_cells (k ∷ cs) free =
@@ -181,65 +148,61 @@ free_cells (k ∷ cs) free =
     let sum = sum_by-cons emptiness k cs in
     omega (arith, here, rest, sum)
 
+-- where rows name an item, the row of a group that is out does
+module _ (j : ℕ) where
+  abbrev NamedByRow : List GroupState → Type 0
+  NamedByRow gs = (g : ℕ) × IsOut gs g × (1 ≤ times j (row_at gs g))
+
+  first_or : (x : GroupState) (gs : List GroupState) (n : ℕ) → n ≡ x.count → (1 ≤ times j (rows_of gs) → NamedByRow gs) → 1 ≤ times j (row_if n x.row) + times j (rows_of gs) → NamedByRow (x ∷ gs)
+  first_or x gs zero e rest some = let r = rest (omega (arith, some)) in (suc r.0, r.1, r.2)
+  first_or x gs (suc n) e rest some = elim (eqb_tells (times j x.row) 0) [
+    | inl z ↦ let none = z.1 in let r = rest (omega (arith, some, none)) in (suc r.0, r.1, r.2)
+    | inr z ↦ let more = z.1 in (0, omega (arith, e), omega (arith, more))
+  ]
+
+  in_some_row : (gs : List GroupState) → 1 ≤ times j (rows_of gs) → NamedByRow gs
+  in_some_row [] h = absurd (omega (arith, h))
+  in_some_row (x ∷ gs) h = first_or x gs x.count refl (in_some_row gs) (omega (arith, h, sum_by-append (λ k. hit k j) (row_if x.count x.row) (rows_of gs)))
+
+  pub row_names : (gs : List GroupState) → 1 ≤ tally (SharedItem j) (rows_held gs) → NamedByRow gs
+  row_names gs some = in_some_row gs (omega (arith, some, tally-often (SharedItem j) (rows_of gs)))
+
 module _ {K V : Type 0} {s : ℕ} where
-  -- what an item holds are a directory's segments
-  pub holds_segments : (v : Item K V s) (h : Hold) → 1 ≤ tally h (held_by v) → (d : Directory K Kept) × (v ≡ items.Directory d) × (x : ℕ) × (x < length (slots_of d)) × (h ≡ SharedItem (get_or (slots_of d) x 0))
-  holds_segments (items.Directory d) h some =
-      let turned = tally_reverse h (map SharedItem (slots_of d)) in
-      let o = held_owner h (slots_of d) (omega (arith, some, turned)) in
-      (d, refl, o.0, o.1, o.2)
-  holds_segments (items.Segment t) h some = absurd (omega (arith, some))
+  -- what an item holds are a directory's groups
+  pub holds_groups : (v : Item K V s) (h : Hold) → 1 ≤ tally h (held_by v) → (d : Directory K Group) × (v ≡ items.Directory d) × (g : ℕ) × (h ≡ OwnerGroup g) × (1 ≤ times g (names_of d.rows.items))
+  holds_groups (items.Segment t) h some = absurd (omega (arith, some))
+  holds_groups (items.Directory d) (OwnedItem i) some = absurd (omega (arith, some, held_none (OwnedItem i) (λ g. refl) d.rows.items))
+  holds_groups (items.Directory d) (SharedItem i) some = absurd (omega (arith, some, held_none (SharedItem i) (λ g. refl) d.rows.items))
+  holds_groups (items.Directory d) (OwnedIn c) some = absurd (omega (arith, some, held_none (OwnedIn c) (λ g. refl) d.rows.items))
+  holds_groups (items.Directory d) (SharedIn c) some = absurd (omega (arith, some, held_none (SharedIn c) (λ g. refl) d.rows.items))
+  holds_groups (items.Directory d) (OwnerGroup g) some = (d, refl, g, refl, omega (arith, some, held_groups g d.rows.items))
 
-  -- a slot of which an item holds an owner has a segment of a directory
-  held_in_item : (j : ℕ) (o : Option (Item K V s)) → 1 ≤ tally (SharedItem j) (held_in held_by o) → (d : Directory K Kept) × (o ≡ Some (items.Directory d)) × (x : ℕ) × (x < length (slots_of d)) × (j ≡ get_or (slots_of d) x 0)
-  held_in_item j None some = absurd (omega (arith, some))
-  held_in_item j (Some v) some =
-      let h = holds_segments v (SharedItem j) some in
-      (h.0, ap (λ (y : Item K V s). Some y) h.1, h.2, h.3, slot_same j (get_or (slots_of h.0) h.2 0) h.4)
-    where
-      slot_same : (x y : ℕ) → SharedItem x ≡ SharedItem y → x ≡ y
-      slot_same x y e = cc
-
-  no_cell_in_items : (c : ℕ) (o : Option (Item K V s)) → tally (SharedIn c) (held_in held_by o) ≡ 0
-  no_cell_in_items c None = refl
-  no_cell_in_items c (Some v) = elim (eqb_tells (tally (SharedIn c) (held_by v)) 0) [
-    | inl z ↦ z.1
-    | inr z ↦ let some = z.1 in let o = holds_segments v (SharedIn c) (omega (arith, some)) in absurd (not_item c (get_or (slots_of o.0) o.2 0) o.4)
-  ]
-    where
-      not_item : (x y : ℕ) → SharedIn x ≡ SharedItem y → ⊥
-      not_item x y e = cc
-
-  no_group_in_items : (g : ℕ) (o : Option (Item K V s)) → tally (OwnerGroup g) (held_in held_by o) ≡ 0
-  no_group_in_items g None = refl
-  no_group_in_items g (Some v) = elim (eqb_tells (tally (OwnerGroup g) (held_by v)) 0) [
-    | inl z ↦ z.1
-    | inr z ↦ let some = z.1 in let o = holds_segments v (OwnerGroup g) (omega (arith, some)) in absurd (not_item g (get_or (slots_of o.0) o.2 0) o.4)
-  ]
-    where
-      not_item : (x y : ℕ) → OwnerGroup x ≡ SharedItem y → ⊥
-      not_item x y e = cc
-
-  -- no item holds a group, so none has an owner where none is in hand, and no row keeps an owner
-  pub none_out : (w : State (Item K V s)) (hand : List Hold) → Counted held_by hand w → ((g : ℕ) → tally (OwnerGroup g) hand ≡ 0) → NoneOut w.groups
-  none_out w hand counted none g =
+  -- where no owner of a group is in hand, each group that is out is one of a directory
+  pub above_group : (w : State (Item K V s)) (hand : List Hold) → Counted held_by hand w → (g : ℕ) → tally (OwnerGroup g) hand ≡ 0 → IsOut w.groups g → (i : ℕ) × (d : Directory K Group) × (value_at w i ≡ Some (items.Directory d)) × (1 ≤ times g (names_of d.rows.items))
+  above_group w hand counted g none out =
       let each = counted.each (OwnerGroup g) in
-      let in_hand = none g in
-      let in_items = all_none (λ v. tally (OwnerGroup g) (held_in held_by v)) None w.values (λ x. no_group_in_items g (value_at w x)) in
-      let in_cells = all_none (λ x. tally (OwnerGroup g) (kept_by x)) cell.Free w.cells (λ x. no_group_in_cells g (cell_at w x)) in
-      let in_rows = rows_hold_none g (rows_of w.groups) in
-      omega (arith, each, in_hand, in_items, in_cells, in_rows)
+      let k = sum_some (λ o. tally (OwnerGroup g) (held_in held_by o)) None w.values (omega (arith, each, none, out, cells_ungrouped g w.cells, rows_ungrouped g w.groups)) in
+      let h = above (value_at w k.0) k.2 in
+      (k.0, h.0, h.1, h.2)
     where
-      rows_hold_none : (k : ℕ) (xs : List ℕ) → tally (OwnerGroup k) (map SharedItem xs) ≡ 0
-      rows_hold_none k [] = refl
-      rows_hold_none k (x ∷ xs) =
-          let none : same_hold (OwnerGroup k) (SharedItem x) ≡ 0 = refl in
-          let sum = sum_by-cons (λ y. same_hold (OwnerGroup k) y) (SharedItem x) (map SharedItem xs) in
-          let rest = rows_hold_none k xs in
-          omega (arith, none, sum, rest)
+      name_same : (x y : ℕ) → OwnerGroup x ≡ OwnerGroup y → x ≡ y
+      name_same x y e = cc
 
-  pub no_rows : (w : State (Item K V s)) (hand : List Hold) → Counted held_by hand w → ((g : ℕ) → tally (OwnerGroup g) hand ≡ 0) → (h : Hold) → tally h (rows_held w.groups) ≡ 0
-  no_rows w hand counted none h = ap (λ (xs : List ℕ). tally h (map SharedItem xs)) (rows_none w.groups (none_out w hand counted none))
+      above : (o : Option (Item K V s)) → 1 ≤ tally (OwnerGroup g) (held_in held_by o) → (d : Directory K Group) × (o ≡ Some (items.Directory d)) × (1 ≤ times g (names_of d.rows.items))
+      above None some = absurd (omega (arith, some))
+      above (Some v) some =
+          let r = holds_groups v (OwnerGroup g) some in
+          (r.0, ap (λ (y : Item K V s). Some y) r.1, subst (λ n. 1 ≤ times n (names_of r.0.rows.items)) (sym (name_same g r.2 r.3)) r.4)
+
+  -- where nothing is in use, no group has an owner
+  pub none_out : (w : State (Item K V s)) (hand : List Hold) → Counted held_by hand w → ((g : ℕ) → tally (OwnerGroup g) hand ≡ 0) → ((j : ℕ) → value_at w j ≡ None) → NoneOut w.groups
+  none_out w hand counted none empty g = elim (eqb_tells (count_at w.groups g) 0) [
+    | inl z ↦ z.1
+    | inr z ↦ let some = z.1 in let a = above_group w hand counted g (none g) (omega (arith, some)) in absurd (none_some (sym (empty a.0) ∙ a.2))
+  ]
+    where
+      none_some : {y : Item K V s} → None ≡ Some y → ⊥
+      none_some e = cc
 
   -- how many owners of the item in slot j cells keep
   abbrev kept_times : State (Item K V s) → ℕ → ℕ
@@ -248,11 +211,9 @@ module _ {K V : Type 0} {s : ℕ} where
   -- the item in slot j is a segment of a directory, which stands in slot `above`
   record IsBelow (w : State (Item K V s)) (j : ℕ) : Type 0 where
     above : ℕ
-    directory : Directory K Kept
+    directory : Directory K Group
     is : value_at w above ≡ Some (items.Directory directory)
-    nth : ℕ
-    inside : nth < length (slots_of directory)
-    named : j ≡ get_or (slots_of directory) nth 0
+    named : 1 ≤ times j (slots_of w.groups directory)
 
   -- nothing waits, and no owner of an item is in hand
   module _ (w : State (Item K V s)) (hand : List Hold) (place : IsPlace w) (counted : Counted held_by hand w) (outside : (j : ℕ) → tally (SharedItem j) hand ≡ 0) (ungrouped : (g : ℕ) → tally (OwnerGroup g) hand ≡ 0) (plain : IsPlain w) (flat : IsFlat w) (empty : (q : ℕ) → bags_empty (participant_at w q) ≡ true) where
@@ -267,15 +228,15 @@ module _ {K V : Type 0} {s : ℕ} where
     owner_of_used j used =
         let owners = used_shared (status_at w j) (plain j) (not_waiting j) used in
         let each = counted.each (SharedItem j) in
-        let rows = no_rows w hand counted ungrouped (SharedItem j) in
         let none = outside j in
+        let in_items = all_none (λ v. tally (SharedItem j) (held_in held_by v)) None w.values (λ x. holds_none (SharedItem j) (λ g. refl) (value_at w x)) in
         elim (eqb_tells (kept_times w j) 0) [
           | inr z ↦ let some = z.1 in inl (omega (arith, some))
           | inl z ↦
               let unkept = z.1 in
-              let k = sum_some (λ o. tally (SharedItem j) (held_in held_by o)) None w.values (omega (arith, owners, each, rows, none, unkept)) in
-              let h = held_in_item j (value_at w k.0) k.2 in
-              inr (record { above = k.0; directory = h.0; is = h.1; nth = h.2; inside = h.3; named = h.4 })
+              let r = row_names j w.groups (omega (arith, owners, each, none, unkept, in_items)) in
+              let a = above_group w hand counted r.0 (ungrouped r.0) r.1 in
+              inr (record { above = a.0; directory = a.1; is = a.2; named = named_in w.groups r.0 j a.1.rows.items a.3 r.2 })
         ]
 
     -- no directory holds a directory, so a cell keeps it, or its directory
@@ -285,7 +246,7 @@ module _ {K V : Type 0} {s : ℕ} where
           | inl e ↦ inl e
           | inr b ↦ elim (owner_of_used b.above (value_used b.above (items.Directory b.directory) b.is)) [
             | inl e ↦ inr (b, e)
-            | inr a ↦ absurd (subst (λ (o : Option (Item K V s)). IsNoDirectory o) b.is (subst (λ x. IsNoDirectory (value_at w x)) (sym a.named) (flat a.above a.directory a.is a.nth 0 a.inside)))
+            | inr a ↦ absurd (subst (λ (o : Option (Item K V s)). IsNoDirectory o) b.is (all_named (λ x. IsNoDirectory (value_at w x)) (slots_of w.groups a.directory) b.above (flat a.above a.directory a.is) a.named))
           ]
         ]
 
@@ -302,16 +263,16 @@ module _ {K V : Type 0} {s : ℕ} where
         ])
 
   -- nothing waits, and the one owner outside is a root
-  module _ (w : State (Item K V s)) (c i : ℕ) (d : Directory K Kept) (t : Tag) (place : IsPlace w) (counted : Counted held_by (SharedIn c ∷ []) w) (plain : IsPlain w) (flat : IsFlat w) (root : cell_at w c ≡ cell.OfShared (Some i) t) (is : value_at w i ≡ Some (items.Directory d)) (empty : (q : ℕ) → bags_empty (participant_at w q) ≡ true) where
+  module _ (w : State (Item K V s)) (c i : ℕ) (d : Directory K Group) (t : Tag) (place : IsPlace w) (counted : Counted held_by (SharedIn c ∷ []) w) (plain : IsPlain w) (flat : IsFlat w) (root : cell_at w c ≡ cell.OfShared (Some i) t) (is : value_at w i ≡ Some (items.Directory d)) (empty : (q : ℕ) → bags_empty (participant_at w q) ≡ true) where
     -- only the root keeps an owner
     kept_by_root : (j : ℕ) → 1 ≤ kept_times w j → j ≡ i
     kept_by_root j some =
         let k = sum_some (λ k. tally (SharedItem j) (kept_by k)) cell.Free w.cells some in
         let n = kept_names j (cell_at w k.0) k.2 in
         let each = counted.each (SharedIn k.0) in
-        let rows = no_rows w (SharedIn c ∷ []) counted (λ g. sum_by-cons (λ y. same_hold (OwnerGroup g) y) (SharedIn c) []) (SharedIn k.0) in
+        let rows = tally-often (SharedIn k.0) (rows_of w.groups) in
         let one = ap keeps_shared n.1 in
-        let in_items = all_none (λ v. tally (SharedIn k.0) (held_in held_by v)) None w.values (λ x. no_cell_in_items k.0 (value_at w x)) in
+        let in_items = all_none (λ v. tally (SharedIn k.0) (held_in held_by v)) None w.values (λ x. holds_none (SharedIn k.0) (λ g. refl) (value_at w x)) in
         let in_cells = all_none (λ x. tally (SharedIn k.0) (kept_by x)) cell.Free w.cells (λ x. no_cell_in_cells k.0 (cell_at w x)) in
         let hand = sum_by-cons (λ y. same_hold (SharedIn k.0) y) (SharedIn c) [] in
         elim (eqb_tells c k.0) [
@@ -322,23 +283,22 @@ module _ {K V : Type 0} {s : ℕ} where
         slot_same : (x y : ℕ) (a b : Tag) → cell.OfShared (Some x) a ≡ cell.OfShared (Some y) b → x ≡ y
         slot_same x y a b e = cc
 
-    used_named : (j : ℕ) → 1 ≤ usage (status_at w j) → 1 ≤ times j (i ∷ slots_of d)
+    used_named : (j : ℕ) → 1 ≤ usage (status_at w j) → 1 ≤ times j (i ∷ slots_of w.groups d)
     used_named j used =
-        let front = sum_by-cons (λ k. hit k j) i (slots_of d) in
+        let front = sum_by-cons (λ k. hit k j) i (slots_of w.groups d) in
         elim (kept_or_below w (SharedIn c ∷ []) place counted (λ k. sum_by-cons (λ y. same_hold (SharedItem k) y) (SharedIn c) []) (λ g. sum_by-cons (λ y. same_hold (OwnerGroup g) y) (SharedIn c) []) plain flat empty j used) [
           | inl e ↦ let here = ap (λ k. hit k j) (sym (kept_by_root j e)) in let one = hit-same j in omega (arith, front, here, one)
           | inr r ↦
               let b = r.0 in
-              let same : slots_of b.directory ≡ slots_of d = slots_same (value_at w b.above) b.directory d b.is (ap (value_at w) (kept_by_root b.above r.1) ∙ is) in
-              let at = times_at (slots_of b.directory) b.nth b.inside in
+              let same : slots_of w.groups b.directory ≡ slots_of w.groups d = slots_same (value_at w b.above) b.directory d b.is (ap (value_at w) (kept_by_root b.above r.1) ∙ is) in
               let named = ap (λ xs. times j xs) same in
-              let here = ap (λ x. times x (slots_of b.directory)) b.named in
-              omega (arith, front, at, named, here)
+              let there = b.named in
+              omega (arith, front, named, there)
         ]
       where
-        slots_same : (o : Option (Item K V s)) (e f : Directory K Kept) → o ≡ Some (items.Directory e) → o ≡ Some (items.Directory f) → slots_of e ≡ slots_of f
+        slots_same : (o : Option (Item K V s)) (e f : Directory K Group) → o ≡ Some (items.Directory e) → o ≡ Some (items.Directory f) → slots_of w.groups e ≡ slots_of w.groups f
         slots_same o e f h g = cc
 
     -- its directory and its segments are all that is in use
-    pub one_left : in_use w ≤ length (slots_of d) + 1
-    one_left = let all = named_all usage status.Free w.states (i ∷ slots_of d) refl usage_one used_named in omega (arith, all)
+    pub one_left : in_use w ≤ length (slots_of w.groups d) + 1
+    one_left = let all = named_all usage status.Free w.states (i ∷ slots_of w.groups d) refl usage_one used_named in omega (arith, all)

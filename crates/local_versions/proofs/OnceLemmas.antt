@@ -11,15 +11,19 @@ use Rattle.sdd_world.specs.Steps.{hit, times}
 use Rattle.sdd_world.proofs.ListLemmas.{hit-same, hit-other}
 use Rattle.leaf_array.specs.Pairs.{IsAscending}
 use Rattle.tree_index.specs.Shape.{AllKeys}
-use Rattle.version_views.specs.Cuts.{IsCut, pairs_in}
+use Rattle.version_views.specs.Cuts.{pairs_in}
 use Rattle.version_drafts.specs.Cutting.{IsSegmentSized}
-use Rattle.local_versions.specs.Placing.{slots_in}
 use Rattle.version_views.proofs.FilterLemmas.{all_front, all_rear, rising_head, rising_rear}
+
+-- a slot more, if there is one
+abbrev slots_with : Option ℕ → List ℕ → List ℕ
+slots_with None is = is
+slots_with (Some i) is = i ∷ is
 
 -- the slots that things name
 abbrev pub slots_by : {X : Type 0} → (X → Option ℕ) → List X → List ℕ
 slots_by slot [] = []
-slots_by slot (x ∷ xs) = slots_in (slot x) (slots_by slot xs)
+slots_by slot (x ∷ xs) = slots_with (slot x) (slots_by slot xs)
 
 module _ {X K V : Type 0} (cmp : K → K → Ordering) (o : IsTotalOrder cmp) (s : ℕ) (slot : X → Option ℕ) (f : X → List (K × V)) (at : ℕ → List (K × V)) (same : (x : X) (i : ℕ) → slot x ≡ Some i → f x ≡ at i) where
   never_below : (k : K) → cmp k k ≡ Less → ⊥
@@ -31,7 +35,7 @@ module _ {X K V : Type 0} (cmp : K → K → Ordering) (o : IsTotalOrder cmp) (s
   absent j p ps e (x ∷ xs) all =
       let rest = absent j p ps e xs (all_rear _ (f x) (pairs_in (map f xs)) all) in
       let front = all_front _ (f x) (pairs_in (map f xs)) all in
-      (elim (slot x) as (λ (q : Option ℕ). slot x ≡ q → times j (slots_in q (slots_by slot xs)) ≡ 0) [
+      (elim (slot x) as (λ (q : Option ℕ). slot x ≡ q → times j (slots_with q (slots_by slot xs)) ≡ 0) [
         | None ↦ λ h. rest
         | Some i ↦ λ h. elim (eqb_tells i j) [
           | inl t ↦ absurd (never_below p.0 (subst (AllKeys (λ y. cmp p.0 y ≡ Less)) (same x i h ∙ (ap at t.1 ∙ e)) front).0)
@@ -47,7 +51,7 @@ module _ {X K V : Type 0} (cmp : K → K → Ordering) (o : IsTotalOrder cmp) (s
   once_by [] sizes up j = omega arith
   once_by (x ∷ xs) sizes up j =
       let rest = once_by xs (All-tail (IsSegmentSized s) (f x) (map f xs) sizes) (rising_rear cmp (f x) (pairs_in (map f xs)) up) j in
-      (elim (slot x) as (λ (q : Option ℕ). slot x ≡ q → times j (slots_in q (slots_by slot xs)) ≤ 1) [
+      (elim (slot x) as (λ (q : Option ℕ). slot x ≡ q → times j (slots_with q (slots_by slot xs)) ≤ 1) [
         | None ↦ λ h. rest
         | Some i ↦ λ h.
             let sum = sum_by-cons (λ k. hit k j) i (slots_by slot xs) in
@@ -70,6 +74,6 @@ slots_all (x ∷ xs) = ap (λ ys. x ∷ ys) (slots_all xs)
 some_slot : (x y : ℕ) → Some x ≡ Some y → x ≡ y
 some_slot x y e = cc
 
--- a version names no segment twice
-pub slots_once : {K V : Type 0} {s : ℕ} (cmp : K → K → Ordering) (o : IsTotalOrder cmp) (f : ℕ → List (K × V)) (xs : List ℕ) {keys : List K} → IsCut cmp s (map f xs) keys → (j : ℕ) → times j xs ≤ 1
-slots_once {K} {V} {s} cmp o f xs cut j = subst (λ ys. times j ys ≤ 1) (slots_all xs) (once_by cmp o s (λ i. Some i) f f (λ x i e. ap f (some_slot x i e)) xs cut.sizes cut.rising j)
+-- segments of a list name no slot twice
+pub slots_once : {K V : Type 0} (s : ℕ) (cmp : K → K → Ordering) (o : IsTotalOrder cmp) (f : ℕ → List (K × V)) (xs : List ℕ) → All (IsSegmentSized s) (map f xs) → IsAscending cmp (pairs_in (map f xs)) → (j : ℕ) → times j xs ≤ 1
+slots_once s cmp o f xs sizes rising j = subst (λ ys. times j ys ≤ 1) (slots_all xs) (once_by cmp o s (λ i. Some i) f f (λ x i e. ap f (some_slot x i e)) xs sizes rising j)

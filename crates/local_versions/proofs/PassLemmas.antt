@@ -5,6 +5,8 @@ use Rattle.std.proofs.lemmas.List.{length-map}
 use Rattle.std.specs.List.{All}
 use Rattle.std.specs.declared.cmp.Ordering.{Ordering}
 use Rattle.sdd_world.specs.Frame.{Frame, OnlyParticipant}
+use Rattle.sdd_world.specs.Counting.{Counted}
+use Rattle.sdd_world.specs.Groups.{GroupsShrink}
 use Rattle.sdd_world.specs.Holding.{SharedIn}
 use Rattle.sdd_world.specs.Passing.{CanPass, accelerated, is_plain, passed, passed_times, slot_kept}
 use Rattle.sdd_world.specs.Place.{IsOpen, IsPlace}
@@ -17,6 +19,7 @@ use Rattle.sdd_world.specs.declared.status.Status.{Status}
 use Rattle.sdd_world.specs.declared.status.Status.TheVariants as status
 use Rattle.sdd_world.specs.declared.tag.Tag.TheVariants as tag
 use Rattle.sdd_world.proofs.PassLemmas.{passes_reclaim}
+use Rattle.sdd_world.proofs.GroupLemmas.{groups_same}
 use Rattle.sdd_world.proofs.FrameLemmas.{keeps_closed, keeps_local, nests_local, only_local}
 use Rattle.sdd_world.proofs.PlaceLemmas.{place_closed, place_local}
 use Rattle.sdd_world.proofs.IdleParticipantLemmas.{gives_only}
@@ -29,7 +32,7 @@ use Rattle.version_views.specs.Sizes.{room_for}
 use Rattle.local_versions.specs.Store.{IsReader, IsStore, Store, Version, store_of, version_in}
 use Rattle.local_versions.specs.declared.store.readers.Opened.{Opened}
 use Rattle.local_versions.proofs.ReclaimLemmas.{counted_passed, levelled_after, passes_leave_one}
-use Rattle.local_versions.proofs.StoreLemmas.{Moves, opened_cell, opened_moves, opened_nesting, present_shows, root_stays, store_moved, version_is, writer_closed, writer_known, writer_reads, writer_shows}
+use Rattle.local_versions.proofs.StoreLemmas.{Moves, moves_leave, opened_cell, opened_moves, opened_nesting, present_shows, root_stays, store_moved, version_is, writer_closed, writer_known, writer_reads, writer_shows}
 
 module _ {K V : Type 0} {s : ℕ} (cmp : K → K → Ordering) where
   -- one guard of the writer
@@ -103,14 +106,21 @@ module _ {K V : Type 0} {s : ℕ} (cmp : K → K → Ordering) where
       ];
     }
 
+    counted : Counted held_by (SharedIn root ∷ []) c
+    counted = counted_passed p (SharedIn root ∷ []) w store.place known store.counted
+
+    groups : GroupsShrink o.groups c.groups
+    groups = subst (λ gs. GroupsShrink o.groups gs) (sym same_items.3) (groups_same o.groups)
+
     pass_moves : Moves cmp p root w c
     pass_moves = record {
       place = place_closed a p place_fast known_fast fast_open;
       keeps = keeps_pass;
       only = only_pass;
-      counted = counted_passed p (SharedIn root ∷ []) w store.place known store.counted;
+      counted = counted;
       plain = λ j. ap (λ (ss : List Status). is_plain (get_or ss j status.Free)) same_items.1 ∙ first.plain j;
-      levelled = levelled_after o c (λ j v e. sym (ap (λ (vs : List (Option (Item K V s))). get_or vs j None) same_items.0) ∙ e) first.levelled;
+      levelled = levelled_after o c (λ j v e. sym (ap (λ (vs : List (Option (Item K V s))). get_or vs j None) same_items.0) ∙ e) groups (SharedIn root ∷ []) counted first.levelled;
+      rows = λ g was is. let r = groups g is in sym r.1 ∙ first.rows g was r.0;
     }
 
     pass_closed : (local_at c p).nesting ≡ 0
@@ -123,11 +133,11 @@ module _ {K V : Type 0} {s : ℕ} (cmp : K → K → Ordering) where
     pass_fewer = let same = ap (λ (ss : List Status). sum_by usage ss) same_items.1 in let less = ((gives_only held_by).opening p w store.place known).1 in omega (arith, same, less)
 
     store_passed : IsStore cmp c root places
-    store_passed = store_moved cmp w c root places store p places store.slot store.number store.pairs pass_moves (pass_named ∙ store.named) (root_stays cmp w c root places store keeps_pass) refl (λ q ne. refl) (writer_reads cmp w c root places store pass_moves pass_closed) (λ ne. absurd (ne refl))
+    store_passed = store_moved cmp w c root places store p places store.slot store.number store.pairs pass_moves (pass_named ∙ store.named) (root_stays cmp w c root places store (moves_leave cmp p root w c store.counted pass_moves)) refl (λ q ne. refl) (writer_reads cmp w c root places store pass_moves pass_closed) (λ ne. absurd (ne refl))
 
     passed_shows : store_of c root places ≡ record (store_of w root places) { used = in_use c; raises = c.count }
     passed_shows =
-        let now : version_in c (slot_kept (cell_at c root)) ≡ record { number = store.number; pairs = store.pairs } = ap (λ (k : Cell). version_in c (slot_kept k)) (pass_named ∙ store.named) ∙ version_is cmp c store.slot store.number store.pairs (root_stays cmp w c root places store keeps_pass) in
+        let now : version_in c (slot_kept (cell_at c root)) ≡ record { number = store.number; pairs = store.pairs } = ap (λ (k : Cell). version_in c (slot_kept k)) (pass_named ∙ store.named) ∙ version_is cmp c store.slot store.number store.pairs (root_stays cmp w c root places store (moves_leave cmp p root w c store.counted pass_moves)) in
         writer_shows cmp w c root places store pass_moves
         ∙ ap (λ (v : Version K V). record (store_of w root places) { present = v; used = in_use c; raises = c.count }) (now ∙ sym (present_shows cmp w root places store))
 
@@ -186,8 +196,8 @@ module _ {K V : Type 0} {s : ℕ} (cmp : K → K → Ordering) where
         others = λ q ne. (store.quiet q ne).empty;
       } in
       let left = (passes_leave_one {K = K} {V = V} {s = s}).left (length places) root store.slot d w can rooted in
-      let few = blocks_fit s (blocks_of (value_at w) d) store.version.whole.cut.tight in
-      let long = length-map (slots_of d) (λ i. segment_pairs (value_at w i)) in
+      let few = blocks_fit s (blocks_of w.groups (value_at w) d) store.version.whole.cut.tight in
+      let long = length-map (slots_of w.groups d) (λ i. segment_pairs (value_at w i)) in
       subst (λ (ps : List (K × V)). in_use (passed_times held_by (length places) 8 w) ≤ room_for s (length ps)) store.version.list (omega (arith, left, few, long))
 
   -- the writer's guards, one by one, as the code makes them

@@ -9,6 +9,7 @@ use Rattle.std.specs.Option.{is_some, option_map}
 use Rattle.std.specs.declared.cmp.Ordering.{Ordering}
 use Rattle.sdd_world.specs.Counting.{Counted, same_hold, tally}
 use Rattle.sdd_world.specs.Frame.{IsLive, Frame, OnlyParticipant, has_owner}
+use Rattle.sdd_world.specs.Groups.{GroupState, GroupsShrink, SameRows}
 use Rattle.sdd_world.specs.Holding.{SharedIn}
 use Rattle.sdd_world.specs.Passing.{IsPlain, IsQuiet, Shrinks, OnlyParticipantsChange, is_plain, slot_kept}
 use Rattle.sdd_world.specs.Place.{IsOpen, IsPlace, IsReadable, IsShared, IsSharedCell}
@@ -25,12 +26,14 @@ use Rattle.sdd_world.proofs.CountLemmas.{owners_are_counted}
 use Rattle.sdd_world.proofs.FrameLemmas.{keeps_closed, keeps_opened}
 use Rattle.sdd_world.proofs.PlaceLemmas.{place_closed, place_opened}
 use Rattle.sdd_world.proofs.IdleParticipantLemmas.{gives_only}
+use Rattle.sdd_world.proofs.GroupLemmas.{groups_same, shrunk_rows}
 use Rattle.sdd_world.proofs.ListLemmas.{hit-same}
 use Rattle.version_views.specs.Items.{held_by}
 use Rattle.local_versions.specs.Placing.{HasVersion, IsLevelled}
 use Rattle.version_views.specs.Versions.{list_of}
 use Rattle.version_views.specs.declared.item.Item.{Item}
 use Rattle.local_versions.proofs.ReclaimLemmas.{levelled_after}
+use Rattle.local_versions.specs.Staying.{Leaves}
 use Rattle.local_versions.proofs.StayingLemmas.{versions_stay}
 use Rattle.local_versions.specs.Store.{IsReader, IsStore, HasVersionOpen, Version, read_by, store_of, version_in, version_of}
 use Rattle.local_versions.specs.declared.store.readers.Opened.{Opened}
@@ -57,8 +60,8 @@ module _ {K V : Type 0} {s : ℕ} (cmp : K → K → Ordering) where
   -- a version is read as what it is
   pub version_is : (w : State (Item K V s)) (i number : ℕ) (pairs : List (K × V)) → HasVersion cmp w i number pairs → version_in w (Some i) ≡ record { number = number; pairs = pairs }
   version_is w i number pairs v =
-      ap (λ (o : Option (Item K V s)). version_of (value_at w) o) v.is
-      ∙ ap (λ (n : ℕ). record { number = n; pairs = list_of (value_at w) v.directory }) v.numbered
+      ap (λ (o : Option (Item K V s)). version_of w o) v.is
+      ∙ ap (λ (n : ℕ). record { number = n; pairs = list_of w.groups (value_at w) v.directory }) v.numbered
       ∙ ap (λ (ps : List (K × V)). record { number = number; pairs = ps }) v.list
 
   -- what a step of participant p leaves
@@ -69,6 +72,11 @@ module _ {K V : Type 0} {s : ℕ} (cmp : K → K → Ordering) where
     pub counted : Counted held_by (SharedIn root ∷ []) w'
     pub plain : IsPlain w'
     pub levelled : IsLevelled w'
+    pub rows : SameRows w.groups w'.groups
+
+  -- which is what versions stay over
+  pub moves_leave : (p root : ℕ) (w w' : State (Item K V s)) → Counted held_by (SharedIn root ∷ []) w → Moves p root w w' → Leaves w w'
+  moves_leave p root w w' counted moves = record { before = SharedIn root ∷ []; counted = counted; after = SharedIn root ∷ []; still = moves.counted; keeps = moves.keeps; rows = moves.rows }
 
   module _ (w w' : State (Item K V s)) (root : ℕ) (places : List (Option (Opened K V s))) (store : IsStore cmp w root places) where
     root_shared : IsShared w store.slot
@@ -78,24 +86,24 @@ module _ {K V : Type 0} {s : ℕ} (cmp : K → K → Ordering) where
     root_live = ap has_owner root_shared.is
 
     -- the present version stays
-    pub root_stays : Frame w w' → HasVersion cmp w' store.slot store.number store.pairs
-    root_stays keeps = (versions_stay cmp).owned (SharedIn root ∷ []) w w' store.slot store.number store.pairs store.counted root_live store.version keeps
+    pub root_stays : Leaves w w' → HasVersion cmp w' store.slot store.number store.pairs
+    root_stays leaves = (versions_stay cmp).owned w w' store.slot store.number store.pairs root_live store.version leaves
 
     -- and so do those of readers that don't take the step
-    pub reader_stays : (p q : ℕ) (o : Option (Opened K V s)) → q ≢ p → Frame w w' → OnlyParticipant p w w' → IsReader cmp w q o → IsReader cmp w' q o
-    reader_stays p q None ne keeps only r = ap (λ (m : ParticipantState). m.local.nesting) (only q ne) ∙ r
-    reader_stays p q (Some o) ne keeps only r =
+    pub reader_stays : (p q : ℕ) (o : Option (Opened K V s)) → q ≢ p → Leaves w w' → OnlyParticipant p w w' → IsReader cmp w q o → IsReader cmp w' q o
+    reader_stays p q None ne leaves only r = ap (λ (m : ParticipantState). m.local.nesting) (only q ne) ∙ r
+    reader_stays p q (Some o) ne leaves only r =
         let once : (local_at w' q).nesting ≡ 1 = ap (λ (m : ParticipantState). m.local.nesting) (only q ne) ∙ r.once in
         let was = r.once in
-        let t = (versions_stay cmp).stays w w' q r.slot r.number r.pairs (omega (arith, was)) (omega (arith, once)) r.version r.seen keeps in
+        let t = (versions_stay cmp).stays w w' q r.slot r.number r.pairs (omega (arith, was)) (omega (arith, once)) r.version r.seen leaves in
         record { once = once; guard = r.guard; slot = r.slot; named = r.named; number = r.number; pairs = r.pairs; version = t.0; seen = t.1 }
 
     -- which read what they read before
-    pub reads_same : (p q : ℕ) (o : Opened K V s) → q ≢ p → Frame w w' → OnlyParticipant p w w' → HasVersionOpen cmp w q o → read_by w' o ≡ read_by w o
-    reads_same p q o ne keeps only r =
+    pub reads_same : (p q : ℕ) (o : Opened K V s) → q ≢ p → Leaves w w' → OnlyParticipant p w w' → HasVersionOpen cmp w q o → read_by w' o ≡ read_by w o
+    reads_same p q o ne leaves only r =
         let once : (local_at w' q).nesting ≡ 1 = ap (λ (m : ParticipantState). m.local.nesting) (only q ne) ∙ r.once in
         let was = r.once in
-        let t = (versions_stay cmp).stays w w' q r.slot r.number r.pairs (omega (arith, was)) (omega (arith, once)) r.version r.seen keeps in
+        let t = (versions_stay cmp).stays w w' q r.slot r.number r.pairs (omega (arith, was)) (omega (arith, once)) r.version r.seen leaves in
         ap (version_in w') r.named ∙ version_is w' r.slot r.number r.pairs t.0 ∙ sym (version_is w r.slot r.number r.pairs r.version) ∙ sym (ap (version_in w) r.named)
 
     quiet_stays : (p q : ℕ) → q ≢ p → OnlyParticipant p w w' → IsQuiet w q → IsQuiet w' q
@@ -122,7 +130,7 @@ module _ {K V : Type 0} {s : ℕ} (cmp : K → K → Ordering) where
       version = version;
       readers = λ q. elim (eqb_tells q p) [
         | inl e ↦ subst (λ (n : ℕ). IsReader cmp w' n (get_or places' n None)) (sym e.1) own
-        | inr e ↦ subst (λ (o : Option (Opened K V s)). IsReader cmp w' q o) (sym (others q e.1)) (reader_stays p q (get_or places q None) e.1 moves.keeps moves.only (store.readers q))
+        | inr e ↦ subst (λ (o : Option (Opened K V s)). IsReader cmp w' q o) (sym (others q e.1)) (reader_stays p q (get_or places q None) e.1 (moves_leave p root w w' store.counted moves) moves.only (store.readers q))
       ];
       quiet = λ q ne. elim (eqb_tells q p) [
         | inl e ↦ subst (λ (n : ℕ). IsQuiet w' n) (sym e.1) (quiet (λ f. ne (e.1 ∙ f ∙ sym long)))
@@ -148,6 +156,7 @@ module _ {K V : Type 0} {s : ℕ} (cmp : K → K → Ordering) where
       ∙ ap (λ (vs : List (Option (Item K V s))). store_of (record w' { count = w.count; values = vs }) root places) stands.values
       ∙ ap (λ (ss : List Status). store_of (record w' { count = w.count; values = w.values; states = ss }) root places) stands.states
       ∙ ap (λ (cs : List Cell). store_of (record w' { count = w.count; values = w.values; states = w.states; cells = cs }) root places) stands.cells
+      ∙ ap (λ (gs : List GroupState). store_of (record w' { count = w.count; values = w.values; states = w.states; cells = w.cells; groups = gs }) root places) stands.groups
 
   module _ (w : State (Item K V s)) (root : ℕ) (places : List (Option (Opened K V s))) (store : IsStore cmp w root places) (p : ℕ) (known : p < length w.participants) where
     -- a guard opens
@@ -158,13 +167,15 @@ module _ {K V : Type 0} {s : ℕ} (cmp : K → K → Ordering) where
     opened_moves =
         let keeps = keeps_opened held_by w p store.place known in
         let shrinks : Shrinks w started = ((gives_only held_by).opening p w store.place known).0 in
+        let counted = (owners_are_counted held_by).opened p (SharedIn root ∷ []) w store.place known store.counted in
         record {
           place = place_opened held_by w p store.place known;
           keeps = keeps.0;
           only = keeps.1;
-          counted = (owners_are_counted held_by).opened p (SharedIn root ∷ []) w store.place known store.counted;
+          counted = counted;
           plain = λ j. shrinks.plain j (store.plain j);
-          levelled = levelled_after w started shrinks.values store.levelled;
+          levelled = levelled_after w started shrinks.values shrinks.groups (SharedIn root ∷ []) counted store.levelled;
+          rows = shrunk_rows w.groups started.groups shrinks.groups;
         }
 
     pub opened_nesting : (local_at started p).nesting ≡ (local_at w p).nesting + 1
@@ -182,7 +193,7 @@ module _ {K V : Type 0} {s : ℕ} (cmp : K → K → Ordering) where
     store_opened o inside free guard named =
         let moves = opened_moves in
         let named' : cell_at started root ≡ cell.OfShared (Some store.slot) tag.None = opened_cell ∙ store.named in
-        let version : HasVersion cmp started store.slot store.number store.pairs = root_stays w started root places store moves.keeps in
+        let version : HasVersion cmp started store.slot store.number store.pairs = root_stays w started root places store (moves_leave p root w started store.counted moves) in
         let shared : IsShared started store.slot = (owners_are_counted held_by).kept root store.slot tag.None (SharedIn root ∷ []) started named' moves.counted in
         let live : IsLive started store.slot = ap has_owner shared.is in
         let closed_before : (local_at w p).nesting ≡ 0 = subst (λ (x : Option (Opened K V s)). IsReader cmp w p x) free (store.readers p) in
@@ -220,13 +231,16 @@ module _ {K V : Type 0} {s : ℕ} (cmp : K → K → Ordering) where
     closed_moves opens =
         let keeps = keeps_closed w p known in
         let same = (gives_only held_by).closing p w known in
+        let counted = (owners_are_counted held_by).closed p (SharedIn root ∷ []) w store.counted in
+        let groups : GroupsShrink w.groups ended.groups = subst (λ gs. GroupsShrink w.groups gs) (sym same.3) (groups_same w.groups) in
         record {
           place = place_closed w p store.place known opens;
           keeps = keeps.0;
           only = keeps.1;
-          counted = (owners_are_counted held_by).closed p (SharedIn root ∷ []) w store.counted;
+          counted = counted;
           plain = λ j. ap (λ (ss : List Status). is_plain (get_or ss j status.Free)) same.1 ∙ store.plain j;
-          levelled = levelled_after w ended (λ j v e. sym (ap (λ (vs : List (Option (Item K V s))). get_or vs j None) same.0) ∙ e) store.levelled;
+          levelled = levelled_after w ended (λ j v e. sym (ap (λ (vs : List (Option (Item K V s))). get_or vs j None) same.0) ∙ e) groups (SharedIn root ∷ []) counted store.levelled;
+          rows = shrunk_rows w.groups ended.groups groups;
         }
 
     -- a reader closes
@@ -240,7 +254,7 @@ module _ {K V : Type 0} {s : ℕ} (cmp : K → K → Ordering) where
         let less = same.4 in
         let now : (local_at ended p).nesting ≡ 0 = omega (arith, less, was) in
         let not_writer : p ≢ length places = λ e. omega (arith, inside, e) in
-        store_moved w ended root places store p (set places p None) store.slot store.number store.pairs moves named' (root_stays w ended root places store moves.keeps) (length-set places p None)
+        store_moved w ended root places store p (set places p None) store.slot store.number store.pairs moves named' (root_stays w ended root places store (moves_leave p root w ended store.counted moves)) (length-set places p None)
         (λ q ne. get_or-set_other places p q None None ne)
         (subst (λ (x : Option (Opened K V s)). IsReader cmp ended p x) (sym (get_or-set_same places p None None inside)) now)
         (λ ne. ((gives_only held_by).quiet_closing p w known (store.quiet p not_writer)).1)
@@ -259,7 +273,7 @@ module _ {K V : Type 0} {s : ℕ} (cmp : K → K → Ordering) where
 
     pub writer_shows : store_of w' root places ≡ record (store_of w root places) { present = version_in w' (slot_kept (cell_at w' root)); used = in_use w'; raises = w'.count }
     writer_shows =
-        let readers = readers_same w w' places (λ q o e. reads_same w w' root places store (length places) q o (λ f. none_is_some (ap (λ (n : ℕ). get_or places n None) (sym f) ∙ e)) moves.keeps moves.only (subst (λ (x : Option (Opened K V s)). IsReader cmp w q x) e (store.readers q))) in
+        let readers = readers_same w w' places (λ q o e. reads_same w w' root places store (length places) q o (λ f. none_is_some (ap (λ (n : ℕ). get_or places n None) (sym f) ∙ e)) (moves_leave (length places) root w w' store.counted moves) moves.only (subst (λ (x : Option (Opened K V s)). IsReader cmp w q x) e (store.readers q))) in
         ap (λ (rs : List (Option (Version K V))). record (store_of w' root places) { readers = rs }) readers
         ∙ ap (λ (n : ℕ). record (store_of w' root places) { readers = map (option_map (read_by w)) places; slots = n }) moves.keeps.states
       where

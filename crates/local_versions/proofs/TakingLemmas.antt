@@ -1,9 +1,8 @@
 -- Parts of a version are placed, one after the other.
-use Rattle.std.proofs.Common.{◌≡◌, ◌≢◌, ◌⊎◌, inl, inr, ℕ, zero, suc, ◌+◌, ◌<◌, ◌≤◌, Option, None, Some, List, [], ◌∷◌, ◌++◌, length, get_or, map, append_assoc, append-nil, refl, sym, ap, ◌∙◌, arith, subst, get_or-set_other}
-use Rattle.std.proofs.lemmas.Bool.Decides.{eqb_tells}
+use Rattle.std.proofs.Common.{◌≡◌, ◌≢◌, ◌⊎◌, inl, inr, ℕ, ◌+◌, ◌≤◌, Option, None, Some, List, [], ◌∷◌, ◌++◌, get_or, map, append_assoc, append-nil, refl, sym, ap, ◌∙◌, arith, subst, get_or-set_other}
 use Rattle.std.proofs.lemmas.List.{map-append}
 use Rattle.std.proofs.lemmas.List.Elements.{All-head, All-tail}
-use Rattle.std.proofs.lemmas.List.Sums.{sum_by-append, sum_by-cons}
+use Rattle.std.proofs.lemmas.List.Sums.{sum_by-append}
 use Rattle.std.specs.Cmp.{IsTotalOrder}
 use Rattle.std.specs.declared.cmp.Ordering.{Ordering}
 use Rattle.std.specs.List.{All}
@@ -14,8 +13,10 @@ use Rattle.sdd_world.specs.Steps.{hit, times}
 use Rattle.sdd_world.specs.declared.status.Status.TheVariants as status
 use Rattle.sdd_world.proofs.FrameLemmas.{keeps_added}
 use Rattle.sdd_world.proofs.KeepingLemmas.{adds_others}
-use Rattle.sdd_world.proofs.ListLemmas.{hit-same, hit-other}
-use Rattle.version_views.specs.Cuts.{IsCut}
+use Rattle.sdd_world.proofs.ListLemmas.{named_times}
+use Rattle.leaf_array.specs.Pairs.{IsAscending}
+use Rattle.version_views.specs.Cuts.{pairs_in}
+use Rattle.version_drafts.specs.Cutting.{IsSegmentSized}
 use Rattle.version_views.specs.Versions.{IsSegment, segment_pairs}
 use Rattle.version_views.specs.declared.item.Item.{Item}
 use Rattle.version_drafts.specs.Parts.{between, blocks_of_parts, makes, part_blocks}
@@ -25,20 +26,7 @@ use Rattle.version_drafts.proofs.StretchLemmas.{between_map}
 use Rattle.local_versions.specs.Placing.{HasPlaced, IsTakeable, StandsIn, part_slots, taken_slots}
 use Rattle.local_versions.proofs.OnceLemmas.{once_by, slots_by}
 use Rattle.local_versions.proofs.PlacingLemmas.{stands_more, stands_taken}
-
--- ---- slots that are named
-
-named_times : (xs : List ℕ) (x d : ℕ) → x < length xs → 1 ≤ times (get_or xs x d) xs
-named_times [] x d h = absurd (omega (arith, h))
-named_times (y ∷ xs) zero d h = let sum = sum_by-cons (λ k. hit k y) y xs in let one = hit-same y in omega (arith, sum, one)
-named_times (y ∷ xs) (suc x) d h = let sum = sum_by-cons (λ k. hit k (get_or xs x d)) y xs in let rest = named_times xs x d (omega (arith, h)) in omega (arith, sum, rest)
-
-all_named : (P : ℕ → Type 0) (xs : List ℕ) (i : ℕ) → All P xs → 1 ≤ times i xs → P i
-all_named P [] i all h = absurd (omega (arith, h))
-all_named P (x ∷ xs) i all h = elim (eqb_tells x i) [
-  | inl e ↦ subst P e.1 (All-head P x xs all)
-  | inr e ↦ let sum = sum_by-cons (λ k. hit k i) x xs in let other = hit-other x i (λ g. e.1 (sym g)) in all_named P xs i (All-tail P x xs all) (omega (arith, h, sum, other))
-]
+use Rattle.local_versions.proofs.RowSlotLemmas.{all_named}
 
 pub times_both : (i : ℕ) (xs ys : List ℕ) → times i (xs ++ ys) ≡ times i xs + times i ys
 times_both i xs ys = sum_by-append (λ k. hit k i) xs ys
@@ -152,7 +140,7 @@ module _ {K V : Type 0} where
   named_unit at (inl j) i e = let same : j ≡ i = cc in ap at same
   named_unit at (inr b) i e = absurd (cc)
 
-  pub taken_once : {s : ℕ} (cmp : K → K → Ordering) (o : IsTotalOrder cmp) (at : ℕ → List (K × V)) (slots : List ℕ) (ps : List (Part K V)) {keys : List K} → IsCut cmp s (blocks_of_parts (map at slots) ps) keys → (j : ℕ) → times j (taken_slots slots ps) ≤ 1
-  taken_once {s} cmp o at slots ps {keys} cut j =
-      let cut' = subst (λ bs. IsCut cmp s bs keys) (sym (blocks_taken at slots ps)) cut in
-      subst (λ ys. times j ys ≤ 1) (slots_taken slots ps) (once_by cmp o s unit_slot (unit_pairs at) at (named_unit at) (units slots ps) cut'.sizes cut'.rising j)
+  pub taken_once : (s : ℕ) (cmp : K → K → Ordering) (o : IsTotalOrder cmp) (at : ℕ → List (K × V)) (slots : List ℕ) (ps : List (Part K V)) → All (IsSegmentSized s) (blocks_of_parts (map at slots) ps) → IsAscending cmp (pairs_in (blocks_of_parts (map at slots) ps)) → (j : ℕ) → times j (taken_slots slots ps) ≤ 1
+  taken_once s cmp o at slots ps sizes rising j =
+      let same = sym (blocks_taken at slots ps) in
+      subst (λ ys. times j ys ≤ 1) (slots_taken slots ps) (once_by cmp o s unit_slot (unit_pairs at) at (named_unit at) (units slots ps) (subst (All (IsSegmentSized s)) same sizes) (subst (λ bs. IsAscending cmp (pairs_in bs)) same rising) j)

@@ -10,13 +10,13 @@ use Rattle.sdd_world.specs.declared.status.Cell.TheVariants as cell
 use Rattle.sdd_world.specs.declared.tag.Tag.{Tag}
 use Rattle.version_views.specs.Items.{held_by, slots_of}
 use Rattle.local_versions.specs.Placing.{IsFlat}
-use Rattle.sdd_world.specs.declared.owner.Kept.{Kept}
+use Rattle.sdd_world.specs.declared.groups.Group.{Group}
 use Rattle.version_views.specs.declared.directory.Directory.{Directory}
 use Rattle.version_views.specs.declared.item.Item.{Item}
 use Rattle.version_views.specs.declared.item.Item.TheVariants as items
 
 -- a place whose one owner outside is a root, which names this directory; items wait for participant p alone
-pub record IsRooted {K V : Type 0} {s : ℕ} (p c i : ℕ) (d : Directory K Kept) (w : State (Item K V s)) : Type 0 where
+pub record IsRooted {K V : Type 0} {s : ℕ} (p c i : ℕ) (d : Directory K Group) (w : State (Item K V s)) : Type 0 where
   pub counted : Counted held_by (SharedIn c ∷ []) w
   pub plain : IsPlain w
   pub flat : IsFlat w
@@ -27,7 +27,7 @@ pub record IsRooted {K V : Type 0} {s : ℕ} (p c i : ℕ) (d : Directory K Kept
 
 -- eight accelerated guards of p, where no other is open, leave the version that the root names, and no more
 pub record PassesLeaveOne (K V : Type 0) (s : ℕ) : Type 0 where
-  pub left : (p c i : ℕ) (d : Directory K Kept) (w : State (Item K V s)) → CanPass 8 p w → IsRooted p c i d w → in_use (passed_times held_by p 8 w) ≤ length (slots_of d) + 1
+  pub left : (p c i : ℕ) (d : Directory K Group) (w : State (Item K V s)) → CanPass 8 p w → IsRooted p c i d w → in_use (passed_times held_by p 8 w) ≤ length (slots_of w.groups d) + 1
 
 -- a place with no owner outside, and no cell: there is no root
 pub record IsRootless {K V : Type 0} {s : ℕ} (w : State (Item K V s)) : Type 0 where

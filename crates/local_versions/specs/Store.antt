@@ -17,7 +17,7 @@ use Rattle.local_versions.specs.Placing.{HasVersion, IsLevelled}
 use Rattle.local_versions.specs.Staying.{IsSeen}
 use Rattle.version_views.specs.Sizes.{room_for}
 use Rattle.version_views.specs.Versions.{list_of}
-use Rattle.sdd_world.specs.declared.owner.Kept.{Kept}
+use Rattle.sdd_world.specs.declared.groups.Group.{Group}
 use Rattle.version_views.specs.Writes.{after_writes}
 use Rattle.version_views.specs.declared.directory.Directory.{Directory}
 use Rattle.version_views.specs.declared.item.Item.{Item}
@@ -65,18 +65,18 @@ no_version = record { number = 0; pairs = [] }
 
 module _ {K V : Type 0} {s : ℕ} where
   -- the version of a directory
-  abbrev pub directory_version : (ℕ → Option (Item K V s)) → Directory K Kept → Version K V
-  directory_version at d = record { number = d.number; pairs = list_of at d }
+  abbrev pub directory_version : State (Item K V s) → Directory K Group → Version K V
+  directory_version w d = record { number = d.number; pairs = list_of w.groups (value_at w) d }
 
-  abbrev pub version_of : (ℕ → Option (Item K V s)) → Option (Item K V s) → Version K V
-  version_of at None = no_version
-  version_of at (Some (items.Directory d)) = directory_version at d
-  version_of at (Some (items.Segment t)) = no_version
+  abbrev pub version_of : State (Item K V s) → Option (Item K V s) → Version K V
+  version_of w None = no_version
+  version_of w (Some (items.Directory d)) = directory_version w d
+  version_of w (Some (items.Segment t)) = no_version
 
   -- the version in a slot
   abbrev pub version_in : State (Item K V s) → Option ℕ → Version K V
   version_in w None = no_version
-  version_in w (Some i) = version_of (value_at w) (value_at w i)
+  version_in w (Some i) = version_of w (value_at w i)
 
   abbrev pub read_by : State (Item K V s) → Opened K V s → Version K V
   read_by w o = version_in w (loaded_slot o.root)
@@ -86,7 +86,7 @@ module _ {K V : Type 0} {s : ℕ} where
   HasOpen w readers place version = slice_get (map (option_map (read_by w)) readers) place ≡ Some (Some version)
 
   -- the version that a cell names is this directory, and has an owner
-  abbrev pub IsNamedBy : State (Item K V s) → ℕ → Directory K Kept → Type 0
+  abbrev pub IsNamedBy : State (Item K V s) → ℕ → Directory K Group → Type 0
   IsNamedBy w c d = (i : ℕ) (tag : Tag) → cell_at w c ≡ cell.OfShared (Some i) tag → IsLive w i × (value_at w i ≡ Some (items.Directory d))
 
   -- what a place, the cell of its root, and the guards of readers are

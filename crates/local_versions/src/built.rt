@@ -3,16 +3,14 @@
 ghost use Rattle.std.specs.Prelude.{◌≡◌, ◌≤◌, ◌<◌, ◌+◌, ◌*◌, ◌-◌, ◌^◌, Some, ℕ, IfOk, length};
 ghost use Rattle.leaf_array.specs.Pairs.{IsAscending};
 ghost use Rattle.leaf_array.specs.Values.{ClonesAreSame};
-ghost use Rattle.sdd_world.specs.Frame.{IsLive};
 ghost use Rattle.sdd_world.specs.State.{value_at};
-ghost use Rattle.std.specs.List.{All};
-ghost use Rattle.version_views.specs.Items.{slots_of};
 ghost use Rattle.version_views.specs.Sizes.{room_for};
-ghost use Rattle.local_versions.specs.Placing.{CanBeShared, IsPlaceableBeside, StandsAlone, list_alone, list_beside, list_planned, slots_for};
-ghost use Rattle.version_views.specs.Versions.{IsVersion, blocks_of, list_of};
+ghost use Rattle.local_versions.specs.Placing.{IsPlaceableBeside, StandsAlone, list_alone, list_beside, number_of, slots_for};
+ghost use Rattle.version_views.specs.Versions.{IsVersion, list_of};
 ghost use Rattle.version_views.specs.Writes.{after_writes, replies_to};
 
 use crate::reads::view_of;
+use sdd_world::groups::Group;
 use sdd_world::job::NoJob;
 use sdd_world::owner::Kept;
 use sdd_world::world::World;
@@ -20,31 +18,31 @@ use std::alloc::{AllocError, Global};
 use version_drafts::plans;
 use version_views::{Directory, Item, Reply, Write};
 
-/// A version that isn't placed yet: the number of its list, and its segments, of which some are those of an older version.
+/// A version that isn't placed yet: its directory, of whose rows and segments some are those of an older version.
 pub type Built<K, V, const S: usize> = plans::Draft<K, V, Vec<Kept>, S>;
 
 /// The version that writes make of an older one, under the next number, and the replies. Fails only if an allocation fails.
-/// Nothing is placed yet. Segments that no write touches are taken over, so the older version has to be there when it is
-/// placed.
+/// Nothing is placed yet. Rows and segments that no write touches are taken over, so the older version has to be there
+/// when it is placed.
 pub fn build<K: Clone + Ord + Drop, V: Clone + Drop, const S: usize>(
     alloc: Global,
     w: &World<Item<K, V, S>, NoJob>,
-    dir: &Directory<K, Kept>,
+    dir: &Directory<K, Group>,
     writes: &[Write<K, V>],
 ) -> Result<(Built<K, V, S>, Vec<Reply>), AllocError>
-    requires version { IsVersion K.cmp (value_at w.now) dir.now }
+    requires version { IsVersion K.cmp w.now.groups (value_at w.now) dir.now }
     requires size { (1 ≤ S) × (S ≤ 225) }
     requires last { dir.now.number < 2 ^ 64 - 1 }
     requires keys { ClonesAreSame K.is_clone }
     requires values { ClonesAreSame V.is_clone }
-    ensures number { IfOk result (λ made. made.0.number ≡ dir.now.number + 1) }
-    ensures list { IfOk result (λ made. list_beside w.now dir.now made.0 ≡ after_writes K.cmp writes.now (list_of (value_at w.now) dir.now)) }
+    ensures number { IfOk result (λ made. number_of made.0 ≡ dir.now.number + 1) }
+    ensures list { IfOk result (λ made. list_beside w.now dir.now made.0 ≡ after_writes K.cmp writes.now (list_of w.now.groups (value_at w.now) dir.now)) }
     ensures few { IfOk result (λ made. slots_for made.0 ≤ 2 * length writes.now + 1) }
-    ensures placeable { IfOk result (λ made. All (CanBeShared w.now) (slots_of dir.now) → IsPlaceableBeside K.cmp w.now dir.now made.0) }
-    ensures replies { IfOk result (λ made. made.1.items ≡ replies_to K.cmp writes.now (list_of (value_at w.now) dir.now)) }
+    ensures placeable { IfOk result (λ made. IsPlaceableBeside K.cmp w.now dir.now made.0) }
+    ensures replies { IfOk result (λ made. made.1.items ≡ replies_to K.cmp writes.now (list_of w.now.groups (value_at w.now) dir.now)) }
 {
     let old = view_of(w, dir);
-    plans::build::<K, V, _, Vec<Kept>, S>(alloc, dir.number() + 1, &old, writes)
+    plans::build::<K, V, _, Vec<Kept>, S>(alloc, dir.number() + 1, &old, dir, writes)
 }
 
 /// The version of clones of these pairs, whose keys rise, with number 0. Fails only if an allocation fails. Nothing is placed yet. It
@@ -58,9 +56,9 @@ pub fn build_list<K: Clone + Ord + Drop, V: Clone + Drop, const S: usize>(
     requires keys { ClonesAreSame K.is_clone }
     requires values { ClonesAreSame V.is_clone }
     requires rising { IsAscending K.cmp pairs.now }
-    ensures number { IfOk result (λ made. made.number ≡ 0) }
+    ensures number { IfOk result (λ made. number_of made ≡ 0) }
     ensures list { IfOk result (λ made. list_alone made ≡ pairs.now) }
-    ensures length { IfOk result (λ made. made.length ≡ length pairs.now) }
+    ensures length { IfOk result (λ made. made.shelves.length ≡ length pairs.now) }
     ensures few { IfOk result (λ made. slots_for made ≤ room_for S (length pairs.now)) }
     ensures fewest { IfOk result (λ made. S * slots_for made < length pairs.now + 2 * S) }
     ensures alone { IfOk result (StandsAlone K.cmp) }

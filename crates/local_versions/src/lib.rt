@@ -37,11 +37,11 @@ mod store;
 
 pub use built::{Built, build, build_list};
 pub use laws::{passes_leave_one, segments_are_few, sweeps_leave_none, versions_stay};
-pub use placing::{place, publish};
+pub use placing::{PlaceRefused, place, publish};
 pub use reads::{len, locate, look_up, look_up_counted, version, version_at, view_of, walk};
 pub use store::local::{LocalStore, StoreRefused};
 pub use version_drafts::draft;
 pub use version_views::{
-    Directory, Item, LocalNearby, LocalView, LocalWalk, Nearby, Reply, Segment, Trees, VersionView,
-    Walk, Write, WriteRefused, plain,
+    Directory, Item, LocalNearby, LocalView, LocalWalk, Nearby, Reply, Row, Segment, Trees,
+    VersionView, Walk, Write, WriteRefused, plain,
 };

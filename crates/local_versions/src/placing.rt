@@ -1,59 +1,198 @@
 //! Placing versions, and publishing them.
 
-ghost use Rattle.std.specs.Prelude.{◌≡◌, ◌<◌, ◌≤◌, ◌+◌, ◌++◌, ◌∷◌, [], ℕ, List, Option, None, Some, IfOk, IfErr, IsOk, OnErr, length, sum_by, vec_capacity, map};
+ghost use Rattle.std.specs.Prelude.{◌≡◌, ◌↔◌, ◌<◌, ◌≤◌, ◌+◌, ◌-◌, ◌++◌, ◌∷◌, [], ℕ, List, Option, None, Some, IfOk, IfErr, IsErrAnd, OnErr, OnOk, get_or, length, sum_by, vec_capacity, map};
 ghost use Rattle.sdd_world.specs.Frame.{Frame, OnlyParticipant};
+ghost use Rattle.sdd_world.specs.Groups.{free_names, group_named, more_owned, name_of};
 ghost use Rattle.sdd_world.specs.Place.{IsShared, IsSharedCell};
-ghost use Rattle.sdd_world.specs.State.{IsFree, cell_at, placed, vacancy};
-ghost use Rattle.sdd_world.specs.Tokens.{kept_slot, shared_cell, shared_slot};
+ghost use Rattle.sdd_world.specs.State.{IsFree, cell_at, placed, vacancy, value_at, with_groups};
+ghost use Rattle.sdd_world.specs.Tokens.{kept_slot, loaded_slot, shared_cell, shared_slot};
 ghost use Rattle.sdd_world.specs.Steps.{times};
+ghost use Rattle.std.specs.List.{All};
+ghost use Rattle.version_views.specs.Items.{names_of, row_keys};
+ghost use Rattle.version_drafts.specs.Drafts.{FitsShelf, RoomsFit};
 ghost use Rattle.version_drafts.specs.Parts.{blocks_of_parts, made_in, makes, segments_in, segments_of};
-ghost use Rattle.local_versions.specs.Placing.{CanTakeOver, IsPlaceable, KeepsPlaced, Places, Publishes, StandsIn, blocks_at, older_slot, part_slots, slots_at, slots_for, taken_slots};
+ghost use Rattle.version_drafts.specs.Shelves.{LiesInRow, made_on, made_on_all, shelf_blocks};
+ghost use Rattle.local_versions.specs.Placing.{AreRowsOf, CanBeRaised, CanPlace, CanTakeOver, FitsIn, FitsWhole, HasRows, IsForSlots, IsPlaceable, IsSettled, IsStretch, IsThere, KeepsPlaced, OnlyNamesCome, Places, Publishes, StandOn, StandsIn, StandsOn, blocks_at, ends_at, list_planned, names_at, number_of, older_slot, part_slots, refused_plan, slots_at, slots_for, taken_slots};
 
 use crate::built::Built;
 use sdd_world::cell::AtomicShared;
+use sdd_world::groups::{Group, GroupName};
 use sdd_world::job::NoJob;
 use sdd_world::owner::{Kept, Shared};
 use sdd_world::pointer::Loaded;
 use sdd_world::status::{Cell, Status};
 use sdd_world::tag::Tag;
-use sdd_world::world::{World, atomic_shared, shared};
-use version_drafts::draft::{Part, Segments};
-use version_views::{Directory, Item, Segment};
+use sdd_world::world::{World, atomic_shared, group, shared};
+use std::alloc::{AllocError, Global};
+use version_drafts::draft::Part;
+use version_drafts::shelves::Shelf;
+use version_views::{Directory, Item, Row, Segment};
 
-/// Places a version: its new segments, and then its directory, which owns them and those that it takes over of the older
-/// version that `older` names. It takes no memory, and succeeds if as many slots are free as it takes; else nothing has
-/// changed, and the version is returned. Condition: the segments that it takes over are there.
+/// Why a version wasn't placed. It comes back.
+#[derive(Drop)]
+pub enum PlaceRefused<K: Ord, V, const S: usize> {
+    /// Fewer slots are free than it takes.
+    NoSlot(Built<K, V, S>),
+    /// Room for its rows was refused.
+    Memory(Built<K, V, S>),
+}
+
+/// Places a version: its rows, in order, and then its directory, which owns them. A row of the older version that `older` names is
+/// taken over by one count. A new one has new segments, and others of the older version, each of which gets one owner more. It is
+/// refused as `NoSlot` if and only if fewer slots are free than it takes, and as `Memory` if room for its rows is refused. Nothing
+/// is placed then, and the version is returned. For want of slots nothing changes; for want of memory names for groups may come.
 pub fn place<K: Ord + Drop, V: Drop, const S: usize>(
+    alloc: Global,
     w: &mut World<Item<K, V, S>, NoJob>,
     built: Built<K, V, S>,
     older: Option<Loaded<Item<K, V, S>>>,
-) -> Result<Shared<Item<K, V, S>>, Built<K, V, S>>
-    requires { IsPlaceable K.cmp w.old (older_slot older) built }
-    ensures placed { IfOk result (λ root. Places K.cmp (older_slot older) built (shared_slot root) w.old w.new) }
-    ensures room { slots_for built ≤ sum_by vacancy w.old.states → IsOk result }
-    ensures back { IfErr result (λ b. b ≡ built) }
-    ensures refused { OnErr result (w.new ≡ w.old) }
+) -> Result<Shared<Item<K, V, S>>, PlaceRefused<K, V, S>>
+    requires settled { IsSettled w.old }
+    requires placeable { IsPlaceable K.cmp w.old (older_slot older) built }
+    ensures placed { IfOk result (λ root. Places K.cmp (slots_for built) (number_of built) (list_planned (blocks_at w.old (older_slot older)) built) (shared_slot root) w.old w.new) }
+    ensures full { IsErrAnd result IsForSlots ↔ sum_by vacancy w.old.states < slots_for built }
+    ensures back { IfErr result (λ r. refused_plan r ≡ built) }
+    ensures refused { OnErr result (OnlyNamesCome w.old w.new) }
+    ensures same { IsErrAnd result IsForSlots → w.new ≡ w.old }
     ensures keeps { Frame w.old w.new }
 {
     if w.free_slots() < built.slots() {
-        return Err(built);
+        return Err(PlaceRefused::NoSlot(built));
     }
-    let (number, segments, owners) = built.into_parts();
-    let Segments {
-        parts,
-        separators,
-        length,
-    } = segments;
-    let segments = place_parts(w, parts, older, owners);
+    let rows = match room_for(alloc, w, built.rows().len()) {
+        Ok(rows) => rows,
+        Err(AllocError) => return Err(PlaceRefused::Memory(built)),
+    };
+    let (shelves, rooms) = built.into_parts();
+    let (number, length, shelves, separators, ends) = shelves.into_parts();
+    let rows = place_rows(w, shelves, rooms, older, rows);
     w.laws();
-    let directory = Directory::new(number, length, segments, separators);
+    let directory = Directory::new(number, length, rows, separators, ends);
     match shared::new(w, Item::Directory(directory)) {
         Ok(root) => Ok(root),
         Err(_) => unreachable!(),
     }
 }
 
-/// Places new segments and takes the others over, and keeps the owners of all.
+/// Room for so many rows, and as many free names for groups. Fails only if an allocation fails.
+fn room_for<K: Ord, V, const S: usize>(
+    alloc: Global,
+    w: &mut World<Item<K, V, S>, NoJob>,
+    rows: usize,
+) -> Result<Vec<Row<K, Group>>, AllocError>
+    ensures come { OnlyNamesCome w.old w.new }
+    ensures names { OnOk result (rows ≤ free_names w.new.groups) }
+    ensures room { IfOk result (λ room. (room.items ≡ []) × (rows ≤ vec_capacity room)) }
+    ensures keeps { Frame w.old w.new }
+{
+    name_groups(w, rows)?;
+    Vec::with_capacity(alloc, rows)
+}
+
+/// At least so many free names for groups. Fails only if an allocation fails.
+fn name_groups<K: Ord, V, const S: usize>(
+    w: &mut World<Item<K, V, S>, NoJob>,
+    count: usize,
+) -> Result<(), AllocError>
+    ensures come { OnlyNamesCome w.old w.new }
+    ensures names { OnOk result (count ≤ free_names w.new.groups) }
+    ensures keeps { Frame w.old w.new }
+{
+    let mut free = group::free_count(w);
+    while free < count {
+        group::grow(w)?;
+        free += 1;
+    }
+    Ok(())
+}
+
+/// Places rows, where there is room for the owners of each, that of the first row last.
+fn place_rows<K: Ord + Drop, V: Drop, const S: usize>(
+    w: &mut World<Item<K, V, S>, NoJob>,
+    shelves: Vec<Row<K, Shelf<K, V>>>,
+    mut rooms: Vec<Vec<Kept>>,
+    older: Option<Loaded<Item<K, V, S>>>,
+    mut rows: Vec<Row<K, Group>>,
+) -> Vec<Row<K, Group>>
+    requires empty { rows.items ≡ [] }
+    requires room { length shelves.items ≤ vec_capacity rows }
+    requires rooms { RoomsFit FitsIn FitsWhole rooms.items shelves.items }
+    requires free { made_on_all shelves.items ≤ sum_by vacancy w.old.states }
+    requires names { length shelves.items ≤ free_names w.old.groups }
+    requires settled { IsSettled w.old }
+    requires rows { AreRowsOf K.cmp w.old (older_slot older) shelves.items }
+    ensures placed { StandOn (made_on_all shelves.items) (names_of result.items) (map (λ r. shelf_blocks (blocks_at w.old (older_slot older)) r.segments) shelves.items) w.old w.new }
+    ensures keys { map row_keys result.items ≡ map row_keys shelves.items }
+{
+    for shelf in shelves {
+        let (segments, keys) = shelf.into_parts();
+        let room = match rooms.pop() {
+            Some(room) => room,
+            None => unreachable!(),
+        };
+        w.laws();
+        rows.push_reserved(Row::new(place_row(w, segments, older, room), keys));
+    }
+    rooms.destroy_empty();
+    rows
+}
+
+/// Places a row: one of the older version has one owner more, and a new one becomes a group.
+fn place_row<K: Ord + Drop, V: Drop, const S: usize>(
+    w: &mut World<Item<K, V, S>, NoJob>,
+    segments: Shelf<K, V>,
+    older: Option<Loaded<Item<K, V, S>>>,
+    room: Vec<Kept>,
+) -> Group
+    requires fits { FitsShelf FitsIn FitsWhole room segments }
+    requires free { made_on segments ≤ sum_by vacancy w.old.states }
+    requires names { 1 ≤ free_names w.old.groups }
+    requires there { CanPlace K.cmp w.old (older_slot older) segments }
+    ensures { StandsOn (made_on segments) (name_of result) (shelf_blocks (blocks_at w.old (older_slot older)) segments) w.old w.new }
+{
+    match segments {
+        Shelf::Older {
+            row,
+            from: _,
+            upto: _,
+        } => {
+            room.destroy_empty();
+            match older {
+                Some(at) => raise_row(w, &at, row),
+                None => unreachable!(),
+            }
+        }
+        Shelf::New(parts) => {
+            let owners = place_parts(w, parts, older, room);
+            match group::make(w, owners) {
+                Ok(group) => group,
+                Err(_) => unreachable!(),
+            }
+        }
+    }
+}
+
+/// One more owner of a row of the older version.
+fn raise_row<K: Ord, V, const S: usize>(
+    w: &mut World<Item<K, V, S>, NoJob>,
+    older: &Loaded<Item<K, V, S>>,
+    row: usize,
+) -> Group
+    requires there { HasRows w.old (loaded_slot older.now) }
+    requires row { row < length (names_at w.old (loaded_slot older.now)) }
+    requires raised { All (CanBeRaised w.old) (names_at w.old (loaded_slot older.now)) }
+    ensures name { name_of result ≡ get_or (names_at w.old (loaded_slot older.now)) row 0 }
+    ensures raised { w.new ≡ with_groups (more_owned (name_of result) w.old.groups) w.old }
+    ensures keeps { Frame w.old w.new }
+{
+    let name = directory_at(w, older).rows()[row].owners().name();
+    match group::raise(w, name) {
+        Some(group) => group,
+        None => unreachable!(),
+    }
+}
+
+/// Places new segments of a row and takes the others over, and keeps the owners of all.
 fn place_parts<K: Ord + Drop, V: Drop, const S: usize>(
     w: &mut World<Item<K, V, S>, NoJob>,
     parts: Vec<Part<K, V>>,
@@ -73,7 +212,7 @@ fn place_parts<K: Ord + Drop, V: Drop, const S: usize>(
     owners
 }
 
-/// Places a new segment, or takes a stretch over, and keeps the owners.
+/// Places a new segment, or takes a stretch of a row over, and keeps the owners.
 fn place_part<K: Ord + Drop, V: Drop, const S: usize>(
     w: &mut World<Item<K, V, S>, NoJob>,
     part: Part<K, V>,
@@ -92,9 +231,45 @@ fn place_part<K: Ord + Drop, V: Drop, const S: usize>(
     match part {
         Part::Made(tree) => owners.push_reserved(place_segment(w, tree)),
         Part::Taken { from, upto } => match older {
-            Some(at) => shared::keep_row(w, &at, from, upto, owners),
+            Some(at) => {
+                let (row, first) = row_of(w, &at, from);
+                group::keep_row(w, row, first, first + (upto - from), owners);
+            }
             None => unreachable!(),
         },
+    }
+}
+
+/// The row of the older version that has the segment at a place among all, and its place there.
+fn row_of<K: Ord, V, const S: usize>(
+    w: &World<Item<K, V, S>, NoJob>,
+    older: &Loaded<Item<K, V, S>>,
+    place: usize,
+) -> (GroupName, usize)
+    requires there { HasRows w.now (loaded_slot older.now) }
+    requires place { place < length (slots_at w.now (loaded_slot older.now)) }
+    ensures stretch { (upto : ℕ) → LiesInRow (ends_at w.now (loaded_slot older.now)) place upto → IsStretch w.now (loaded_slot older.now) (group_named result.0) result.1 place upto }
+    ensures within { result.1 ≤ place }
+{
+    let dir = directory_at(w, older);
+    let spot = dir.spot_of(place);
+    (dir.rows()[spot.row].owners().name(), spot.at)
+}
+
+/// The directory of the older version.
+fn directory_at<'w, K: Ord, V, const S: usize>(
+    w: &'w World<Item<K, V, S>, NoJob>,
+    older: &Loaded<Item<K, V, S>>,
+) -> &'w Directory<K, Group>
+    requires there { (i : ℕ) × (loaded_slot older.now ≡ Some i) × IsThere w.now i }
+    ensures { (i : ℕ) → loaded_slot older.now ≡ Some i → value_at w.now i ≡ Some (Item.Directory result.now) }
+{
+    match w.read_loaded(older) {
+        Some(item) => match item.directory() {
+            Some(directory) => directory,
+            None => unreachable!(),
+        },
+        None => unreachable!(),
     }
 }
 

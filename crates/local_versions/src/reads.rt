@@ -11,8 +11,9 @@ ghost use Rattle.local_versions.specs.Placing.{HasVersion, HasNumberAndList};
 ghost use Rattle.version_views.specs.Versions.{IsVersion, blocks_of, list_of};
 ghost use Rattle.version_views.specs.Views.{LooksUp, cursor_within};
 
+use sdd_world::groups::Group;
 use sdd_world::job::NoJob;
-use sdd_world::owner::{Kept, Shared};
+use sdd_world::owner::Shared;
 use sdd_world::pointer::Loaded;
 use sdd_world::world::{World, shared};
 use std::ops::Bound;
@@ -23,10 +24,10 @@ use version_views::{Directory, Item, LocalNearby, LocalView, LocalWalk, VersionV
 pub fn version<'w, K: Ord, V, const S: usize>(
     w: &'w World<Item<K, V, S>, NoJob>,
     root: &Shared<Item<K, V, S>>,
-) -> &'w Directory<K, Kept>
+) -> &'w Directory<K, Group>
     requires shared { IsShared w.now (shared_slot root.now) }
     requires version { (n : ℕ) × (ps : List (K × V)) × HasVersion K.cmp w.now (shared_slot root.now) n ps }
-    ensures version { IsVersion K.cmp (value_at w.now) result.now }
+    ensures version { IsVersion K.cmp w.now.groups (value_at w.now) result.now }
     ensures is { (n : ℕ) (ps : List (K × V)) → HasVersion K.cmp w.now (shared_slot root.now) n ps → HasNumberAndList w.now n ps result.now }
     ensures stands { value_at w.now (shared_slot root.now) ≡ Some (Item.Directory result.now) }
 {
@@ -40,11 +41,12 @@ pub fn version<'w, K: Ord, V, const S: usize>(
 pub fn version_at<'w, K: Ord, V, const S: usize>(
     w: &'w World<Item<K, V, S>, NoJob>,
     at: &Loaded<Item<K, V, S>>,
-) -> &'w Directory<K, Kept>
+) -> &'w Directory<K, Group>
     requires readable { IsReadable w.now (loaded_slot at.now) }
     requires version { (i n : ℕ) × (ps : List (K × V)) × (loaded_slot at.now ≡ Some i) × HasVersion K.cmp w.now i n ps }
-    ensures version { IsVersion K.cmp (value_at w.now) result.now }
+    ensures version { IsVersion K.cmp w.now.groups (value_at w.now) result.now }
     ensures is { (i n : ℕ) (ps : List (K × V)) → loaded_slot at.now ≡ Some i → HasVersion K.cmp w.now i n ps → HasNumberAndList w.now n ps result.now }
+    ensures stands { (i : ℕ) → loaded_slot at.now ≡ Some i → value_at w.now i ≡ Some (Item.Directory result.now) }
 {
     match w.read_loaded(at) {
         Some(item) => match item.directory() {
@@ -58,10 +60,10 @@ pub fn version_at<'w, K: Ord, V, const S: usize>(
 /// The version of a directory.
 pub fn view_of<'a, K: Ord, V, const S: usize>(
     w: &'a World<Item<K, V, S>, NoJob>,
-    dir: &'a Directory<K, Kept>,
+    dir: &'a Directory<K, Group>,
 ) -> LocalView<'a, K, V, S>
-    requires { IsVersion K.cmp (value_at w.now) dir.now }
-    ensures { result ≡ blocks_of (value_at w.now) dir.now }
+    requires { IsVersion K.cmp w.now.groups (value_at w.now) dir.now }
+    ensures { result ≡ blocks_of w.now.groups (value_at w.now) dir.now }
 {
     VersionView::new(w.table(), dir)
 }
@@ -69,11 +71,11 @@ pub fn view_of<'a, K: Ord, V, const S: usize>(
 /// The pair with this key in the list of a version: [`VersionView::get`].
 pub fn look_up<'a, K: Ord, V, const S: usize>(
     w: &'a World<Item<K, V, S>, NoJob>,
-    dir: &'a Directory<K, Kept>,
+    dir: &'a Directory<K, Group>,
     key: &K,
 ) -> Option<(&'a K, &'a V)>
-    requires { IsVersion K.cmp (value_at w.now) dir.now }
-    ensures { LooksUp K.cmp key.now (list_of (value_at w.now) dir.now) result }
+    requires { IsVersion K.cmp w.now.groups (value_at w.now) dir.now }
+    ensures { LooksUp K.cmp key.now (list_of w.now.groups (value_at w.now) dir.now) result }
 {
     let mut steps = Steps::new();
     look_up_counted(w, dir, key, &mut steps)
@@ -82,15 +84,15 @@ pub fn look_up<'a, K: Ord, V, const S: usize>(
 /// The same, with its comparisons counted: [`VersionView::get_counted`].
 pub fn look_up_counted<'a, K: Ord, V, const S: usize>(
     w: &'a World<Item<K, V, S>, NoJob>,
-    dir: &'a Directory<K, Kept>,
+    dir: &'a Directory<K, Group>,
     key: &K,
     steps: &mut Steps,
 ) -> Option<(&'a K, &'a V)>
-    requires { IsVersion K.cmp (value_at w.now) dir.now }
-    ensures pair { LooksUp K.cmp key.now (list_of (value_at w.now) dir.now) result }
-    ensures cost { (digits : ℕ) → length (slots_of dir.now) < 2 ^ digits → steps.new.count ≤ steps.old.count + 30 + digits }
+    requires { IsVersion K.cmp w.now.groups (value_at w.now) dir.now }
+    ensures pair { LooksUp K.cmp key.now (list_of w.now.groups (value_at w.now) dir.now) result }
+    ensures cost { (digits : ℕ) → length (slots_of w.now.groups dir.now) < 2 ^ digits → steps.new.count ≤ steps.old.count + 30 + digits }
     ensures raised { steps.old.count ≤ steps.new.count }
-    ensures none { list_of (value_at w.now) dir.now ≡ [] → steps.new.count ≡ steps.old.count }
+    ensures none { list_of w.now.groups (value_at w.now) dir.now ≡ [] → steps.new.count ≡ steps.old.count }
 {
     view_of(w, dir).get_counted(key, steps)
 }
@@ -98,10 +100,10 @@ pub fn look_up_counted<'a, K: Ord, V, const S: usize>(
 /// How many pairs the list of a version has: [`VersionView::len`].
 pub fn len<K: Ord, V, const S: usize>(
     w: &World<Item<K, V, S>, NoJob>,
-    dir: &Directory<K, Kept>,
+    dir: &Directory<K, Group>,
 ) -> usize
-    requires { IsVersion K.cmp (value_at w.now) dir.now }
-    ensures { result ≡ length (list_of (value_at w.now) dir.now) }
+    requires { IsVersion K.cmp w.now.groups (value_at w.now) dir.now }
+    ensures { result ≡ length (list_of w.now.groups (value_at w.now) dir.now) }
 {
     view_of(w, dir).len()
 }
@@ -109,13 +111,13 @@ pub fn len<K: Ord, V, const S: usize>(
 /// A cursor over the list of a version within two bounds: [`VersionView::walk`].
 pub fn walk<'a, K: Ord, V, const S: usize>(
     w: &'a World<Item<K, V, S>, NoJob>,
-    dir: &'a Directory<K, Kept>,
+    dir: &'a Directory<K, Group>,
     lower: Bound<&'a K>,
     upper: Bound<&'a K>,
 ) -> LocalWalk<'a, K, V, S>
-    requires { IsVersion K.cmp (value_at w.now) dir.now }
-    ensures countable { length (list_of (value_at w.now) dir.now) < 2 ^ 64 }
-    ensures cursor { result ≡ cursor_within (list_of (value_at w.now) dir.now) lower.entry upper.entry }
+    requires { IsVersion K.cmp w.now.groups (value_at w.now) dir.now }
+    ensures countable { length (list_of w.now.groups (value_at w.now) dir.now) < 2 ^ 64 }
+    ensures cursor { result ≡ cursor_within (list_of w.now.groups (value_at w.now) dir.now) lower.entry upper.entry }
 {
     let version = view_of(w, dir);
     version.laws();
@@ -125,11 +127,11 @@ pub fn walk<'a, K: Ord, V, const S: usize>(
 /// Where a key is among the pairs of a version: [`VersionView::locate`].
 pub fn locate<'a, K: Ord, V, const S: usize>(
     w: &'a World<Item<K, V, S>, NoJob>,
-    dir: &'a Directory<K, Kept>,
+    dir: &'a Directory<K, Group>,
     key: &K,
 ) -> LocalNearby<'a, K, V, S>
-    requires { IsVersion K.cmp (value_at w.now) dir.now }
-    ensures { IsLocated K.cmp key.now (list_of (value_at w.now) dir.now) (as_proximity result) }
+    requires { IsVersion K.cmp w.now.groups (value_at w.now) dir.now }
+    ensures { IsLocated K.cmp key.now (list_of w.now.groups (value_at w.now) dir.now) (as_proximity result) }
 {
     view_of(w, dir).locate(key)
 }

@@ -1,27 +1,24 @@
 -- Places in which versions are placed one by one, where owners can't run out.
-use Rattle.std.proofs.Common.{◌≡◌, ℕ, ◌+◌, ◌<◌, ◌≤◌, Some, None, List, [], ◌∷◌, ◌++◌, length, replicate, refl, sym, ap, ◌∙◌, arith, subst, Option}
+use Rattle.std.proofs.Common.{◌≡◌, ℕ, ◌+◌, ◌<◌, ◌≤◌, None, Some, List, [], ◌∷◌, ◌++◌, length, replicate, refl, sym, ap, ◌∙◌, arith, subst}
 use Rattle.std.proofs.lemmas.List.{length-append, length-replicate}
 use Rattle.std.proofs.lemmas.List.Sums.{sum_by-append, sum_by-cons}
 use Rattle.std.specs.declared.cmp.Ordering.{Ordering}
-use Rattle.std.specs.List.{All}
 use Rattle.sdd_world.specs.Counting.{Counted, OwnersAreCounted, same_hold, tally}
 use Rattle.sdd_world.specs.Holding.{Hold, SharedItem, OwnerGroup}
-use Rattle.sdd_world.specs.Place.{IsPlace, IsShared}
+use Rattle.sdd_world.specs.Place.{IsShared}
 use Rattle.sdd_world.specs.Steps.{released}
-use Rattle.sdd_world.specs.State.{State, fresh, value_at, with_cell}
-use Rattle.sdd_world.specs.declared.owner.Kept.{Kept}
+use Rattle.sdd_world.specs.State.{State, fresh, with_cell}
 use Rattle.sdd_world.specs.declared.sizes.Sizes.{Sizes}
 use Rattle.sdd_world.specs.declared.status.Cell.{Cell}
 use Rattle.sdd_world.specs.declared.status.Cell.TheVariants as cell
 use Rattle.sdd_world.specs.declared.status.Status.TheVariants as status
 use Rattle.sdd_world.proofs.CountLemmas.{owners_are_counted}
+use Rattle.sdd_world.proofs.GroupLemmas.{grown_rows}
 use Rattle.sdd_world.proofs.PlaceLemmas.{get_or-replicate_default}
-use Rattle.version_views.specs.Items.{held_by, slots_of}
-use Rattle.local_versions.specs.Placing.{CanBeShared, HasVersion, IsLevelled, Places, Plan}
-use Rattle.version_views.specs.declared.directory.Directory.{Directory}
+use Rattle.version_views.specs.Items.{held_by}
+use Rattle.local_versions.specs.Placing.{HasVersion, IsLevelled, IsSettled, Places}
+use Rattle.local_versions.specs.Staying.{Leaves}
 use Rattle.version_views.specs.declared.item.Item.{Item}
-use Rattle.version_views.specs.declared.item.Item.TheVariants as items
-use Rattle.local_versions.proofs.SharingLemmas.{segments_can_be_shared}
 
 module _ {K V : Type 0} {s : ℕ} where
   -- these owners are in hand, and there are at most n slots and cells
@@ -36,6 +33,7 @@ module _ {K V : Type 0} {s : ℕ} where
     counted = (owners_are_counted held_by).fresh n;
     levelled = record {
       flat = λ i d is. absurd (none_some (sym (get_or-replicate_default (n.slots + n.jobs) i None) ∙ is));
+      rows = λ i d is. absurd (none_some (sym (get_or-replicate_default (n.slots + n.jobs) i None) ∙ is));
       once = λ i d is. absurd (none_some (sym (get_or-replicate_default (n.slots + n.jobs) i None) ∙ is));
     };
     few =
@@ -54,8 +52,8 @@ module _ {K V : Type 0} {s : ℕ} where
   settled_new n w is = subst (λ (u : State (Item K V s)). Settled [] (n.slots + n.jobs + n.cells) u) (sym is) (settled_fresh n)
 
   -- a version is placed
-  pub settled_placed : (cmp : K → K → Ordering) (hand : List Hold) (n : ℕ) {older : Option ℕ} (plan : Plan K V s) (slot : ℕ) (w w' : State (Item K V s)) → Settled hand n w → Places cmp older plan slot w w' → Settled (SharedItem slot ∷ hand) n w'
-  settled_placed cmp hand n plan slot w w' settled made = record {
+  pub settled_placed : (cmp : K → K → Ordering) (hand : List Hold) (n count number : ℕ) (pairs : List (K × V)) (slot : ℕ) (w w' : State (Item K V s)) → Settled hand n w → Places cmp count number pairs slot w w' → Settled (SharedItem slot ∷ hand) n w'
+  settled_placed cmp hand n count number pairs slot w w' settled made = record {
     counted = made.counted hand settled.counted;
     levelled = made.adds.levelled hand settled.counted settled.levelled;
     few =
@@ -70,11 +68,26 @@ module _ {K V : Type 0} {s : ℕ} where
         omega (arith, sum, other, rest);
   }
 
-  -- the segments of a version that is there may be taken over
-  pub settled_shared : (cmp : K → K → Ordering) (hand : List Hold) (n : ℕ) (w : State (Item K V s)) → Settled hand n w → IsPlace w → length hand + n < 4294967295 → (i : ℕ) (d : Directory K Kept) → value_at w i ≡ Some (items.Directory d) → All (CanBeShared w) (slots_of d)
-  settled_shared cmp hand n w settled place few i d is =
-      let long = settled.few in
-      segments_can_be_shared cmp hand w settled.ungrouped settled.counted place settled.levelled (omega (arith, long, few)) i d is
+  -- owners can't run out in it
+  pub is_settled : (hand : List Hold) (n : ℕ) (w : State (Item K V s)) → Settled hand n w → 8 + length hand + n < 4294967295 → IsSettled w
+  is_settled hand n w settled few = record {
+    hand = hand;
+    counted = settled.counted;
+    ungrouped = settled.ungrouped;
+    levelled = settled.levelled;
+    few = (let long = settled.few in omega (arith, long, few));
+  }
+
+  -- where a version is placed, the others stay
+  pub placed_leaves : (cmp : K → K → Ordering) (hand : List Hold) (n count number : ℕ) (pairs : List (K × V)) (slot : ℕ) (w w' : State (Item K V s)) → Settled hand n w → Places cmp count number pairs slot w w' → Leaves w w'
+  placed_leaves cmp hand n count number pairs slot w w' settled made = record {
+    before = hand;
+    counted = settled.counted;
+    after = SharedItem slot ∷ hand;
+    still = made.counted hand settled.counted;
+    keeps = made.adds.keeps;
+    rows = grown_rows w.groups w'.groups made.adds.groups;
+  }
 
   -- a version stays where a cell changes
   pub version_with_cell : (cmp : K → K → Ordering) (c : ℕ) (kept : Cell) (slot number : ℕ) (pairs : List (K × V)) (w w' : State (Item K V s)) → w' ≡ with_cell c kept w → HasVersion cmp w slot number pairs → HasVersion cmp w' slot number pairs

@@ -1,151 +1,75 @@
 //! Drafts by example, and against plain lists.
 
-ghost use Rattle.std.specs.Prelude.{◌≡◌, ◌≤◌, ◌++◌, IfOk, OnOk, length, map};
-ghost use Rattle.std.specs.Ordering.{nat_cmp};
-ghost use Rattle.version_views.specs.Cuts.{IsCut, pairs_in};
-ghost use Rattle.version_drafts.specs.Parts.{blocks_of_parts, part_blocks};
-ghost use Rattle.version_tests.specs.Alone.{IsAlone, blocks_alone, pairs_alone};
+ghost use Rattle.std.specs.Prelude.{◌≡◌, ◌≤◌, ◌<◌, ◌+◌};
 
 use crate::plain::following;
 use local_versions::Reply::{Absent, Cleared, Duplicate, Inserted, RangeRemoved, Upserted};
 use local_versions::Write::{Clear, Insert, Remove, RemoveRange, Upsert};
-use local_versions::draft::{Part, Segments, drafted};
-use local_versions::{Directory, Reply, Segment, Trees, VersionView, Write, plain};
+use local_versions::{LocalStore, LocalView, Reply, Write, plain};
 use std::alloc::{AllocError, Global};
 use std::ops::Bound;
-use std::process::Abort;
 use std::test::Fail;
-use tree_index::TreeIndex;
 
-// Lends the segments that a directory owns itself.
+// What writes leave: the pairs, the replies, how many segments they made, and whether all segments are cut as they should be.
 #[derive(Drop)]
-struct Own {}
-
-impl Trees<u64, u64> for Own {
-    type Owner = Segment<u64, u64>;
-
-    ghost has = { λ _ _. Unit {0} };
-
-    ghost pairs = { λ _ s. s.pairs };
-
-    fn tree<'a>(&'a self, at: &'a Segment<u64, u64>) -> &'a TreeIndex<u64, u64> {
-        at.tree()
-    }
+struct Made {
+    pairs: Vec<(u64, u64)>,
+    replies: Vec<Reply>,
+    fresh: usize,
+    is_cut: bool,
 }
 
-// A version that owns its segments.
-type Alone = Directory<u64, Segment<u64, u64>>;
-
-// No segment.
-fn none<const S: usize>(alloc: Global) -> Alone
-    ensures { IsAlone S result }
-{
-    Directory::new(0, 0, Vec::new(alloc), Vec::new(alloc))
-}
-
-// The segments that a draft made of a version, with clones of those that it takes over.
-fn settled<const S: usize>(
-    alloc: Global,
-    old: &Alone,
-    made: Segments<u64, u64>,
-) -> Result<Alone, AllocError>
-    requires cut { IsCut nat_cmp S (blocks_of_parts (blocks_alone old.now) made.parts.items) made.separators.items }
-    requires counted { made.length ≡ length (pairs_in (blocks_of_parts (blocks_alone old.now) made.parts.items)) }
-    ensures { IfOk result (IsAlone S) }
-{
-    let Segments {
-        parts,
-        separators,
-        length,
-    } = made;
-    let mut segments = Vec::new(alloc);
-    for part in parts {
-        put(alloc, old, part, &mut segments)?;
-    }
-    Ok(Directory::new(0, length, segments, separators))
-}
-
-// Puts the segments of a part behind others.
-fn put(
-    alloc: Global,
-    old: &Alone,
-    part: Part<u64, u64>,
-    into: &mut Vec<Segment<u64, u64>>,
-) -> Result<(), AllocError>
-    ensures { OnOk result (map pairs_alone into.new.items ≡ map pairs_alone into.old.items ++ part_blocks (blocks_alone old.now) part) }
-{
-    match part {
-        Part::Taken { from, upto } => {
-            for place in from..upto {
-                match old.owners().get(place) {
-                    Some(segment) => into.push(copied(alloc, segment)?)?,
-                    None => return Err(AllocError),
-                }
-            }
-        },
-        Part::Made(segment) => into.push(segment)?,
-    }
-    Ok(())
-}
-
-// A clone of a segment.
-fn copied(alloc: Global, segment: &Segment<u64, u64>) -> Result<Segment<u64, u64>, AllocError>
-    ensures { IfOk result (λ copy. copy.pairs ≡ segment.now.pairs) }
-{
-    let tree = segment.tree();
-    if tree.len() > 225 {
-        return Err(AllocError);
-    }
-    Segment::copied(alloc, tree)
-}
-
-// What writes make of a version.
+// Makes writes on the present version.
 fn written<const S: usize>(
     alloc: Global,
-    old: &Alone,
+    store: &mut LocalStore<u64, u64, S>,
     writes: &[Write<u64, u64>],
-) -> Result<(Segments<u64, u64>, Vec<Reply>), AllocError>
+) -> Result<Made, AllocError>
     requires size { (1 ≤ S) × (S ≤ 225) }
-    requires whole { IsAlone S old.now }
-    ensures cut { IfOk result (λ made. IsCut nat_cmp S (blocks_of_parts (blocks_alone old.now) made.0.parts.items) made.0.separators.items) }
-    ensures counted { IfOk result (λ made. made.0.length ≡ length (pairs_in (blocks_of_parts (blocks_alone old.now) made.0.parts.items))) }
+    requires last { store.old.present.number < 1000 }
+    ensures { store.new.present.number ≤ store.old.present.number + 1 }
 {
-    let own = Own {};
-    drafted::<u64, u64, Own, S>(alloc, &VersionView::new(&own, old), writes)
+    let before = store.slots_in_use();
+    let Ok(replies) = store.write(alloc, writes) else {
+        return Err(AllocError);
+    };
+    // its directory takes a slot too
+    let fresh = store
+        .slots_in_use()
+        .saturating_sub(before.saturating_add(1));
+    store.reclaim();
+    let version = store.present();
+    Ok(Made {
+        pairs: pairs_of(alloc, &version)?,
+        replies,
+        fresh,
+        is_cut: is_cut(&version, S),
+    })
 }
 
-// The pairs of a row of segments.
-fn pairs_of(alloc: Global, segments: &[Segment<u64, u64>]) -> Result<Vec<(u64, u64)>, AllocError> {
+// The pairs of a version.
+fn pairs_of<const S: usize>(
+    alloc: Global,
+    version: &LocalView<'_, u64, u64, S>,
+) -> Result<Vec<(u64, u64)>, AllocError> {
     let mut pairs = Vec::new(alloc);
-    for segment in segments {
-        for (key, value) in segment.tree().iter() {
+    for place in 0..version.segment_count() {
+        for (key, value) in version.segment(place).iter() {
             pairs.push((*key, *value))?;
         }
     }
     Ok(pairs)
 }
 
-// How many segments a draft made.
-fn fresh_in(made: &Segments<u64, u64>) -> usize {
-    let mut fresh = 0usize;
-    for part in &made.parts {
-        if let Part::Made(_) = part {
-            fresh = fresh.saturating_add(1);
-        }
-    }
-    fresh
-}
-
-// Whether segments are cut as they should be: by their sizes and by what separates them.
-fn is_cut(kept: &Alone, size: usize) -> bool {
+// Whether segments are cut as they should be: by their sizes and by their greatest keys.
+fn is_cut<const S: usize>(version: &LocalView<'_, u64, u64, S>, size: usize) -> bool {
     let mut before = size;
-    for (i, segment) in kept.owners().iter().enumerate() {
-        let last = i.saturating_add(1) == kept.segments();
-        let wanted = match segment.tree().iter().next_back() {
-            Some((key, _)) => { if last { None } else { Some(*key) } },
-            None => return false,
+    for place in 0..version.segment_count() {
+        let segment = version.segment(place);
+        let Some((last, _)) = segment.iter().next_back() else {
+            return false;
         };
-        if kept.separators().get(i).copied() != wanted {
+        if version.greatest_at(place) != Some(last) {
             return false;
         }
         if segment.len() > size || before.saturating_add(segment.len()) <= size {
@@ -202,8 +126,36 @@ fn writes_by(
     Ok(writes)
 }
 
-// Whether drafts of random writes, over what writes before them left, are cut, make few segments, and answer as plain lists
-// do.
+// Whether random writes, over what writes before them left, are cut, make few segments, and answer as plain lists do.
+fn agrees_in<const S: usize>(
+    alloc: Global,
+    store: &mut LocalStore<u64, u64, S>,
+    start: u64,
+    mask: u64,
+    most: u64,
+) -> Result<bool, AllocError>
+    requires size { (1 ≤ S) × (S ≤ 225) }
+    requires first { store.old.present.number ≡ 0 }
+{
+    let mut seed = start;
+    let mut pairs: Vec<(u64, u64)> = Vec::new(alloc);
+    for _ in 0..60u32 {
+        seed = following(seed);
+        let writes = writes_by(alloc, seed, mask, most)?;
+        let made = written::<S>(alloc, store, writes.as_slice())?;
+        let (list, told) = plain::applied(alloc, pairs.as_slice(), writes.as_slice())?;
+        if made.pairs.as_slice() != list.as_slice() || made.replies.as_slice() != told.as_slice() {
+            return Ok(false);
+        }
+        if made.fresh > writes.len().saturating_mul(2) || !made.is_cut {
+            return Ok(false);
+        }
+        pairs = list;
+    }
+    Ok(true)
+}
+
+// The same in a store of its own.
 fn agrees<const S: usize>(
     alloc: Global,
     start: u64,
@@ -212,29 +164,12 @@ fn agrees<const S: usize>(
 ) -> Result<bool, AllocError>
     requires { (1 ≤ S) × (S ≤ 225) }
 {
-    let mut seed = start;
-    let mut old = none::<S>(alloc);
-    let mut pairs: Vec<(u64, u64)> = Vec::new(alloc);
-    for _ in 0..60u32 {
-        seed = following(seed);
-        let writes = writes_by(alloc, seed, mask, most)?;
-        let (made, replies) = written::<S>(alloc, &old, writes.as_slice())?;
-        let (list, told) = plain::applied(alloc, pairs.as_slice(), writes.as_slice())?;
-        if made.length != list.len() || replies.as_slice() != told.as_slice() {
-            return Ok(false);
-        }
-        if fresh_in(&made) > writes.len().saturating_mul(2) {
-            return Ok(false);
-        }
-        let next = settled::<S>(alloc, &old, made)?;
-        let found = pairs_of(alloc, next.owners())?;
-        if found.as_slice() != list.as_slice() || !is_cut(&next, S) {
-            return Ok(false);
-        }
-        old = next;
-        pairs = list;
-    }
-    Ok(true)
+    let mut store = LocalStore::<u64, u64, S>::new(alloc, 0, 4096)?;
+    let agree = agrees_in::<S>(alloc, &mut store, start, mask, most);
+    store.close_all();
+    store.reclaim();
+    store.end();
+    agree
 }
 
 // The same with segments of each size.
@@ -269,16 +204,29 @@ type Row = (
 );
 
 // Whether writes on a list that others left of none do what is wanted.
-fn does(alloc: Global, before: &[Write<u64, u64>], row: Row) -> Result<bool, AllocError> {
+fn does_in(
+    alloc: Global,
+    store: &mut LocalStore<u64, u64, 1>,
+    before: &[Write<u64, u64>],
+    row: Row,
+) -> Result<bool, AllocError>
+    requires { store.old.present.number ≡ 0 }
+{
     let (writes, told, pairs, count) = row;
-    let empty = none::<1>(alloc);
-    let (made, _) = written::<1>(alloc, &empty, before)?;
-    let old = settled::<1>(alloc, &empty, made)?;
-    let (made, replies) = written::<1>(alloc, &old, writes)?;
-    let fresh = fresh_in(&made);
-    let next = settled::<1>(alloc, &old, made)?;
-    let left = pairs_of(alloc, next.owners())?;
-    Ok(left.as_slice() == pairs && replies.as_slice() == told && fresh == count)
+    let _before = written::<1>(alloc, store, before)?;
+    let made = written::<1>(alloc, store, writes)?;
+    let is_left = made.pairs.as_slice() == pairs && made.is_cut;
+    Ok(is_left && made.replies.as_slice() == told && made.fresh == count)
+}
+
+// The same in a store of its own.
+fn does(alloc: Global, before: &[Write<u64, u64>], row: Row) -> Result<bool, AllocError> {
+    let mut store = LocalStore::<u64, u64, 1>::new(alloc, 0, 100)?;
+    let done = does_in(alloc, &mut store, before, row);
+    store.close_all();
+    store.reclaim();
+    store.end();
+    done
 }
 
 const BEFORE: &[Write<u64, u64>] = &[Insert(1, 1), Insert(3, 3), Insert(5, 5), Insert(7, 7)];

@@ -44,8 +44,8 @@ fn numbers(alloc: Global, count: u64) -> Result<Vec<(u64, u64)>, AllocError> {
     Ok(pairs)
 }
 
-// The sizes of the segments that a list is cut into, 0 for one that isn't new, and what separates them. None where a pair is
-// another one than it was, or where keys don't rise.
+// The sizes of the segments that a list is cut into, 0 for one that isn't new, and the keys of its rows, which separate them.
+// None where a pair is another one than it was, or where keys don't rise.
 fn cut<const S: usize>(
     alloc: Global,
     pairs: &[(u64, u64)],
@@ -74,7 +74,13 @@ fn cut<const S: usize>(
     if at != pairs.len() || made.length != at {
         return Ok(None);
     }
-    Ok(Some((sizes, made.separators)))
+    let mut keys = Vec::new(alloc);
+    for row in build_list::<u64, u64, S>(alloc, pairs)?.rows() {
+        for key in row.keys() {
+            keys.push(*key)?;
+        }
+    }
+    Ok(Some((sizes, keys)))
 }
 
 // Whether a list is cut into segments of these sizes, which these keys separate.

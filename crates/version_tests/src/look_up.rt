@@ -7,8 +7,8 @@ ghost use Rattle.version_views.specs.Versions.{IsVersion};
 
 use crate::places::{end, prepared};
 use local_versions::{Directory, Item, Write, look_up, look_up_counted, version};
+use sdd_world::groups::Group;
 use sdd_world::job::NoJob;
-use sdd_world::owner::Kept;
 use sdd_world::world::World;
 use std::alloc::{AllocError, Global};
 use std::cell::Cell;
@@ -127,10 +127,10 @@ fn upserts<R: Abort>(rt: &R, alloc: Global, last: u64) -> Vec<Write<CountedKey, 
 // The values that both look-ups of a number find, the comparisons that the counted one made, and those that both made.
 fn looked_up<const S: usize>(
     w: &World<Item<CountedKey, u64, S>, NoJob>,
-    dir: &Directory<CountedKey, Kept>,
+    dir: &Directory<CountedKey, Group>,
     number: u64,
 ) -> ([Option<u64>; 2], u64, u64)
-    requires { IsVersion nat_cmp (value_at w.now) dir.now }
+    requires { IsVersion nat_cmp w.now.groups (value_at w.now) dir.now }
 {
     let mut steps = Steps::new();
     let key = CountedKey::new(number);
@@ -145,11 +145,11 @@ fn looked_up<const S: usize>(
 fn look_up_all<R: Abort, const S: usize>(
     rt: &R,
     w: &World<Item<CountedKey, u64, S>, NoJob>,
-    dir: &Directory<CountedKey, Kept>,
+    dir: &Directory<CountedKey, Group>,
     last: u64,
     most: u64,
 )
-    requires { IsVersion nat_cmp (value_at w.now) dir.now }
+    requires { IsVersion nat_cmp w.now.groups (value_at w.now) dir.now }
 {
     let mut right = 0u64;
     for number in 0..=last.saturating_add(1) {

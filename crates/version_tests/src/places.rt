@@ -9,7 +9,7 @@ ghost use Rattle.sdd_world.specs.Tokens.{shared_slot};
 ghost use Rattle.version_views.specs.Items.{held_by};
 ghost use Rattle.local_versions.specs.Placing.{HasVersion};
 
-use local_versions::{Built, Item, Write, build, place, version};
+use local_versions::{Built, Item, PlaceRefused, Write, build, place, version};
 use sdd_world::holds::Holds;
 use sdd_world::job::NoJob;
 use sdd_world::owner::Shared;
@@ -53,16 +53,15 @@ pub(crate) fn prepared<R: Abort, K: Clone + Ord + Drop, const S: usize>(
         Ok(w) => w,
         Err(_) => panic!(rt; "no room for a place"),
     };
-    let none = match place(&mut w, Built::empty(alloc), None) {
+    let none = match place(alloc, &mut w, Built::empty(alloc), None) {
         Ok(none) => none,
         Err(_) => panic!(rt; "no slot for the empty version"),
     };
-    w.laws();
     let (built, _) = match build(alloc, &w, version(&w, &none), writes) {
         Ok(made) => made,
         Err(_) => panic!(rt; "no room for a version"),
     };
-    let root = match place(&mut w, built, Some(shared::owned_at(&none))) {
+    let root = match place(alloc, &mut w, built, Some(shared::owned_at(&none))) {
         Ok(root) => root,
         Err(_) => panic!(rt; "no slots for a version"),
     };
@@ -102,7 +101,10 @@ pub(crate) fn upserts<R: Abort>(
 }
 
 // The owner of a version that was placed.
-pub(crate) fn placed<R: Abort>(rt: &R, made: Result<Shared<Two>, Built<u64, u64, 2>>) -> Shared<Two>
+pub(crate) fn placed<R: Abort>(
+    rt: &R,
+    made: Result<Shared<Two>, PlaceRefused<u64, u64, 2>>,
+) -> Shared<Two>
     ensures { made ≡ Ok result }
 {
     match made {

@@ -7,14 +7,17 @@ ghost use Rattle.sdd_world.specs.Place.{IsShared};
 ghost use Rattle.sdd_world.specs.State.{value_at};
 ghost use Rattle.sdd_world.specs.Tokens.{shared_slot};
 ghost use Rattle.std.specs.Ordering.{nat_cmp};
-ghost use Rattle.local_versions.specs.Placing.{IsPlaceable};
+ghost use Rattle.local_versions.specs.Placing.{IsPlaceable, IsSettled};
 ghost use Rattle.version_views.specs.Items.{held_by};
 ghost use Rattle.version_views.specs.Versions.{IsVersion};
 
 use crate::places::{Two, close, placed, upserts};
-use local_versions::{Built, Directory, Reply, build, len, look_up, place, publish, version};
+use local_versions::{
+    Built, Directory, PlaceRefused, Reply, build, len, look_up, place, publish, version,
+};
+use sdd_world::groups::Group;
 use sdd_world::job::NoJob;
-use sdd_world::owner::{Kept, Shared};
+use sdd_world::owner::Shared;
 use sdd_world::sizes::Sizes;
 use sdd_world::world::{World, atomic_shared, guard, shared};
 use std::alloc::Global;
@@ -48,8 +51,8 @@ fn passes(w: &mut World<Two, NoJob>, n: usize)
 }
 
 // How many pairs a version has, and the values of four keys.
-fn found(w: &World<Two, NoJob>, dir: &Directory<u64, Kept>) -> (usize, [Option<u64>; 4])
-    requires { IsVersion nat_cmp (value_at w.now) dir.now }
+fn found(w: &World<Two, NoJob>, dir: &Directory<u64, Group>) -> (usize, [Option<u64>; 4])
+    requires { IsVersion nat_cmp w.now.groups (value_at w.now) dir.now }
 {
     let one = look_up(w, dir, &1).map(|p| *p.1);
     let three = look_up(w, dir, &3).map(|p| *p.1);
@@ -74,6 +77,7 @@ fn begin<R: Abort>(rt: &R, alloc: Global, slots: usize) -> Begun
     requires { slots ≤ 1000 }
     ensures participants { length result.w.participants ≡ 1 }
     ensures shared { IsShared result.w (shared_slot result.first) }
+    ensures settled { IsSettled result.w }
     ensures placeable { IsPlaceable nat_cmp result.w (Some (shared_slot result.first)) result.built }
     ensures counted { Counted held_by (SharedItem (shared_slot result.first) ∷ []) result.w }
 {
@@ -81,10 +85,9 @@ fn begin<R: Abort>(rt: &R, alloc: Global, slots: usize) -> Begun
         Ok(w) => w,
         Err(_) => panic!(rt; "no room for a place"),
     };
-    let first = placed(rt, place(&mut w, Built::empty(alloc), None));
+    let first = placed(rt, place(alloc, &mut w, Built::empty(alloc), None));
     let empty = (w.slots_in_use(), len(&w, version(&w, &first)));
     let writes = upserts(rt, alloc, FIVE);
-    w.laws();
     let (built, replies) = match build(alloc, &w, version(&w, &first), writes.as_slice()) {
         Ok(made) => made,
         Err(_) => panic!(rt; "no room for a version"),
@@ -109,7 +112,7 @@ fn a_version_takes_a_slot_for_each_segment_and_one(rt: HostRuntime) {
     } = begin(&rt, rt.alloc(), 16);
     let takes = built.slots();
     let older = shared::owned_at(&first);
-    let second = placed(&rt, place(&mut w, built, Some(older)));
+    let second = placed(&rt, place(rt.alloc(), &mut w, built, Some(older)));
     let root = match atomic_shared::from(&mut w, first) {
         Ok(root) => root,
         Err(_) => panic!(rt; "no cell for the root"),
@@ -141,9 +144,9 @@ fn a_version_that_finds_no_room_comes_back(rt: HostRuntime) {
         replies: _,
         empty: _,
     } = begin(&rt, rt.alloc(), 4);
-    let back = match place(&mut w, built, Some(shared::owned_at(&first))) {
-        Ok(_) => panic!(rt; "there is room for it"),
-        Err(back) => back.slots(),
+    let back = match place(rt.alloc(), &mut w, built, Some(shared::owned_at(&first))) {
+        Err(PlaceRefused::NoSlot(back)) => back.slots(),
+        _ => panic!(rt; "there is no room for it"),
     };
     let before = w.slots_in_use();
     let is_last = shared::release(&mut w, first, 0);

@@ -7,9 +7,8 @@ ghost use Rattle.sdd_world.specs.Holding.{Hold, SharedIn, SharedItem};
 ghost use Rattle.sdd_world.specs.Place.{IsOpen};
 ghost use Rattle.sdd_world.specs.State.{value_at};
 ghost use Rattle.sdd_world.specs.Tokens.{guard_participant, shared_cell, shared_slot};
-ghost use Rattle.std.specs.List.{All};
-ghost use Rattle.version_views.specs.Items.{held_by, slots_of};
-ghost use Rattle.local_versions.specs.Placing.{CanBeShared, IsPlaceableBeside};
+ghost use Rattle.version_views.specs.Items.{held_by};
+ghost use Rattle.local_versions.specs.Placing.{IsPlaceableBeside, number_of};
 ghost use Rattle.version_views.specs.Versions.{IsVersion};
 
 use crate::places::{Two, close, placed, upserts};
@@ -19,9 +18,10 @@ use local_versions::{Built, Directory, Write, build, place, publish, version};
 use sdd_steps::Step;
 use sdd_world::cell::AtomicShared;
 use sdd_world::epoch::Epoch;
+use sdd_world::groups::Group;
 use sdd_world::guard::WorldGuard;
 use sdd_world::job::NoJob;
-use sdd_world::owner::{Kept, Shared};
+use sdd_world::owner::Shared;
 use sdd_world::pointer::Ptr;
 use sdd_world::sizes::Sizes;
 use sdd_world::world::{World, atomic_shared, guard, shared};
@@ -134,13 +134,13 @@ fn built<R: Abort>(
     rt: &R,
     alloc: Global,
     w: &World<Two, NoJob>,
-    dir: &Directory<u64, Kept>,
+    dir: &Directory<u64, Group>,
     writes: &[Write<u64, u64>],
 ) -> Built<u64, u64, 2>
-    requires version { IsVersion nat_cmp (value_at w.now) dir.now }
+    requires version { IsVersion nat_cmp w.now.groups (value_at w.now) dir.now }
     requires last { dir.now.number < 2 ^ 64 - 1 }
-    ensures number { result.number ≡ dir.now.number + 1 }
-    ensures placeable { All (CanBeShared w.now) (slots_of dir.now) → IsPlaceableBeside nat_cmp w.now dir.now result }
+    ensures number { number_of result ≡ dir.now.number + 1 }
+    ensures placeable { IsPlaceableBeside nat_cmp w.now dir.now result }
 {
     match build(alloc, w, dir, writes) {
         Ok((built, _)) => built,
@@ -162,14 +162,18 @@ fn begin<R: Abort>(rt: &R, alloc: Global) -> Begun
         Ok(w) => w,
         Err(_) => panic!(rt; "no room for a place"),
     };
-    let empty = placed(rt, place(&mut w, Built::empty(alloc), None));
+    let empty = placed(rt, place(alloc, &mut w, Built::empty(alloc), None));
     let writes = upserts(rt, alloc, &[(1, 10), (2, 20), (3, 30)]);
-    w.laws();
     let one = built(rt, alloc, &w, version(&w, &empty), writes.as_slice());
-    let first = placed(rt, place(&mut w, one, Some(shared::owned_at(&empty))));
-    w.laws();
+    let first = placed(
+        rt,
+        place(alloc, &mut w, one, Some(shared::owned_at(&empty))),
+    );
     let two = built(rt, alloc, &w, version(&w, &first), &[Write::Upsert(4, 40)]);
-    let second = placed(rt, place(&mut w, two, Some(shared::owned_at(&first))));
+    let second = placed(
+        rt,
+        place(alloc, &mut w, two, Some(shared::owned_at(&first))),
+    );
     let _ = shared::release(&mut w, empty, WRITER);
     let root = match atomic_shared::from(&mut w, first) {
         Ok(root) => root,

@@ -8,8 +8,8 @@ ghost use Rattle.version_views.specs.Versions.{IsVersion};
 use crate::places::{end, prepared, upserts};
 use crate::plain::{Call, Pair, Plain, Told, following};
 use local_versions::{Directory, Item, LocalNearby, LocalWalk, Nearby, locate, version, walk};
+use sdd_world::groups::Group;
 use sdd_world::job::NoJob;
-use sdd_world::owner::Kept;
 use sdd_world::world::World;
 use std::alloc::Global;
 use std::ops::Bound;
@@ -239,11 +239,11 @@ fn random_calls<const S: usize>(
 // Whether walks within random bounds answer as the plain machine.
 fn walks_agree<const S: usize>(
     w: &World<Item<u64, u64, S>, NoJob>,
-    dir: &Directory<u64, Kept>,
+    dir: &Directory<u64, Group>,
     pairs: &[(u64, u64)],
     start: u64,
 ) -> bool
-    requires { IsVersion nat_cmp (value_at w.now) dir.now }
+    requires { IsVersion nat_cmp w.now.groups (value_at w.now) dir.now }
 {
     let mut seed = start;
     let mut right = true;
@@ -275,11 +275,11 @@ fn random_calls_around<const S: usize>(
 // Whether walks from around each key answer as the plain machine.
 fn neighbours_agree<const S: usize>(
     w: &World<Item<u64, u64, S>, NoJob>,
-    dir: &Directory<u64, Kept>,
+    dir: &Directory<u64, Group>,
     pairs: &[(u64, u64)],
     start: u64,
 ) -> bool
-    requires { IsVersion nat_cmp (value_at w.now) dir.now }
+    requires { IsVersion nat_cmp w.now.groups (value_at w.now) dir.now }
 {
     let mut seed = start;
     let mut right = true;

@@ -7,10 +7,11 @@ ghost use Rattle.leaf_array.specs.Values.{ClonesAreSame};
 ghost use Rattle.sdd_world.specs.Frame.{IsLive};
 ghost use Rattle.sdd_world.specs.Passing.{slot_kept};
 ghost use Rattle.sdd_world.specs.State.{cell_at, value_at};
+ghost use Rattle.sdd_world.specs.Steps.{NoneOpen};
 ghost use Rattle.sdd_world.specs.Tokens.{shared_cell};
 ghost use Rattle.version_views.specs.Cuts.{pairs_in};
-ghost use Rattle.version_views.specs.Items.{slots_of};
-ghost use Rattle.local_versions.specs.Placing.{CanBeShared, StandsAlone, list_alone, slots_for};
+ghost use Rattle.local_versions.specs.Placing.{IsForSlots, IsSettled, StandsAlone, list_alone, number_of, slots_for};
+ghost use Rattle.local_versions.specs.Reclaiming.{IsRootless};
 ghost use Rattle.version_views.specs.Sizes.{IsStoreSized, room_for, segments_for};
 ghost use Rattle.local_versions.specs.Store.{Version, IsKeptHere, IsNamedBy, IsStore, LacksRoom, directory_version, fresh_store, gap, next_version, no_version, version_in};
 ghost use Rattle.version_views.specs.Versions.{IsVersion, list_of};
@@ -18,13 +19,13 @@ ghost use Rattle.version_views.specs.Writes.{after_writes, replies_to};
 ghost use Rattle.local_versions.specs.declared.store.readers.Opened.{Opened};
 
 use crate::built::{Built, build};
-use crate::placing::{place, publish};
+use crate::placing::{PlaceRefused, place, publish};
 use crate::reads::view_of;
 use crate::store::readers::{Opened, are_free, end_all, free_all, nearest, read_at};
 use crate::store::reclaiming::{PASSES, run_passes};
 use sdd_world::cell::AtomicShared;
+use sdd_world::groups::Group;
 use sdd_world::job::NoJob;
-use sdd_world::owner::Kept;
 use sdd_world::sizes::Sizes;
 use sdd_world::status::Cell;
 use sdd_world::tag::Tag;
@@ -94,7 +95,7 @@ impl<K: Clone + Ord, V: Clone, const S: usize> LocalStore<K, V, S> {
     ) -> Result<Self, StoreRefused>
         requires size { IsStoreSized readers slots S }
         requires alone { StandsAlone K.cmp built }
-        ensures holds { IfOk result (λ s. s ≡ fresh_store (record { number = built.number; pairs = list_alone built }) readers slots (slots_for built)) }
+        ensures holds { IfOk result (λ s. s ≡ fresh_store (record { number = number_of built; pairs = list_alone built }) readers slots (slots_for built)) }
         ensures full { IsErrOf result StoreRefused.NoSlot ↔ slots < slots_for built }
     {
         if slots < built.slots() {
@@ -116,7 +117,7 @@ impl<K: Clone + Ord, V: Clone, const S: usize> LocalStore<K, V, S> {
         requires size { IsStoreSized readers slots S }
         requires alone { StandsAlone K.cmp built }
         requires room { slots_for built ≤ slots }
-        ensures { IfOk result (λ s. s ≡ fresh_store (record { number = built.number; pairs = list_alone built }) readers slots (slots_for built)) }
+        ensures { IfOk result (λ s. s ≡ fresh_store (record { number = number_of built; pairs = list_alone built }) readers slots (slots_for built)) }
     {
         let mut free = Vec::with_capacity(alloc, readers)?;
         let mut places = Vec::with_capacity(alloc, readers)?;
@@ -133,11 +134,18 @@ impl<K: Clone + Ord, V: Clone, const S: usize> LocalStore<K, V, S> {
                 return Err(refused);
             },
         };
-        free_all(&mut places, &mut free, readers);
-        let version = match place(&mut world, built, None) {
+        let placed = place(alloc, &mut world, built, None);
+        world.laws();
+        let version = match placed {
             Ok(version) => version,
-            Err(_) => unreachable!(),
+            // as many slots as it takes are free, so memory was refused
+            Err(_) => {
+                places.destroy_empty();
+                end_unused(world);
+                return Err(AllocError);
+            }
         };
+        free_all(&mut places, &mut free, readers);
         let root = match atomic_shared::from(&mut world, version) {
             Ok(root) => root,
             Err(_) => unreachable!(),
@@ -255,11 +263,12 @@ impl<K: Clone + Ord, V: Clone, const S: usize> LocalStore<K, V, S> {
         // what is asked here tells the proof how few slots a version takes
         let _slots = built.slots();
         let at = atomic_shared::kept_at(&self.world, &self.root);
-        let version = match place(&mut self.world, built, Some(at)) {
-            Ok(version) => version,
-            Err(_built) => return Err(WriteRefused::NoSlot),
-        };
+        let placed = place(alloc, &mut self.world, built, Some(at));
         self.world.laws();
+        let version = match placed {
+            Ok(version) => version,
+            Err(refused) => return Err(why(refused)),
+        };
         publish(&mut self.world, &self.root, version, self.readers.len());
         Ok(replies)
     }
@@ -374,15 +383,36 @@ impl<K: Clone + Ord, V: Clone, const S: usize> LocalStore<K, V, S> {
     }
 }
 
+/// Why writes are refused whose version isn't placed. It is let go.
+fn why<K: Ord + Drop, V: Drop, const S: usize>(refused: PlaceRefused<K, V, S>) -> WriteRefused
+    ensures { result ≡ WriteRefused.NoSlot → IsForSlots refused }
+{
+    match refused {
+        PlaceRefused::NoSlot(_) => WriteRefused::NoSlot,
+        PlaceRefused::Memory(_) => WriteRefused::Memory,
+    }
+}
+
+/// Ends a place in which no version is. Condition: no owner is outside, no cell is in use, and no guard is open.
+fn end_unused<K: Ord + Drop, V: Drop, const S: usize>(w: World<Item<K, V, S>, NoJob>)
+    requires rootless { IsRootless w }
+    requires closed { NoneOpen w }
+{
+    match w.close() {
+        Ok(()) => {},
+        Err(_) => unreachable!(),
+    }
+}
+
 /// The directory of the version that a root names.
 fn present<'w, K: Ord, V, const S: usize>(
     w: &'w World<Item<K, V, S>, NoJob>,
     root: &AtomicShared<Item<K, V, S>>,
-) -> &'w Directory<K, Kept>
+) -> &'w Directory<K, Group>
     requires { (readers : List (Option (Opened K V S))) × IsStore K.cmp w.now (shared_cell root.now) readers }
-    ensures version { IsVersion K.cmp (value_at w.now) result.now }
-    ensures is { directory_version (value_at w.now) result.now ≡ version_in w.now (slot_kept (cell_at w.now (shared_cell root.now))) }
-    ensures shared { All (CanBeShared w.now) (slots_of result.now) }
+    ensures version { IsVersion K.cmp w.now.groups (value_at w.now) result.now }
+    ensures is { directory_version w.now result.now ≡ version_in w.now (slot_kept (cell_at w.now (shared_cell root.now))) }
+    ensures settled { IsSettled w.now }
     ensures there { IsNamedBy w.now (shared_cell root.now) result.now }
 {
     match atomic_shared::as_ref(w, root) {

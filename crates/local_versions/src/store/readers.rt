@@ -9,9 +9,9 @@ ghost use Rattle.local_versions.specs.Store.{HasOpen, IsStore, HasVersionOpen, V
 ghost use Rattle.version_views.specs.Versions.{IsVersion, list_of};
 
 use crate::reads::version_at;
+use sdd_world::groups::Group;
 use sdd_world::guard::WorldGuard;
 use sdd_world::job::NoJob;
-use sdd_world::owner::Kept;
 use sdd_world::pointer::Loaded;
 use sdd_world::world::World;
 use version_views::{Directory, Item};
@@ -27,11 +27,11 @@ pub(crate) fn read_at<'w, K: Ord, V, const S: usize>(
     w: &'w World<Item<K, V, S>, NoJob>,
     readers: &[Option<Opened<K, V, S>>],
     place: usize,
-) -> &'w Directory<K, Kept>
+) -> &'w Directory<K, Group>
     requires store { (root : ℕ) × IsStore K.cmp w.now root readers.now }
     requires reader { (v : Version K V) × HasOpen w.now readers.now place v }
-    ensures version { IsVersion K.cmp (value_at w.now) result.now }
-    ensures is { (v : Version K V) → HasOpen w.now readers.now place v → list_of (value_at w.now) result.now ≡ v.pairs }
+    ensures version { IsVersion K.cmp w.now.groups (value_at w.now) result.now }
+    ensures is { (v : Version K V) → HasOpen w.now readers.now place v → list_of w.now.groups (value_at w.now) result.now ≡ v.pairs }
     ensures number { (v : Version K V) → HasOpen w.now readers.now place v → result.now.number ≡ v.number }
 {
     match &readers[place] {
@@ -45,13 +45,13 @@ pub(crate) fn nearest<'w, K: Ord, V, const S: usize>(
     w: &'w World<Item<K, V, S>, NoJob>,
     readers: &[Option<Opened<K, V, S>>],
     number: u64,
-) -> Option<&'w Directory<K, Kept>>
+) -> Option<&'w Directory<K, Group>>
     requires { (root : ℕ) × IsStore K.cmp w.now root readers.now }
-    ensures version { IfSome result (λ d. IsVersion K.cmp (value_at w.now) d.now) }
-    ensures reader { IfSome result (λ d. (place : ℕ) × HasOpen w.now readers.now place (directory_version (value_at w.now) d.now)) }
+    ensures version { IfSome result (λ d. IsVersion K.cmp w.now.groups (value_at w.now) d.now) }
+    ensures reader { IfSome result (λ d. (place : ℕ) × HasOpen w.now readers.now place (directory_version w.now d.now)) }
     ensures number { IfSome result (λ d. d.now.number ≤ number) }
 {
-    let mut found: Option<&'w Directory<K, Kept>> = None;
+    let mut found: Option<&'w Directory<K, Group>> = None;
     for place in 0..readers.len() {
         if let Some(opened) = &readers[place] {
             let version = seen(w, opened);
@@ -111,16 +111,16 @@ pub(crate) fn end_all<K: Ord, V, const S: usize>(mut readers: Vec<Option<Opened<
 fn seen<'w, K: Ord, V, const S: usize>(
     w: &'w World<Item<K, V, S>, NoJob>,
     opened: &Opened<K, V, S>,
-) -> &'w Directory<K, Kept>
+) -> &'w Directory<K, Group>
     requires { (p : ℕ) × HasVersionOpen K.cmp w.now p opened.now }
-    ensures version { IsVersion K.cmp (value_at w.now) result.now }
-    ensures is { record { number = result.now.number; pairs = list_of (value_at w.now) result.now } ≡ read_by w.now opened.now }
+    ensures version { IsVersion K.cmp w.now.groups (value_at w.now) result.now }
+    ensures is { record { number = result.now.number; pairs = list_of w.now.groups (value_at w.now) result.now } ≡ read_by w.now opened.now }
 {
     version_at(w, &opened.root)
 }
 
 /// Whether a version is later than another, if there is one.
-fn is_later<K>(version: &Directory<K, Kept>, found: Option<&Directory<K, Kept>>) -> bool
+fn is_later<K>(version: &Directory<K, Group>, found: Option<&Directory<K, Group>>) -> bool
     ensures { IsTrue result ↔ IfSome found.entry (λ f. f.now.number < version.now.number) }
 {
     match found {

@@ -1,44 +1,79 @@
-use Rattle.std.proofs.Common.{◌≡◌, ap, sym, refl, subst, arith}
+use Rattle.std.proofs.Common.{◌≡◌, length, map, refl, sym, ap, ◌∙◌, arith, subst}
+use Rattle.sdd_world.specs.State.{placed}
 use Rattle.sdd_world.specs.Tokens.{shared_slot}
-use Rattle.sdd_world.specs.State.{placed, value_at}
+use Rattle.sdd_world.specs.declared.groups.Group.{Group}
 use Rattle.sdd_world.specs.declared.status.Status.TheVariants as status
+use Rattle.version_views.specs.Items.{names_of, row_keys}
+use Rattle.version_views.specs.declared.directory.Directory.{Directory}
 use Rattle.version_views.specs.declared.item.Item.TheVariants as item
-use Rattle.version_drafts.specs.Parts.{made_in}
-use Rattle.version_views.specs.Versions.{segment_pairs}
-use Rattle.local_versions.specs.Placing.{IsPlaceable, Places, Plan, older_slot, slots_at}
-use Rattle.local_versions.proofs.PlacingLemmas.{no_vacancy, places_directory}
-use Rattle.local_versions.proofs.TakingLemmas.{taken_once}
+use Rattle.version_views.specs.declared.row.Row.{Row}
+use Rattle.version_drafts.specs.Drafts.{RoomsFit}
+use Rattle.version_drafts.specs.Shelves.{made_on_all, shelf_blocks}
+use Rattle.version_drafts.specs.declared.shelves.Shelf.{Shelf}
+use Rattle.local_versions.specs.Placing.{AreRowsOf, FitsIn, FitsWhole, StandOn, blocks_at, older_slot}
+use Rattle.local_versions.proofs.NamingLemmas.{named_placeable, named_settled, no_name}
+use Rattle.local_versions.proofs.PlacingLemmas.{keeps_refl, no_vacancy}
+use Rattle.local_versions.proofs.WholePlacingLemmas.{named_room, place_whole, rows_ready}
 use Rattle.local_versions.proofs.placing.place.Goals as goal
 
-pub place_parts-segments-requires : goal.place_parts-segments-requires
-place_parts-segments-requires g c =
-    let e = c.into_parts-number.ensures in
-    let room = c.if-free_slots-slots.false in
+pub place_rows-rows-requires : goal.place_rows-rows-requires
+place_rows-rows-requires g c =
+    let cmp = g.K.Ord.cmp in
+    let u = c.args.w.now in
+    let v = c.room_for.new.w in
+    let older = older_slot c.args.older in
+    let is = c.into_parts-number.ensures ∙ c.into_parts-shelves.ensures.shelves in
+    let long = ap (λ (d : Directory _ (Shelf _ _)). length d.rows.items) is in
+    let many = ap length c.rows.ensures in
+    let room = c.in-Ok.ensures.room.1 in
+    let rooms = subst (λ (d : Directory _ (Shelf _ _)). RoomsFit FitsIn FitsWhole c.into_parts-shelves.result.1.items d.rows.items) (sym c.into_parts-number.ensures) c.into_parts-shelves.ensures.rooms in
+    let made = ap (λ (d : Directory _ (Shelf _ _)). made_on_all d.rows.items) is in
+    let named = named_room cmp u v c.in-Ok.ensures.come c.in-Ok.ensures.keeps in
+    let enough = c.if-free_slots-slots.false in
     let free = c.free_slots.ensures in
     let slots = c.slots.ensures.count in
-    let same = ap (λ (p : Plan _ _ _). made_in p.parts) e.plan in
-    let ready = subst (IsPlaceable g.K.Ord.cmp c.args.w.now (older_slot c.args.older)) (sym e.plan) c.requires in (
-      omega arith,
-      (e.room.0, (e.room.1, (omega (arith, room, free, slots, same), (taken_once g.K.Ord.cmp g.met.K.Ord.total (λ i. segment_pairs (value_at c.args.w.now i)) (slots_at c.args.w.now (older_slot c.args.older)) c.into_parts-number.result.1.parts.items ready.planned.cut, ready.there)))),
-    )
+    let names = c.in-Ok.ensures.names in
+    let settled = named_settled u v c.in-Ok.ensures.come c.in-Ok.ensures.keeps c.requires.settled in
+    let can = named_placeable u v c.in-Ok.ensures.come c.in-Ok.ensures.keeps cmp older c.args.built c.requires.settled c.requires.placeable in
+    let rows = subst (λ (d : Directory _ (Shelf _ _)). AreRowsOf cmp v older d.rows.items) (sym is) (rows_ready cmp v older c.args.built can) in
+    (omega arith, (c.in-Ok.ensures.room.0, (omega (arith, long, many, room), (rooms, (omega (arith, made, named, enough, free, slots), (omega (arith, long, many, names), (settled, rows)))))))
 
 pub unreachable-requires : goal.unreachable-requires
 unreachable-requires g c =
-    let none = no_vacancy c.place_parts-segments.new.w.states c.in-Err.ensures.refused.2 in
-    let all = c.place_parts-segments.ensures.adds.frees in
+    let is = ap (λ (d : Directory _ (Shelf _ _)). made_on_all d.rows.items) (c.into_parts-number.ensures ∙ c.into_parts-shelves.ensures.shelves) in
+    let named = named_room g.K.Ord.cmp c.args.w.now c.room_for.new.w c.in-Ok.ensures.come c.in-Ok.ensures.keeps in
+    let none = no_vacancy c.place_rows-rows.new.w.states c.in-Err-new.ensures.refused.2 in
+    let all = c.place_rows-rows.ensures.placed.adds.frees in
     let room = c.if-free_slots-slots.false in
     let free = c.free_slots.ensures in
     let slots = c.slots.ensures.count in
-    let same = ap (λ (p : Plan _ _ _). made_in p.parts) c.into_parts-number.ensures.plan in
-    omega (arith, none, all, room, free, slots, same)
+    omega (arith, is, named, none, all, room, free, slots)
 
 pub returns-clause-placed : goal.returns-clause-placed
 returns-clause-placed g c =
-    let is = c.into_parts-number.ensures.plan in
-    let ready = subst (IsPlaceable g.K.Ord.cmp c.args.w.now (older_slot c.args.older)) (sym is) c.requires in
-    let put = subst (λ d. c.new.new.w ≡ placed (shared_slot c.in-Ok.root) (item.Directory d) (status.Shared 1) c.place_parts-segments.new.w) c.new-directory.ensures c.in-Ok.ensures.placed.1 in
-    subst (λ (p : Plan _ _ _). Places g.K.Ord.cmp (older_slot c.args.older) p (shared_slot c.in-Ok.root) c.args.w.now c.new.new.w) is
-    (places_directory g.K.Ord.cmp g.met.K.Ord.total c.args.w.now c.place_parts-segments.new.w c.new.new.w (older_slot c.args.older) _ (shared_slot c.in-Ok.root) _ refl c.place_parts-segments.ensures ready.planned.cut ready.planned.counted c.laws.ensures c.in-Ok.ensures.placed.0 put c.in-Ok.ensures.keeps)
+    let cmp = g.K.Ord.cmp in
+    let u = c.args.w.now in
+    let u1 = c.room_for.new.w in
+    let v = c.place_rows-rows.new.w in
+    let older = older_slot c.args.older in
+    let root = shared_slot c.in-Ok-new.root in
+    let rows = c.place_rows-rows.result in
+    let is = c.into_parts-number.ensures ∙ c.into_parts-shelves.ensures.shelves in
+    let stand = subst (λ (d : Directory _ (Shelf _ _)). StandOn (made_on_all d.rows.items) (names_of rows.items) (map (λ (r : Row _ (Shelf _ _)). shelf_blocks (blocks_at u1 older) r.segments) d.rows.items) u1 v) is c.place_rows-rows.ensures.placed in
+    let keys = subst (λ (d : Directory _ (Shelf _ _)). map row_keys rows.items ≡ map row_keys d.rows.items) is c.place_rows-rows.ensures.keys in
+    let same = c.new-directory.ensures ∙ ap (λ (d : Directory _ (Shelf _ _)). record { number = d.number; length = d.length; rows = rows; separators = d.separators; ends = d.ends }) is in
+    let put = c.in-Ok-new.ensures.placed.1 ∙ ap (λ (d : Directory _ Group). placed root (item.Directory d) (status.Shared 1) v) same in
+    place_whole cmp g.met.K.Ord.total u u1 v c.new.new.w older c.args.built root rows c.requires.settled c.requires.placeable c.in-Ok.ensures.come c.in-Ok.ensures.keeps stand keys c.laws.ensures c.in-Ok-new.ensures.placed.0 put c.in-Ok-new.ensures.keeps
 
 pub returns-clause-keeps : goal.returns-clause-keeps
 returns-clause-keeps g c = (returns-clause-placed g c).adds.keeps
+
+-- nothing has come yet
+pub returns-then-free_slots-slots-clause-refused : goal.returns-then-free_slots-slots-clause-refused
+returns-then-free_slots-slots-clause-refused g c = no_name c.args.w.now
+
+pub returns-then-free_slots-slots-clause-keeps : goal.returns-then-free_slots-slots-clause-keeps
+returns-then-free_slots-slots-clause-keeps g c = keeps_refl c.args.w.now
+
+pub returns-then-free_slots-slots-clause-same : goal.returns-then-free_slots-slots-clause-same
+returns-then-free_slots-slots-clause-same g c = λ e. refl

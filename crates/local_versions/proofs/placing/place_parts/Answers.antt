@@ -41,7 +41,7 @@ place_part-requires g c =
     let part = c.in-Some.part in
     let rest = into_iter_items c.next.new.self in
     let there = subst (CanTakeOver u older) step.0 i.there in
-    let same = slots_still u v i.stands.adds.lives i.stands.adds.keeps.lives older there.live in
+    let same = slots_still u v _ _ _ i.stands older there.there in
     let still = λ (j : _). subst (λ ps. 1 ≤ times j (taken_slots slots ps) → status_at v j ≡ status_at u j) step.0 (i.still j) in
     let once = λ (j : _). let o = subst (λ ps. times j (taken_slots slots ps) ≤ 1) step.0 (i.once j) in let both = times_both j (part_slots slots part) (taken_slots slots rest) in subst (λ is. times j (part_slots is part) ≤ 1) (sym same) (omega (arith, o, both)) in
     let sum = sum_by-cons makes part rest in
@@ -63,7 +63,7 @@ loop-part-preserved g c =
     let there = subst (CanTakeOver u older) step.0 i.there in
     let still = λ (j : _). subst (λ ps. 1 ≤ times j (taken_slots slots ps) → status_at v j ≡ status_at u j) step.0 (i.still j) in
     let once = λ (j : _). subst (λ ps. times j (taken_slots slots ps) ≤ 1) step.0 (i.once j) in
-    let same = slots_still u v i.stands.adds.lives i.stands.adds.keeps.lives older there.live in
+    let same = slots_still u v _ _ _ i.stands older there.there in
     let placed = c.place_part.ensures.placed in
     let has : HasPlaced slots part placed.0 v w = subst (λ is. HasPlaced is part placed.0 v w) same placed.2 in
     let behind = rest_there u v older _ _ _ i.stands part rest there in

@@ -16,7 +16,9 @@ use Rattle.version_tests.proofs.Settled.{counted_first, version_with_cell}
 use Rattle.version_tests.proofs.placing.a_version_takes_a_slot_for_each_segment_and_one.Goals as goal
 
 pub place-requires : goal.place-requires
-place-requires g c = (omega arith, (omega arith, subst (λ at. IsPlaceable nat_cmp c.begin-w.result.w at c.begin-w.result.built) (sym c.owned_at-older.ensures) c.begin-w.ensures.placeable))
+place-requires g c =
+    let placeable = subst (λ at. IsPlaceable nat_cmp c.begin-w.result.w at c.begin-w.result.built) (sym c.owned_at-older.ensures) c.begin-w.ensures.placeable in
+    (omega arith, (omega arith, (omega arith, (c.begin-w.ensures.settled, placeable))))
 
 -- the cell of the root leaves the version and its owner
 pub version-requires : goal.version-requires

@@ -10,33 +10,38 @@ use Rattle.sdd_world.proofs.CountLemmas.{owners_are_counted}
 use Rattle.version_views.specs.Items.{held_by}
 use Rattle.version_views.specs.declared.item.Item.{Item}
 use Rattle.local_versions.specs.Placing.{IsPlaceable}
-use Rattle.local_versions.proofs.PublishLemmas.{empty_placeable}
-use Rattle.version_tests.proofs.Settled.{Settled, counted_first, settled_fresh, settled_placed, settled_shared}
+use Rattle.local_versions.proofs.BuildingLemmas.{alone}
+use Rattle.version_tests.proofs.Settled.{Settled, counted_first, is_settled, settled_fresh, settled_placed}
 use Rattle.version_tests.proofs.schedule.begin.Goals as goal
 
 pub place-requires : goal.place-requires
-place-requires g c = rw c.empty.ensures (omega arith, (omega arith, empty_placeable nat_cmp c.in-Ok.w))
+place-requires g c =
+    let new : Settled [] 13 c.in-Ok.w = subst (λ (w : State (Item ℕ ℕ 2)). Settled [] 13 w) (sym (rw c.in-Ok.is at c.new.ensures)) (settled_fresh (record { participants = 2; slots = 12; cells = 1; jobs = 0 })) in
+    let empty = (alone nat_cmp [] c.empty.result c.empty.ensures.list c.empty.ensures.planned).placeable c.in-Ok.w in
+    (omega arith, (omega arith, (omega arith, (is_settled [] 13 c.in-Ok.w new (omega arith), empty))))
 
 pub built-one-requires-clause-last : goal.built-one-requires-clause-last
 built-one-requires-clause-last g c =
     let made = rw c.placed-empty.ensures at c.place.ensures.placed in
     let number = (c.version.ensures.is _ _ made.version).1 in
-    let none = ap (λ p. p.number) c.empty.ensures in
+    let none = c.empty.ensures.number in
     omega (arith, number, none)
 
 pub place-requires-2 : goal.place-requires-2
 place-requires-2 g c =
     let new : Settled [] 13 c.in-Ok.w = subst (λ (w : State (Item ℕ ℕ 2)). Settled [] 13 w) (sym (rw c.in-Ok.is at c.new.ensures)) (settled_fresh (record { participants = 2; slots = 12; cells = 1; jobs = 0 })) in
     let made = rw c.placed-empty.ensures at c.place.ensures.placed in
-    let one = settled_placed nat_cmp [] 13 _ (shared_slot c.placed-empty.result) c.in-Ok.w c.place.new.w new made in
-    let beside = c.built-one.ensures.placeable (settled_shared nat_cmp (SharedItem (shared_slot c.placed-empty.result) ∷ []) 13 c.place.new.w one c.laws.ensures (omega arith) (shared_slot c.placed-empty.result) c.version.result.now c.version.ensures.stands) (shared_slot c.placed-empty.result) (ap has_owner made.shared.is) c.version.ensures.stands in
-    (omega arith, (omega arith, subst (λ older. IsPlaceable nat_cmp c.place.new.w older c.built-one.result) (sym c.owned_at.ensures) beside))
+    let empty = shared_slot c.placed-empty.result in
+    let settled = is_settled (SharedItem empty ∷ []) 13 c.place.new.w (settled_placed nat_cmp [] 13 _ _ _ empty c.in-Ok.w c.place.new.w new made) (omega arith) in
+    let beside = c.built-one.ensures.placeable (shared_slot c.placed-empty.result) (ap has_owner made.shared.is) c.version.ensures.stands in
+    let placeable = subst (λ older. IsPlaceable nat_cmp c.place.new.w older c.built-one.result) (sym c.owned_at.ensures) beside in
+    (omega arith, (omega arith, (omega arith, (settled, placeable))))
 
 pub built-two-requires-clause-last : goal.built-two-requires-clause-last
 built-two-requires-clause-last g c =
     let made = rw c.placed-empty.ensures at c.place.ensures.placed in
     let number = (c.version.ensures.is _ _ made.version).1 in
-    let none = ap (λ p. p.number) c.empty.ensures in
+    let none = c.empty.ensures.number in
     let made2 = rw c.placed-first.ensures at c.place-2.ensures.placed in
     let number2 = (c.version-2.ensures.is _ _ made2.version).1 in
     omega (arith, number, none, number2, c.built-one.ensures.number)
@@ -48,10 +53,12 @@ place-requires-3 g c =
     let first = shared_slot c.placed-first.result in
     let made = rw c.placed-empty.ensures at c.place.ensures.placed in
     let made2 = rw c.placed-first.ensures at c.place-2.ensures.placed in
-    let one = settled_placed nat_cmp [] 13 _ empty c.in-Ok.w c.place.new.w new made in
-    let two = settled_placed nat_cmp (SharedItem empty ∷ []) 13 _ first c.place.new.w c.place-2.new.w one made2 in
-    let beside = c.built-two.ensures.placeable (settled_shared nat_cmp (SharedItem first ∷ SharedItem empty ∷ []) 13 c.place-2.new.w two c.laws-2.ensures (omega arith) first c.version-2.result.now c.version-2.ensures.stands) first (ap has_owner made2.shared.is) c.version-2.ensures.stands in
-    (omega arith, (omega arith, subst (λ older. IsPlaceable nat_cmp c.place-2.new.w older c.built-two.result) (sym c.owned_at-2.ensures) beside))
+    let one = settled_placed nat_cmp [] 13 _ _ _ empty c.in-Ok.w c.place.new.w new made in
+    let two = settled_placed nat_cmp (SharedItem empty ∷ []) 13 _ _ _ first c.place.new.w c.place-2.new.w one made2 in
+    let settled = is_settled (SharedItem first ∷ SharedItem empty ∷ []) 13 c.place-2.new.w two (omega arith) in
+    let beside = c.built-two.ensures.placeable (shared_slot c.placed-first.result) (ap has_owner made2.shared.is) c.version-2.ensures.stands in
+    let placeable = subst (λ older. IsPlaceable nat_cmp c.place-2.new.w older c.built-two.result) (sym c.owned_at-2.ensures) beside in
+    (omega arith, (omega arith, (omega arith, (settled, placeable))))
 
 pub release-requires-clause-live : goal.release-requires-clause-live
 release-requires-clause-live g c =

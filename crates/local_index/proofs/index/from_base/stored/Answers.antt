@@ -7,7 +7,7 @@ use Rattle.local_index.proofs.FromBaseLemmas.{Holds, holds_list, renumbered, sam
 use Rattle.local_index.proofs.index.from_base.stored.Goals as goal
 
 pub holding-requires : goal.holding-requires
-holding-requires g c = (omega arith, (omega arith, (c.requires.size, subst (StandsAlone g.K.Ord.cmp) (sym c.numbered.ensures) (renumbered g.K.Ord.cmp c.in-Ok.built c.args.number c.in-Ok.ensures.alone))))
+holding-requires g c = (omega arith, (omega arith, (c.requires.size, subst (λ d. StandsAlone {s = g.row.S} g.K.Ord.cmp (record { shelves = d })) (sym c.numbered.ensures) (renumbered g.K.Ord.cmp c.in-Ok.built c.args.number c.in-Ok.ensures.alone))))
 
 pub returns-clause-store : goal.returns-clause-store
 returns-clause-store g c =

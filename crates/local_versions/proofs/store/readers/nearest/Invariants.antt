@@ -9,7 +9,7 @@ use Rattle.local_versions.proofs.store.readers.nearest.Given as goal
 -- what was found so far is a reader's version, with a number up to this one
 abbrev pub invariant-loop-place : goal.invariant-loop-place
 invariant-loop-place g l = record {
-  version : IfSome l.found (λ d. IsVersion g.K.Ord.cmp (value_at l.w) d.now);
-  reader : IfSome l.found (λ d. (place : ℕ) × (slice_get (map (option_map (read_by l.w)) l.readers) place ≡ Some (Some (record { number = d.now.number; pairs = list_of (value_at l.w) d.now }))));
+  version : IfSome l.found (λ d. IsVersion g.K.Ord.cmp l.w.groups (value_at l.w) d.now);
+  reader : IfSome l.found (λ d. (place : ℕ) × (slice_get (map (option_map (read_by l.w)) l.readers) place ≡ Some (Some (record { number = d.now.number; pairs = list_of l.w.groups (value_at l.w) d.now }))));
   number : IfSome l.found (λ d. d.now.number ≤ l.number);
 }

@@ -14,6 +14,6 @@ pub returns-clause-is : goal.returns-clause-is
 returns-clause-is g c =
     let reads = c.requires.1 in
     let read = c.version_at.ensures.is reads.slot reads.number reads.pairs reads.named reads.version in
-    ap (λ (n : ℕ). record { number = n; pairs = list_of (value_at c.args.w.now) c.version_at.result.now }) read.1
+    ap (λ (n : ℕ). record { number = n; pairs = list_of c.args.w.now.groups (value_at c.args.w.now) c.version_at.result.now }) read.1
     ∙ ap (λ (ps : List _). record { number = reads.number; pairs = ps }) read.0
     ∙ sym (ap (version_in c.args.w.now) reads.named ∙ version_is g.K.Ord.cmp c.args.w.now reads.slot reads.number reads.pairs reads.version)

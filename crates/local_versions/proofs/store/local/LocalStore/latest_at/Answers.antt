@@ -19,7 +19,7 @@ returns-then-last-number g c =
 pub returns-in-Some : goal.returns-in-Some
 returns-in-Some g c =
     let reader = rw c.deref.ensures.value at c.in-Some.ensures.reader in (
-      record { number = c.in-Some.version.now.number; pairs = list_of (value_at c.self.inside.world) c.in-Some.version.now },
+      record { number = c.in-Some.version.now.number; pairs = list_of c.self.inside.world.groups (value_at c.self.inside.world) c.in-Some.version.now },
       inr (reader.0, ap (λ (x : Store _ _). slice_get x.readers reader.0) (sym c.self.view_is) ∙ reader.1),
       sym c.number.ensures,
       omega (arith, c.number.ensures, c.in-Some.ensures.number),
