@@ -9,6 +9,7 @@ ghost use Rattle.sdd_domain.specs.Sharing.{kept_in, IsOwnerOf};
 ghost use Rattle.sdd_domain.specs.Tokens.{place_of, home_of, hand_of, own_of, cell_count, IsInNest, IsSameButHand};
 ghost use Rattle.shared_session_tests.specs.Participants.{CanWrite, StillRests};
 ghost use Rattle.shared_versions.specs.Nodes.{held_by};
+ghost use Rattle.version_views.specs.Items.{shared_items};
 
 use crate::calls::{closed, leave, made, registered, retire};
 use sdd_domain::atomic_shared::AtomicShared;
@@ -25,7 +26,8 @@ use shared_sessions::SharedSession;
 use shared_versions::{Node, Version};
 use std::alloc::{AllocError, Global};
 use std::process::Abort;
-use version_views::{Directory, Segment};
+use std::sync::Arc;
+use version_views::{Directory, Row, Segment};
 
 /// The items of the place: versions of numbers by numbers.
 pub type Item = Node<u64, u64>;
@@ -169,18 +171,35 @@ fn room<R: Abort>(rt: &R, alloc: Global, met: &mut bool) -> Vec<Held<Item>>
     }
 }
 
-/// The separator of two segments.
-fn separator<R: Abort>(rt: &R, alloc: Global, met: &mut bool) -> Vec<u64>
-    ensures { result.items ≡ 2 ∷ [] }
+/// A vector of one value.
+fn alone<R: Abort, T>(rt: &R, alloc: Global, value: T, met: &mut bool) -> Vec<T>
+    ensures { result.items ≡ value ∷ [] }
 {
-    let mut separators = Vec::new(alloc);
-    if let Err(refused) = separators.push(2) {
+    let mut values = Vec::new(alloc);
+    if let Err(refused) = values.push(value) {
         *met = true;
-        let Ok(()) = separators.push(refused.value) else {
-            panic!(rt; "{TWICE}");
-        };
+        match values.push(refused.value) {
+            Ok(()) => {}
+            Err(_) => panic!(rt; "{TWICE}"),
+        }
     }
-    separators
+    values
+}
+
+/// The key that separates two segments of a row.
+fn keys<R: Abort>(rt: &R, alloc: Global, met: &mut bool) -> Arc<Vec<u64>, Global>
+    ensures { shared_items result ≡ 2 ∷ [] }
+{
+    match Arc::new(alloc, alone(rt, alloc, 2, met)) {
+        Ok(keys) => keys,
+        Err(refused) => {
+            *met = true;
+            match Arc::new(alloc, refused.value) {
+                Ok(keys) => keys,
+                Err(_) => panic!(rt; "{TWICE}"),
+            }
+        }
+    }
 }
 
 /// The owner of a version of this list, the first two pairs of which are in one segment.
@@ -205,7 +224,10 @@ pub fn version<R: Abort>(
     let mut held = room(rt, alloc, met);
     hold_last(domain, &mut held, front, local);
     hold_last(domain, &mut held, back, local);
-    let directory = Directory::new(number, 3, held, separator(rt, alloc, met));
+    let row = Row::new(held, keys(rt, alloc, met));
+    let rows = alone(rt, alloc, row, met);
+    let ends = alone(rt, alloc, 2, met);
+    let directory = Directory::new(number, 3, rows, Vec::new(alloc), ends);
     let version = Version::new(directory, 2);
     placed(rt, domain, Node::Version(version), local)
 }

@@ -128,6 +128,34 @@ fn segments_are_taken_over_after_refusals(rt: HostRuntime) {
     on_a_place::<_, 2>(&rt, rt.alloc(), 7, TAKING_OVER);
 }
 
+/// Five hundred segments in four rows, and their version. A write leaves three of the rows whole, which are taken over.
+const IN_ROWS: &[(Call, Told)] = &[
+    (Upsert(1, 1001, 1), Placed),
+    (Reclaim, Done),
+    (Slots, Used(501)),
+    (Upsert(3, 4, 2), Placed),
+    (Slots, Used(503)),
+    (Reclaim, Done),
+    (Slots, Used(501)),
+    (Get(3), Found(Some(2), 1000)),
+    (Get(1000), Found(Some(1), 1000)),
+    // three new segments leave no slot for their version
+    (Upsert(500, 504, 3), Refused),
+    (Reclaim, Done),
+    (Slots, Used(501)),
+    (Upsert(500, 503, 4), Placed),
+    (Get(499), Found(Some(1), 1000)),
+    (Get(502), Found(Some(4), 1000)),
+    (Get(503), Found(Some(1), 1000)),
+    (Reclaim, Done),
+    (Slots, Used(501)),
+];
+
+#[test]
+fn rows_that_no_write_touches_are_taken_over(rt: HostRuntime) {
+    on_a_place::<_, 2>(&rt, rt.alloc(), 504, IN_ROWS);
+}
+
 /// Plays a table on the version of a list, in a new place with this many slots; none of it where slots are too few for the list.
 /// Nothing is in use behind it.
 fn on_a_list<R: Abort>(

@@ -1,10 +1,13 @@
 pub mod ApartLemmas
+pub mod DirectoryLemmas
 pub mod EmptyLemmas
 pub mod LoadedLemmas
 pub mod MovingLemmas
 pub mod OwnedLemmas
+pub mod OwnerLemmas
 pub mod PresentLemmas
 pub mod SeamLemmas
 pub mod SendLemmas
+pub mod ShelfLemmas
 pub mod StillLemmas
 pub mod UnitLemmas

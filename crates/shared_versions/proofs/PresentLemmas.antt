@@ -5,23 +5,21 @@ use Rattle.std.specs.List.{All}
 use Rattle.std.proofs.lemmas.List.{length-map}
 use Rattle.atomic_table.specs.Seated.{TableId}
 use Rattle.sdd_domain.specs.Sharing.{IsOwnerOf}
-use Rattle.sdd_domain.specs.declared.held.Held.{Held}
 use Rattle.sdd_domain.specs.declared.shared.Shared.{Shared}
-use Rattle.version_views.specs.Cuts.{IsCut, pairs_in}
-use Rattle.version_views.specs.Items.{segment_owners}
-use Rattle.version_drafts.specs.Parts.{LiesWithin, blocks_of_parts}
-use Rattle.version_views.specs.Views.{blocks_at}
+use Rattle.version_views.specs.Cuts.{IsCut, pairs_in, separators_of}
+use Rattle.version_views.specs.Rows.{IsRowed}
+use Rattle.version_drafts.specs.Parts.{LiesWithin}
+use Rattle.version_drafts.specs.Shelves.{shelf_blocks, shelved_blocks}
 use Rattle.version_drafts.specs.declared.segments.Part.{Part}
-use Rattle.version_views.specs.declared.directory.Directory.{Directory}
-use Rattle.shared_versions.specs.Drafts.{IsPlaceable, Plan, blocks_planned}
+use Rattle.shared_versions.specs.Drafts.{IsPlaceable, Plan, blocks_planned, parts_in}
 use Rattle.shared_versions.specs.Units.{blocks_of_units, units_of}
-use Rattle.shared_versions.specs.Nodes.{IsWhole, OwnsSegment, owned_pairs}
 use Rattle.shared_versions.specs.Placing.{IsKeptSegment, IsOwnedIn, IsPlanned, IsPresent, pairs_kept, pairs_kept_at, sight_in, sight_kept, version_owned}
 use Rattle.shared_versions.specs.Readers.{HasWidth, version_in}
 use Rattle.shared_versions.specs.Sight.{Sight}
 use Rattle.shared_versions.specs.declared.node.Node.{Node}
 use Rattle.shared_versions.specs.declared.node.Node.TheVariants as nodes
 use Rattle.shared_versions.proofs.OwnedLemmas.{owned_is}
+use Rattle.shared_versions.proofs.ShelfLemmas.{parts_blocks}
 use Rattle.shared_versions.proofs.UnitLemmas.{units_blocks}
 
 module _ {K V : Type 0} where
@@ -51,29 +49,26 @@ module _ {K V : Type 0} where
   taken_there kept old parts blocks there = subst (λ n. All (LiesWithin n) parts) (sym (sym (length-map kept pairs_kept) ∙ ap length blocks)) there
 
   -- what the kept owners are taken for is what was planned
-  pub planned_blocks : {s : ℕ} (kept : List _) (plan : Plan K V s) (parts : List (Part K V)) → parts ≡ plan.parts → All (LiesWithin (length (map pairs_kept kept))) plan.parts → blocks_of_units (pairs_kept_at kept) (units_of parts) ≡ blocks_planned (sight_kept kept) plan
-  planned_blocks kept plan parts same there = ap (λ ps. blocks_of_units (pairs_kept_at kept) (units_of ps)) same ∙ units_blocks (map pairs_kept kept) plan.parts there
+  pub planned_blocks : {s : ℕ} (kept : List _) (plan : Plan K V s) (parts : List (Part K V)) → parts ≡ parts_in plan.shelves.rows.items → All (LiesWithin (length (map pairs_kept kept))) (parts_in plan.shelves.rows.items) → blocks_of_units (pairs_kept_at kept) (units_of parts) ≡ blocks_planned (sight_kept kept) plan
+  planned_blocks kept plan parts same there =
+      ap (λ ps. blocks_of_units (pairs_kept_at kept) (units_of ps)) same
+      ∙ units_blocks (map pairs_kept kept) (parts_in plan.shelves.rows.items) there
+      ∙ parts_blocks (map pairs_kept kept) plan.shelves.rows.items
 
   -- of an older version, what is planned upon it speaks of its segments alone
   pub placeable_kept : (cmp : K → K → Ordering) (s : ℕ) (kept : List _) (old : Sight K V) (plan : Plan K V s) → map pairs_kept kept ≡ old.blocks → IsPlaceable cmp s old plan → IsPlaceable cmp s (sight_kept kept) plan
-  placeable_kept cmp s kept old plan blocks is = record {
-    cut = subst (λ bs. IsCut cmp s (blocks_of_parts bs plan.parts) plan.separators) (sym blocks) is.cut;
-    counted = subst (λ bs. plan.length ≡ length (pairs_in (blocks_of_parts bs plan.parts))) (sym blocks) is.counted;
-    there = subst (λ bs. All (LiesWithin (length bs)) plan.parts) (sym blocks) is.there;
-  }
+  placeable_kept cmp s kept old plan blocks is =
+      let rows = plan.shelves.rows.items in
+      record {
+        cut = subst (λ bs. IsCut cmp s (shelved_blocks bs rows) (separators_of (shelved_blocks bs rows))) (sym blocks) is.cut;
+        rowed = subst (λ bs. IsRowed (shelf_blocks bs) plan.shelves) (sym blocks) is.rowed;
+        counted = subst (λ bs. plan.shelves.length ≡ length (pairs_in (shelved_blocks bs rows))) (sym blocks) is.counted;
+        there = subst (λ bs. All (LiesWithin (length bs)) (parts_in rows)) (sym blocks) is.there;
+      }
 
   pub planned_kept : (s : ℕ) (kept : List _) (old : Sight K V) (plan : Plan K V s) (new : Sight K V) → map pairs_kept kept ≡ old.blocks → IsPlanned s (sight_kept kept) plan new → IsPlanned s old plan new
   planned_kept s kept old plan new blocks is = record {
     number = is.number;
     width = is.width;
-    blocks = is.blocks ∙ ap (λ bs. blocks_of_parts bs plan.parts) blocks;
-    separators = is.separators;
-  }
-
-  -- a directory of the planned segments is whole
-  pub planned_whole : (cmp : K → K → Ordering) (s : ℕ) (old : Sight K V) (plan : Plan K V s) (d : Directory K (Held (Node K V))) → IsPlaceable cmp s old plan → All OwnsSegment (segment_owners d) → blocks_at owned_pairs d ≡ blocks_planned old plan → d.separators.items ≡ plan.separators → d.length ≡ plan.length → IsWhole cmp s d
-  planned_whole cmp s old plan d placeable all blocks separators count = record {
-    segments = all;
-    cut = subst (λ ks. IsCut cmp s (blocks_at owned_pairs d) ks) (sym separators) (subst (λ bs. IsCut cmp s bs plan.separators) (sym blocks) placeable.cut);
-    counted = count ∙ (placeable.counted ∙ sym (ap (λ bs. length (pairs_in bs)) blocks));
+    blocks = is.blocks ∙ ap (λ bs. shelved_blocks bs plan.shelves.rows.items) blocks;
   }

@@ -1,15 +1,18 @@
 -- what is in a slot of a place that threads share
 use Rattle.std.specs.declared.cmp.Ordering.{Ordering}
-use Rattle.std.specs.List.{All}
+use Rattle.std.specs.Global.{Vec}
+use Rattle.std.specs.List.{All, flat_map}
 use Rattle.std.specs.Mem.{manually_drop_value}
 use Rattle.std.specs.Option.{option_map}
 use Rattle.std.specs.Prelude.{◌≡◌, length, ℕ, List, [], ◌∷◌, map, MatchOption, Option, None, Some, reverse}
 use Rattle.sdd_domain.specs.Holding.{told_of}
 use Rattle.sdd_domain.specs.declared.held.Held.{Held}
-use Rattle.version_views.specs.Cuts.{IsCut, pairs_in}
-use Rattle.version_views.specs.Items.{segment_owners}
+use Rattle.version_views.specs.Cuts.{IsCut, pairs_in, separators_of}
+use Rattle.version_views.specs.Items.{row_owners, segment_owners}
+use Rattle.version_views.specs.Rows.{IsRowed}
 use Rattle.version_views.specs.Views.{blocks_at}
 use Rattle.version_views.specs.declared.directory.Directory.{Directory}
+use Rattle.version_views.specs.declared.row.Row.{Row}
 use Rattle.shared_versions.specs.Sight.{Sight}
 use Rattle.shared_versions.specs.declared.node.Node.{Node}
 use Rattle.shared_versions.specs.declared.node.Node.TheVariants as nodes
@@ -17,6 +20,13 @@ use Rattle.shared_versions.specs.declared.node.Node.TheVariants as nodes
 -- the item that an owner reads
 abbrev pub item_held : {T : Type 0} → Held T → Option T
 item_held h = option_map manually_drop_value h.part.part.seen.value
+
+-- the owners of a row, which it has by value, and those of rows, in order
+abbrev pub held_in : {T : Type 0} → Vec (Held T) → List (Held T)
+held_in row = row.items
+
+abbrev pub owners_in : {K T : Type 0} → List (Row K (Vec (Held T))) → List (Held T)
+owners_in rows = flat_map (row_owners held_in) rows
 
 -- the last owner was taken out, or there was none; the lists tell of each owner by its slot and round
 abbrev pub TakesLast : {T : Type 0} → Option (Held T) → List (ℕ × ℕ) → List (ℕ × ℕ) → Type 0
@@ -49,14 +59,22 @@ module _ {K V : Type 0} where
   abbrev pub owned_pairs : Held (Node K V) → List (K × V)
   owned_pairs h = segment_pairs (item_held h)
 
-  abbrev pub sight_of : ℕ → Directory K (Held (Node K V)) → Sight K V
-  sight_of s d = record { number = d.number; width = s; blocks = blocks_at owned_pairs d; separators = d.separators.items; owners = map told_of (segment_owners d) }
+  -- the blocks of a row, and those of a directory
+  abbrev pub row_blocks : Vec (Held (Node K V)) → List (List (K × V))
+  row_blocks row = map owned_pairs (held_in row)
 
-  -- its owners have segments, which are cut as they should be
-  pub record IsWhole (cmp : K → K → Ordering) (s : ℕ) (d : Directory K (Held (Node K V))) : Type 0 where
-    pub segments : All OwnsSegment (segment_owners d)
-    pub cut : IsCut cmp s (blocks_at owned_pairs d) d.separators.items
-    pub counted : d.length ≡ length (pairs_in (blocks_at owned_pairs d))
+  abbrev pub blocks_of : Directory K (Vec (Held (Node K V))) → List (List (K × V))
+  blocks_of d = blocks_at held_in owned_pairs d
+
+  abbrev pub sight_of : ℕ → Directory K (Vec (Held (Node K V))) → Sight K V
+  sight_of s d = record { number = d.number; width = s; blocks = blocks_of d; owners = map told_of (segment_owners held_in d) }
+
+  -- its owners have segments, which are cut as they should be and stand in rows
+  pub record IsWhole (cmp : K → K → Ordering) (s : ℕ) (d : Directory K (Vec (Held (Node K V)))) : Type 0 where
+    pub segments : All OwnsSegment (segment_owners held_in d)
+    pub cut : IsCut cmp s (blocks_of d) (separators_of (blocks_of d))
+    pub rowed : IsRowed row_blocks d
+    pub counted : d.length ≡ length (pairs_in (blocks_of d))
 
   -- a version gives its segments up from the last one on
   abbrev pub held_by : Node K V → List (ℕ × ℕ)

@@ -2,7 +2,7 @@
 use Rattle.std.specs.List.{All}
 use Rattle.std.specs.Mem.{manually_drop_value}
 use Rattle.std.specs.Option.{option_map}
-use Rattle.std.specs.Prelude.{◌≡◌, ◌≢◌, ℕ, ◌<◌, List, [], map, reverse, set, get_or, Option, None, Some}
+use Rattle.std.specs.Prelude.{◌≡◌, ◌≢◌, ℕ, ◌<◌, List, [], map, reverse, set, get_or, sum_by, Option, None, Some}
 use Rattle.atomic_table.specs.Seated.{TableId}
 use Rattle.sdd_domain.specs.CellSteps.{HasStored}
 use Rattle.sdd_domain.specs.Comparing.{owner_code}
@@ -76,7 +76,7 @@ module _ {K V : Type 0} where
 
   -- a version of the segments that are kept
   abbrev pub sight_kept : List (Option (Shared (Node K V))) → Sight K V
-  sight_kept kept = record { number = 0; width = 0; blocks = map pairs_kept kept; separators = []; owners = [] }
+  sight_kept kept = record { number = 0; width = 0; blocks = map pairs_kept kept; owners = [] }
 
   -- and what is left of those that are kept does, where some were moved
   abbrev pub IsLeft : TableId → Option (Shared (Node K V)) → Type 0
@@ -127,6 +127,10 @@ module _ {K V : Type 0} where
   abbrev pub IsSameIn : (old new : List (Option (Shared (Node K V)))) → ToKeep K V → Type 0
   IsSameIn old new t = owner_of new t ≡ owner_of old t
 
+-- how many there are in all
+abbrev pub total : List ℕ → ℕ
+total counts = sum_by (λ n. n) counts
+
 -- two segments aren't from one place
 abbrev pub AreApart : Option ℕ → Option ℕ → Type 0
 AreApart None other = Unit {0}
@@ -148,7 +152,6 @@ pub record IsPresent {K V : Type 0} (s : ℕ) (owner : Shared (Node K V)) (kept 
 
 -- the version is the planned one, of segments of at most s pairs
 pub record IsPlanned {K V : Type 0} (s : ℕ) (old : Sight K V) (plan : Plan K V s) (new : Sight K V) : Type 0 where
-  pub number : new.number ≡ plan.number
+  pub number : new.number ≡ plan.shelves.number
   pub width : new.width ≡ s
   pub blocks : new.blocks ≡ blocks_planned old plan
-  pub separators : new.separators ≡ plan.separators

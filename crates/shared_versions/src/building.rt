@@ -5,18 +5,15 @@ ghost use Rattle.leaf_array.specs.Pairs.{IsAscending};
 ghost use Rattle.leaf_array.specs.Values.{ClonesAreSame};
 ghost use Rattle.version_views.specs.Sizes.{room_for};
 ghost use Rattle.version_views.specs.Writes.{after_writes, replies_to};
-ghost use Rattle.shared_versions.specs.Drafts.{IsPlaceable, list_of, list_planned, nothing, slots_for};
+ghost use Rattle.shared_versions.specs.Drafts.{IsPlaceable, list_of, list_planned, nothing, number_of, slots_for};
 
+use crate::draft::Draft;
 use crate::lending::view_of;
 use crate::node::Version;
-use crate::room::Room;
+use crate::room::RowRoom;
 use std::alloc::{AllocError, Global};
 use version_drafts::plans;
 use version_views::{Reply, Write};
-
-/// A version that isn't placed yet: the number of its list, and its segments, of which some are those of an older version,
-/// by their places there.
-pub type Draft<K, V, const S: usize> = plans::Draft<K, V, Room<K, V>, S>;
 
 /// The version that writes make of an older one, under the next number, and the replies to them. Fails only if an
 /// allocation fails. Nothing is placed yet, and no word of the place is read. Segments that no write touches are taken
@@ -31,14 +28,22 @@ pub fn build<K: Clone + Ord + Drop, V: Clone + Drop, const S: usize>(
     requires last { old.now.number < 2 ^ 64 - 1 }
     requires keys { ClonesAreSame K.is_clone }
     requires values { ClonesAreSame V.is_clone }
-    ensures number { IfOk result (λ made. made.0.number ≡ old.now.number + 1) }
+    ensures number { IfOk result (λ made. number_of made.0 ≡ old.now.number + 1) }
     ensures list { IfOk result (λ made. list_planned old.now made.0 ≡ after_writes K.cmp writes.now (list_of old.now)) }
     ensures few { IfOk result (λ made. slots_for made.0 ≤ 2 * length writes.now + 1) }
     ensures placeable { IfOk result (λ made. IsPlaceable K.cmp S old.now made.0) }
     ensures replies { IfOk result (λ made. made.1.items ≡ replies_to K.cmp writes.now (list_of old.now)) }
 {
     old.laws();
-    plans::build::<K, V, _, Room<K, V>, S>(alloc, old.number() + 1, &view_of(old), writes)
+    let view = view_of(old);
+    let (plan, replies) = plans::build::<K, V, _, RowRoom<K, V>, S>(
+        alloc,
+        old.number() + 1,
+        &view,
+        old.directory(),
+        writes,
+    )?;
+    Ok((Draft::of(alloc, plan)?, replies))
 }
 
 /// The version of clones of these pairs, whose keys rise, under a number. Fails only if an allocation fails. Nothing is placed yet, and
@@ -53,12 +58,13 @@ pub fn build_list<K: Clone + Ord + Drop, V: Clone + Drop, const S: usize>(
     requires keys { ClonesAreSame K.is_clone }
     requires values { ClonesAreSame V.is_clone }
     requires rising { IsAscending K.cmp pairs.now }
-    ensures number { IfOk result (λ made. made.number ≡ number) }
+    ensures number { IfOk result (λ made. number_of made ≡ number) }
     ensures list { IfOk result (λ made. list_planned nothing made ≡ pairs.now) }
-    ensures length { IfOk result (λ made. made.length ≡ length pairs.now) }
+    ensures length { IfOk result (λ made. made.shelves.length ≡ length pairs.now) }
     ensures few { IfOk result (λ made. slots_for made ≤ room_for S (length pairs.now)) }
     ensures fewest { IfOk result (λ made. S * slots_for made < length pairs.now + 2 * S) }
     ensures placeable { IfOk result (IsPlaceable K.cmp S nothing) }
 {
-    plans::build_list::<K, V, Room<K, V>, S>(alloc, number, pairs)
+    let plan = plans::build_list::<K, V, RowRoom<K, V>, S>(alloc, number, pairs)?;
+    Draft::of(alloc, plan)
 }

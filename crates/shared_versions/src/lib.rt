@@ -29,6 +29,7 @@
 #![tactic(auto)]
 
 mod building;
+mod draft;
 mod holding;
 mod keeping;
 mod kept;
@@ -40,10 +41,12 @@ mod present;
 mod reader;
 mod reclaiming;
 mod room;
+mod rows;
 mod session;
 mod units;
 
-pub use building::{Draft, build, build_list};
+pub use building::{build, build_list};
+pub use draft::Draft;
 pub use lending::view_of;
 pub use node::{Node, Rest, Version};
 pub use present::{Present, publish};

@@ -3,26 +3,26 @@
 ghost use Rattle.std.specs.Prelude.{◌≡◌, ◌≤◌, ◌++◌, [], Some, map, option_copied, reverse};
 ghost use Rattle.std.specs.Option.{option_to_list};
 ghost use Rattle.sdd_domain.specs.Holding.{told_of};
-ghost use Rattle.version_views.specs.Cuts.{IsCut};
-ghost use Rattle.shared_versions.specs.Nodes.{IsSegment, IsWhole, TakesLast, segment_pairs, sight_of, version_of};
+ghost use Rattle.version_views.specs.Cuts.{IsCut, separators_of};
+ghost use Rattle.shared_versions.specs.Nodes.{IsSegment, IsWhole, TakesLast, owners_in, segment_pairs, sight_of, version_of};
 
 use sdd_domain::held::Held;
 use std::alloc::Global;
 use std::marker::Model;
 use tree_index::TreeIndex;
-use version_views::{Directory, Segment};
+use version_views::{Directory, Row, Segment};
 
-/// A version: a directory whose owners hold its segments.
+/// A version: a directory whose rows hold its segments.
 ///
 /// Contracts see its number, the pairs of its segments in order, and the slots and rounds of their owners.
 #[cycle(nodes)]
 pub struct Version<K: Ord, V> {
-    directory: Directory<K, Held<Node<K, V>>>,
+    directory: Directory<K, Vec<Held<Node<K, V>>>>,
     // the greatest number of pairs in a segment
     width: usize,
 }
 
-/// Invariant: specs/Nodes.antt, IsWhole: each owner has a segment; they are cut for the width, separated and counted.
+/// Invariant: specs/Nodes.antt, IsWhole: each owner has a segment; they are cut for the width, counted, and stand in rows.
 impl<K: Ord, V> Model for Version<K, V> {
     ghost use Rattle.shared_versions.specs.Sight.{Sight};
 
@@ -41,7 +41,7 @@ impl<K: Ord, V> Model for Version<K, V> {
     ghost size_decreases = { λ v h. version_falls K.Ord K.PartialEq K.PartialOrd v h.segments };
 }
 
-/// What is in a slot: a version, a segment of versions, or the owners that are left of a version that is reclaimed.
+/// What is in a slot: a version, a segment of versions, or the rows that are left of a version that is reclaimed.
 #[cycle(nodes)]
 pub enum Node<K: Ord, V> {
     Version(Version<K, V>),
@@ -49,12 +49,12 @@ pub enum Node<K: Ord, V> {
     Rest(Rest<K, V>),
 }
 
-/// Owners of segments that a version had, which are yet to be released.
+/// Rows that a version had, whose owners of segments are yet to be released.
 ///
-/// Contracts see their slots and rounds, in order.
+/// Contracts see the slots and rounds of the owners, in order.
 #[cycle(nodes)]
 pub struct Rest<K: Ord, V> {
-    owners: Vec<Held<Node<K, V>>>,
+    rows: Vec<Row<K, Vec<Held<Node<K, V>>>>>,
 }
 
 /// Invariant: specs/Nodes.antt, OwnsSegment: each owner has a segment.
@@ -65,11 +65,11 @@ impl<K: Ord, V> Model for Rest<K, V> {
 
     ghost Value = { List (ℕ × ℕ) };
 
-    ghost use Rattle.shared_versions.specs.Nodes.{OwnsSegment};
+    ghost use Rattle.shared_versions.specs.Nodes.{OwnsSegment, owners_in};
 
-    ghost view = { λ r. map told_of r.owners.items };
+    ghost view = { λ r. map told_of (owners_in r.rows.items) };
 
-    ghost invariant = { λ r. All OwnsSegment r.owners.items };
+    ghost invariant = { λ r. All OwnsSegment (owners_in r.rows.items) };
 
     ghost size = { λ _. 0 };
 
@@ -80,7 +80,7 @@ impl<K: Ord, V> Model for Rest<K, V> {
 
 impl<K: Ord, V> Version<K, V> {
     /// The version of a directory. Condition: it is one, of segments of at most `width` pairs.
-    pub fn new(directory: Directory<K, Held<Node<K, V>>>, width: usize) -> Self
+    pub fn new(directory: Directory<K, Vec<Held<Node<K, V>>>>, width: usize) -> Self
         requires { IsWhole K.cmp width directory }
         ensures { result ≡ sight_of width directory }
     {
@@ -89,14 +89,14 @@ impl<K: Ord, V> Version<K, V> {
 
     /// The empty list, with number 0. It takes no memory.
     pub fn empty(alloc: Global, width: usize) -> Self
-        ensures { result ≡ record { number = 0; width = width; blocks = []; separators = []; owners = [] } }
+        ensures { result ≡ record { number = 0; width = width; blocks = []; owners = [] } }
     {
-        let directory = Directory::new(0, 0, Vec::new(alloc), Vec::new(alloc));
+        let directory = Directory::new(0, 0, Vec::new(alloc), Vec::new(alloc), Vec::new(alloc));
         Version::new(directory, width)
     }
 
     /// Its directory.
-    pub fn directory(&self) -> &Directory<K, Held<Node<K, V>>>
+    pub fn directory(&self) -> &Directory<K, Vec<Held<Node<K, V>>>>
         ensures whole { IsWhole K.cmp self.now.width result.now }
         ensures sight { sight_of self.now.width result.now ≡ self.now }
     {
@@ -119,7 +119,7 @@ impl<K: Ord, V> Version<K, V> {
 
     /// What every version meets. Nothing here runs.
     pub fn laws(&self)
-        ensures { IsCut K.cmp self.now.width self.now.blocks self.now.separators }
+        ensures { IsCut K.cmp self.now.width self.now.blocks (separators_of self.now.blocks) }
     {
         // what is read here opens the version to the proof
         let _width = self.width;
@@ -130,7 +130,7 @@ impl<K: Ord, V> Version<K, V> {
         self.directory.allocator()
     }
 
-    /// The owners of its segments: all that is left of it.
+    /// Its rows: all that is left of it.
     pub(crate) fn into_rest(self) -> Rest<K, V>
     where
         K: Drop,
@@ -141,7 +141,7 @@ impl<K: Ord, V> Version<K, V> {
             width: _,
         } = self;
         Rest {
-            owners: directory.into_owners(),
+            rows: directory.into_rows(),
         }
     }
 }
@@ -152,23 +152,27 @@ impl<K: Ord, V> Rest<K, V> {
         ensures { result ≡ [] }
     {
         Rest {
-            owners: Vec::new(alloc),
+            rows: Vec::new(alloc),
         }
     }
 
     /// Takes the last owner out.
     pub(crate) fn pop(&mut self) -> Option<Held<Node<K, V>>>
+    where
+        K: Drop,
         ensures { TakesLast result self.old self.new }
     {
-        last_of(&mut self.owners)
+        last_of(&mut self.rows)
     }
 
     /// Lets it go. Condition: no owner is left.
     pub(crate) fn end(self)
+    where
+        K: Drop,
         requires { reverse self ≡ [] }
     {
-        let Rest { owners } = self;
-        owners.destroy_empty();
+        let Rest { rows } = self;
+        end_empty(rows);
     }
 }
 
@@ -196,10 +200,28 @@ impl<K: Ord, V> Node<K, V> {
     }
 }
 
-/// Takes the last owner out.
-fn last_of<T>(owners: &mut Vec<Held<T>>) -> Option<Held<T>>
-    ensures told { TakesLast result (map told_of owners.old.items) (map told_of owners.new.items) }
-    ensures rest { owners.old.items ≡ owners.new.items ++ option_to_list result }
+/// Takes the last owner out of rows, and with it the rows behind it that have none.
+fn last_of<K: Drop, T>(rows: &mut Vec<Row<K, Vec<Held<T>>>>) -> Option<Held<T>>
+    ensures told { TakesLast result (map told_of (owners_in rows.old.items)) (map told_of (owners_in rows.new.items)) }
+    ensures rest { owners_in rows.old.items ≡ owners_in rows.new.items ++ option_to_list result }
 {
-    owners.pop()
+    'popping: while let Some(row) = rows.pop() {
+        let (mut held, keys) = row.into_parts();
+        if let Some(owner) = held.pop() {
+            rows.push_reserved(Row::new(held, keys));
+            return Some(owner);
+        }
+        held.destroy_empty();
+    }
+    None
+}
+
+/// Lets rows go. Condition: they have no owner.
+fn end_empty<K: Drop, T>(mut rows: Vec<Row<K, Vec<Held<T>>>>)
+    requires { owners_in rows.items ≡ [] }
+{
+    'ending: while let Some(row) = rows.pop() {
+        row.into_owners().destroy_empty();
+    }
+    rows.destroy_empty();
 }

@@ -3,11 +3,9 @@
 ghost use Rattle.std.specs.Prelude.{◌≡◌, ◌≤◌, ◌<◌, ◌+◌, [], IfSome, IfNone, length, map, reverse, vec_capacity};
 ghost use Rattle.std.specs.List.{All};
 ghost use Rattle.sdd_domain.specs.CellSteps.{StepsOnNoCell};
-ghost use Rattle.sdd_domain.specs.Holding.{all_told};
 ghost use Rattle.sdd_domain.specs.Tokens.{place_of, home_of, hand_of, misses_of};
 ghost use Rattle.version_drafts.specs.Parts.{LiesWithin};
 ghost use Rattle.shared_versions.specs.Units.{IsWithinVersion, blocks_of_units, taken_from, unit_pairs, units_of};
-ghost use Rattle.shared_versions.specs.Nodes.{OwnsSegment, owned_pairs};
 ghost use Rattle.shared_versions.specs.Placing.{IsKeptSegment, IsSegmentOf, KeepUnits, IsStill, IsStillButMisses, IsToKeep, moved_from, pairs_kept, pairs_kept_at, pairs_owned, pairs_to_keep};
 
 use crate::keeping::{ToKeep, release_new};
@@ -16,8 +14,6 @@ use crate::node::Node;
 use crate::owners::{let_go, place_two};
 use crate::units::{One, Units};
 use sdd_domain::domain::Domain;
-use sdd_domain::held::Held;
-use sdd_domain::holding::hold_last;
 use sdd_domain::holds::Holds;
 use sdd_domain::local::Local;
 use sdd_domain::shared::Shared;
@@ -147,30 +143,6 @@ fn release_all<K: Ord + Drop, V: Drop>(
 {
     'releasing: while let Some(owner) = owners.pop() {
         let_go(domain, owner, local);
-    }
-    owners.destroy_empty();
-}
-
-/// Takes owners of segments into the participant's hand, from the last one on, for a version to hold.
-pub(crate) fn hold_all<K: Ord + Drop, V: Drop>(
-    domain: &Domain<Node<K, V>>,
-    mut owners: Vec<Shared<Node<K, V>>>,
-    held: &mut Vec<Held<Node<K, V>>>,
-    local: &mut Local<Node<K, V>>,
-)
-    requires home { home_of local.old ≡ place_of domain.now }
-    requires hand { hand_of local.old ≡ [] }
-    requires owners { All (IsSegmentOf (place_of domain.now).0) owners.items }
-    requires none { held.old.items ≡ [] }
-    requires room { length owners.items ≤ vec_capacity held.old }
-    ensures segments { All OwnsSegment held.new.items }
-    ensures pairs { map owned_pairs held.new.items ≡ reverse (map pairs_owned owners.items) }
-    ensures hand { hand_of local.new ≡ all_told held.new.items }
-    ensures same { IsStill local.old local.new }
-    ensures cells { StepsOnNoCell local.old local.new }
-{
-    'holding: while let Some(owner) = owners.pop() {
-        hold_last(domain, held, owner, local);
     }
     owners.destroy_empty();
 }

@@ -9,14 +9,15 @@ ghost use Rattle.shared_versions.specs.Placing.{HasPut, IsKeptSegment, IsPlanned
 ghost use Rattle.shared_versions.specs.Drafts.{IsPlaceable, nothing};
 ghost use Rattle.shared_versions.specs.Readers.{HasWidth};
 
-use crate::building::Draft;
+use crate::draft::Draft;
 use crate::keeping::{keep_all, release_new};
 use crate::kept::{WriterOwner, release_kept};
 use crate::lending::view_of;
 use crate::node::{Node, Version};
 use crate::owners::{let_go, place_two, take_back};
-use crate::pairs::{all_owners, hold_all};
-use crate::room::Rows;
+use crate::pairs::all_owners;
+use crate::room::{Room, end_rooms};
+use crate::rows::{hold_rows, take_apart};
 use sdd_domain::atomic_shared::AtomicShared;
 use sdd_domain::domain::Domain;
 use sdd_domain::holds::Holds;
@@ -27,7 +28,6 @@ use sdd_plain::tag::Tag;
 use std::alloc::Global;
 use std::marker::Model;
 use std::mem;
-use version_drafts::draft::Segments;
 use version_views::{Directory, VersionView};
 
 /// The present version, and one more owner of each of its segments, for the versions to come. It must be consumed by `end`.
@@ -78,7 +78,7 @@ impl<K: Ord + Drop, V: Drop, const S: usize> Present<K, V, S> {
         requires home { home_of local.old ≡ place_of domain.now }
         requires hand { hand_of local.old ≡ [] }
         ensures place { IfOk result (λ made. made.0.place ≡ (place_of domain.now).0) }
-        ensures version { IfOk result (λ made. made.0.version ≡ record { number = 0; width = S; blocks = []; separators = []; owners = [] }) }
+        ensures version { IfOk result (λ made. made.0.version ≡ record { number = 0; width = S; blocks = []; owners = [] }) }
         ensures root { IfOk result (λ made. IsOwnedIn (place_of domain.now).0 made.1 × (version_owned made.1 ≡ Some made.0.version)) }
         ensures hand { hand_of local.new ≡ [] }
         ensures hit { OnOk result (misses_of local.new ≡ misses_of local.old) }
@@ -203,26 +203,26 @@ fn place_draft<K: Ord + Drop, V: Drop, const S: usize>(
     ensures same { IsStillButMisses local.old local.new }
     ensures cells { StepsOnNoCell local.old local.new }
 {
-    let (number, planned, room) = draft.into_parts();
-    let Segments {
+    let (shelves, rooms, room) = draft.into_parts();
+    let (number, length, shelves, separators, ends) = shelves.into_parts();
+    let Room {
         parts,
-        separators,
-        length,
-    } = planned;
-    let Rows {
+        keys,
+        rows,
         owners,
         to_keep,
-        mut held,
         kept,
-    } = room.into_rows();
+    } = room;
+    let (parts, keys) = take_apart(shelves, parts, keys);
     let all = all_owners(domain, parts, owners, to_keep, segments, local);
     let Some((owners, to_keep)) = all else {
-        held.destroy_empty();
+        end_rooms(rooms);
+        rows.destroy_empty();
         kept.destroy_empty();
         return None;
     };
-    hold_all(domain, owners, &mut held, local);
-    let directory = Directory::new(number, length, held, separators);
+    let rows = hold_rows(domain, keys, rooms, owners, rows, local);
+    let directory = Directory::new(number, length, rows, separators, ends);
     match place_two(domain, Node::Version(Version::new(directory, S)), local) {
         Ok(both) => {
             // only now are owners moved: nothing is refused any more

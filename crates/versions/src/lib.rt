@@ -13,5 +13,5 @@ pub use shared_versions::{
 };
 pub use version_drafts::plans::OwnersRoom;
 pub use version_views::{
-    Directory, Nearby, Reply, Segment, Trees, VersionView, Walk, Write, WriteRefused, plain,
+    Directory, Nearby, Reply, Row, Segment, Trees, VersionView, Walk, Write, WriteRefused, plain,
 };
