@@ -11,6 +11,8 @@ use std::hint::black_box;
 
 unsafe extern "C" {
     fn local_bench_16(k: *const u64, n: usize, p: *const u64, m: usize, task: u32, rounds: u32, slots: usize) -> u64;
+    fn local_bench_30(k: *const u64, n: usize, p: *const u64, m: usize, task: u32, rounds: u32, slots: usize) -> u64;
+    fn local_bench_60(k: *const u64, n: usize, p: *const u64, m: usize, task: u32, rounds: u32, slots: usize) -> u64;
     fn local_bench_64(k: *const u64, n: usize, p: *const u64, m: usize, task: u32, rounds: u32, slots: usize) -> u64;
     fn local_bench_225(k: *const u64, n: usize, p: *const u64, m: usize, task: u32, rounds: u32, slots: usize) -> u64;
 }
@@ -50,6 +52,8 @@ fn slots(width: usize, keys: usize) -> usize {
 fn index(width: usize, keys: &[u64], probes: &[u64], task: &str, rounds: u32) -> u64 {
     let run = match width {
         16 => local_bench_16,
+        30 => local_bench_30,
+        60 => local_bench_60,
         64 => local_bench_64,
         _ => local_bench_225,
     };

@@ -33,6 +33,32 @@ pub extern "C" fn local_bench_16(
     run::<16>(alloc, keys, probes, task, rounds, slots)
 }
 
+/// The same with at most 30 pairs in a segment.
+#[unsafe(no_mangle)]
+pub extern "C" fn local_bench_30(
+    alloc: Global,
+    keys: &[u64],
+    probes: &[u64],
+    task: u32,
+    rounds: u32,
+    slots: usize,
+) -> u64 {
+    run::<30>(alloc, keys, probes, task, rounds, slots)
+}
+
+/// The same with at most 60 pairs in a segment.
+#[unsafe(no_mangle)]
+pub extern "C" fn local_bench_60(
+    alloc: Global,
+    keys: &[u64],
+    probes: &[u64],
+    task: u32,
+    rounds: u32,
+    slots: usize,
+) -> u64 {
+    run::<60>(alloc, keys, probes, task, rounds, slots)
+}
+
 /// The same with at most 64 pairs in a segment.
 #[unsafe(no_mangle)]
 pub extern "C" fn local_bench_64(
