@@ -41,6 +41,10 @@ between_join xs from mid upto h k =
     ∙ ap (λ ys. between from mid xs ++ take (upto - mid) ys) (drop-drop (mid - from) from xs ∙ ap (λ n. drop n xs) end)
     )
 
+-- a row begins where the one before it ends
+pub start_behind : (ends : List ℕ) (row : ℕ) → end_of ends row ≡ start_of ends (row + 1)
+start_behind ends row = let on : suc row ≡ row + 1 = omega arith in ap (start_of ends) on
+
 pub no_length : {X : Type 0} (xs : List X) → length xs ≡ 0 → xs ≡ []
 no_length [] h = refl
 no_length (x ∷ xs) h = absurd (omega (arith, h))
@@ -126,6 +130,23 @@ module _ {K V : Type 0} (blocks : List (List (K × V))) (ends : List ℕ) where
     whole = b.whole;
     given = b.given ∙ ap (λ bs. bs ++ rear) a.given ∙ append_assoc (blocks_given blocks c) fore rear;
     trees = (let first = a.trees in let second = b.trees in omega (arith, first, second));
+  }
+
+  -- the same is there
+  pub takes_same : (c c' : Shelving K V) → c'.rows.items ≡ c.rows.items → c'.greatest.items ≡ c.greatest.items → c'.ends.items ≡ c.ends.items → c'.count ≡ c.count → c'.parts.items ≡ c.parts.items → c'.keys.items ≡ c.keys.items → IsShelving blocks ends c → TakesMore blocks ends [] 0 c c'
+  takes_same c c' rows greatest ends' count parts' keys h = record {
+    whole = record {
+      rows = subst (All (λ r. IsRow (shelf_blocks blocks r.segments) (row_keys r))) (sym rows) h.rows;
+      there = subst (All (λ r. LiesOn ends r.segments)) (sym rows) h.there;
+      greatest = ap (map Some) greatest ∙ h.greatest ∙ ap (λ rs. map greatest_key (row_lists blocks rs)) (sym rows);
+      ends = subst (λ rs. AreEnds (row_owners (shelf_blocks blocks)) rs c'.ends.items) (sym rows) (subst (AreEnds (row_owners (shelf_blocks blocks)) c.rows.items) (sym ends') h.ends);
+      count = count ∙ h.count ∙ ap (λ rs. length (shelved_blocks blocks rs)) (sym rows);
+      keys = ap (map Some) keys ∙ h.keys ∙ ap (λ ps. map greatest_key (blocks_of_parts blocks ps)) (sym parts');
+      inside = subst (All (LiesInside ends)) (sym parts') h.inside;
+      few = subst (λ ks. length ks ≤ 240) (sym keys) h.few;
+    };
+    given = ap (λ rs. shelved_blocks blocks rs ++ blocks_of_parts blocks c'.parts.items) rows ∙ ap (λ ps. shelved_blocks blocks c.rows.items ++ blocks_of_parts blocks ps) parts' ∙ sym (append-nil (blocks_given blocks c));
+    trees = (let same = ap made_on_all rows in let made = ap made_in parts' in omega (arith, same, made));
   }
 
   -- ---- the open row
@@ -340,6 +361,16 @@ next_place blocks d cut row end upto inside is less within =
     ] in
     let up = cut.rising (row + 1) more in
     record { inside = more; begins = omega (arith, start); stops = omega (arith, start, up) }
+
+-- the row that begins at a place has it, where there are more
+pub begun_place : {K V R : Type 0} (blocks : List (List (K × V))) (d : Directory K R) → CutsInRows blocks d → (row upto : ℕ) → row ≤ length d.ends.items → start_of d.ends.items row < upto → upto ≤ length blocks → HasPlace d.ends.items row (start_of d.ends.items row)
+begun_place blocks d cut row upto inside less within =
+    let ends = d.ends.items in
+    let more : row < length ends = elim (eqb_tells row (length ends)) [
+      | inl last ↦ let all = ap (start_of ends) (sym last.1) in let upto' = cut.upto in absurd (omega (arith, all, upto', less, within))
+      | inr other ↦ let ne = other.1 in omega (arith, inside, ne)
+    ] in
+    record { inside = more; begins = omega arith; stops = cut.rising row more }
 
 -- the row that was read at a place is there
 pub row_read : {K V R : Type 0} (blocks : List (List (K × V))) (d : Directory K R) → CutsInRows blocks d → (row : ℕ) → row < length d.ends.items → (rows : List (Row K R)) (r : Row K R) → rows ≡ d.rows.items → r ≡ get_or rows row r → slice_get d.rows.items row ≡ Some r

@@ -1,5 +1,5 @@
 -- rows of a version that is being built
-use Rattle.std.specs.Prelude.{◌≡◌, ℕ, ◌+◌, ◌≤◌, ◌<◌, List, [], ◌∷◌, ◌++◌, Some, length, map, sum_by}
+use Rattle.std.specs.Prelude.{◌≡◌, ℕ, ◌+◌, ◌≤◌, ◌<◌, List, [], ◌∷◌, ◌++◌, Some, length, map, sum_by, vec_capacity, vec_len}
 use Rattle.std.specs.List.{All, flat_map}
 use Rattle.version_views.specs.Cuts.{greatest_key, pairs_in}
 use Rattle.version_views.specs.Items.{row_keys, row_owners}
@@ -32,6 +32,12 @@ pub record IsWholeRow (ends : List ℕ) (row from upto : ℕ) : Type 0 where
   pub inside : row < length ends
   pub begins : from ≡ start_of ends row
   pub stops : upto ≡ end_of ends row
+
+-- a stretch begins with a whole row
+pub record BeginsRow (ends : List ℕ) (row from upto : ℕ) : Type 0 where
+  pub inside : row < length ends
+  pub begins : from ≡ start_of ends row
+  pub stops : end_of ends row ≤ upto
 
 module _ {K V : Type 0} where
   -- the blocks of a row, where the older version has these; and those of all rows, in order
@@ -90,12 +96,25 @@ module _ {K V : Type 0} (blocks : List (List (K × V))) where
     pub given : blocks_given c' ≡ blocks_given c ++ more
     pub trees : trees_given c' ≡ trees_given c + made
 
+  -- whole rows were given, from one up to the next, which begins at or before a place
+  pub record TakesRows (ends : List ℕ) (first next upto : ℕ) (c c' : Shelving K V) : Type 0 where
+    pub inside : next ≤ length ends
+    pub more : start_of ends first < start_of ends next
+    pub within : start_of ends next ≤ upto
+    pub taken : TakesMore ends (between (start_of ends first) (start_of ends next) blocks) 0 c c'
+
   -- they are the rows of this directory
   pub record IsShelved (ends : List ℕ) (c : Shelving K V) (d : Directory K (Shelf K V)) : Type 0 where
     pub given : shelved_blocks blocks d.rows.items ≡ blocks_given c
     pub trees : made_on_all d.rows.items ≡ trees_given c
     pub rowed : IsRowed (shelf_blocks blocks) d
     pub there : All (λ r. LiesOn ends r.segments) d.rows.items
+
+-- there is room for so many rows more
+pub record HasRoom {K V : Type 0} (more : ℕ) (c : Shelving K V) : Type 0 where
+  pub rows : vec_len c.rows + more ≤ vec_capacity c.rows
+  pub greatest : vec_len c.greatest + more ≤ vec_capacity c.greatest
+  pub ends : vec_len c.ends + more ≤ vec_capacity c.ends
 
 -- a row more is closed
 pub record ClosesRow {K V : Type 0} (row : Row K (Shelf K V)) (last : K) (size : ℕ) (c c' : Shelving K V) : Type 0 where

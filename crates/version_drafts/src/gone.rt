@@ -109,13 +109,14 @@ pub(crate) fn thins<K: Ord, V, W: Trees<K, V>>(
     gone: &[Gone<K>],
     old: &VersionView<'_, K, V, W>,
     place: usize,
+    tree: &TreeIndex<K, V>,
 ) -> bool
     requires spans { All (IsSpan K.cmp old.now) gone.now }
-    requires within { place < length old.now }
+    requires there { Some tree.now.pairs ≡ slice_get old.now place }
     ensures some { IsTrue result → (b : List (K × V)) → slice_get old.now place ≡ Some b → AllKeys (λ k. is_gone K.cmp gone.now k ≡ false) b → ⊥ }
     ensures none { result ≡ false → (b : List (K × V)) → slice_get old.now place ≡ Some b → AllKeys (λ k. is_gone K.cmp gone.now k ≡ false) b }
 {
-    nears(gone, old, place) && has_gone(gone, old.segment(place))
+    nears(gone, old, place) && has_gone(gone, tree)
 }
 
 /// Whether a range that is gone may have a pair of the segment at a place.

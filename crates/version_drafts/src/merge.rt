@@ -21,6 +21,7 @@ use crate::segments::{
 };
 use std::alloc::{AllocError, Global};
 use std::cmp::Ordering;
+use tree_index::TreeIndex;
 use version_views::{Trees, VersionView};
 
 /// The segments of the list that changes make of a version. A segment that no change touches is taken over, save where it
@@ -107,16 +108,17 @@ fn pass<K: Clone + Ord + Drop, V: Clone + Drop, W: Trees<K, V>, const S: usize>(
     // how many there are shows the proof that a place behind this one can be named
     let _count = old.segment_count();
     let next = place + 1;
+    let tree = old.segment(place);
     if covers(gone, old, place) {
-        count_out(out, old, place);
+        count_out(out, old, place, tree);
         return Ok(next);
     }
-    if touches::<K, V, W, S>(changes, gone, old, place) {
-        merge_segment::<K, V, W, S>(out, changes, gone, old, place)?;
+    if touches::<K, V, W, S>(changes, gone, old, place, tree) {
+        merge_segment::<K, V, W, S>(out, changes, gone, old, place, tree)?;
         return Ok(next);
     }
-    if joins::<K, V, S>(out, old.segment(place).len()) {
-        merge_segment::<K, V, W, S>(out, changes, gone, old, place)?;
+    if joins::<K, V, S>(out, tree.len()) {
+        merge_segment::<K, V, W, S>(out, changes, gone, old, place, tree)?;
         return Ok(next);
     }
     let end = stretch_end(changes, gone, old, next);
@@ -171,17 +173,19 @@ fn touches<K: Ord, V, W: Trees<K, V>, const S: usize>(
     gone: &[Gone<K>],
     old: &VersionView<'_, K, V, W>,
     place: usize,
+    tree: &TreeIndex<K, V>,
 ) -> bool
     requires old { IsCut K.cmp S old.now (separators_of old.now) }
     requires spans { All (IsSpan K.cmp old.now) gone.now }
     requires within { place < length old.now }
+    requires there { Some tree.now.pairs ≡ slice_get old.now place }
     ensures touched { IsTrue result → OfBlock old.now place (IsTouched K.cmp changes.now gone.now) }
     ensures passed { result ≡ false → OfBlock old.now place (IsUntouched K.cmp changes.now gone.now) }
 {
     if reaches::<K, V, W, S>(changes, old, place) {
         return true;
     }
-    thins(gone, old, place)
+    thins(gone, old, place, tree)
 }
 
 /// Whether the next change touches the segment at a place: its key is at most the greatest one there.
@@ -225,35 +229,44 @@ fn make_ready<K: Ord + Drop, V: Drop, W: Trees<K, V>, const S: usize>(
     changes: &ChangeScan<'_, '_, K, V>,
     old: &VersionView<'_, K, V, W>,
     place: usize,
+    tree: &TreeIndex<K, V>,
 ) -> Result<(), AllocError>
     requires old { IsCut K.cmp S old.now (separators_of old.now) }
+    requires within { place < length old.now }
     ensures row { OnOk result (out.new.row ≡ out.old.row) }
     ensures held { OnOk result (out.new.held ≡ out.old.held) }
     ensures tail { OnOk result (out.new.tail.pairs ≡ out.old.tail.pairs) }
     ensures length { OnOk result (out.new.length ≡ out.old.length) }
 {
-    expect::<K, V, S>(out, pairs_ahead::<K, V, W, S>(changes, old, place))
+    expect::<K, V, S>(
+        out,
+        pairs_ahead::<K, V, W, S>(changes, old, place, tree.len()),
+    )
 }
 
-/// How many pairs come of the segments from a place on, up to one that no change touches, or until they fill two trees.
+/// How many pairs come of the segment at a place, which has `size` of them, and of those behind it, up to one that no change
+/// touches, or until they fill two trees.
 fn pairs_ahead<K: Ord, V, W: Trees<K, V>, const S: usize>(
     changes: &ChangeScan<'_, '_, K, V>,
     old: &VersionView<'_, K, V, W>,
     place: usize,
+    size: usize,
 ) -> usize
     requires old { IsCut K.cmp S old.now (separators_of old.now) }
+    requires within { place < length old.now }
 {
+    let count = old.segment_count();
     let mut ahead = changes.copy();
-    let mut total = 0usize;
-    for at in place..old.segment_count() {
-        if at > place && !reaches::<K, V, W, S>(&ahead, old, at) {
-            return total;
-        }
-        let more = pass_upto::<K, V, W, S>(&mut ahead, old, at);
-        total = total.saturating_add((&*old).segment(at).len().saturating_add(more));
+    let mut total = size.saturating_add(pass_upto::<K, V, W, S>(&mut ahead, old, place));
+    for at in place + 1..count {
         if total / 2 >= S {
             return total;
         }
+        let more = pass_upto::<K, V, W, S>(&mut ahead, old, at);
+        if more == 0 {
+            return total;
+        }
+        total = total.saturating_add((&*old).segment(at).len().saturating_add(more));
     }
     total
 }
@@ -267,6 +280,9 @@ fn pass_upto<K: Ord, V, W: Trees<K, V>, const S: usize>(
     requires separated { IsSeparated old.now (separators_of old.now) }
     requires within { place < length old.now }
 {
+    if ahead.front().is_none() {
+        return 0;
+    }
     let Some(last) = old.greatest_at(place) else {
         return 0;
     };
@@ -291,11 +307,13 @@ fn merge_segment<K: Clone + Ord + Drop, V: Clone + Drop, W: Trees<K, V>, const S
     gone: &[Gone<K>],
     old: &VersionView<'_, K, V, W>,
     place: usize,
+    tree: &TreeIndex<K, V>,
 ) -> Result<(), AllocError>
     requires keys { ClonesAreSame K.is_clone }
     requires values { ClonesAreSame V.is_clone }
     requires old { IsCut K.cmp S old.now (separators_of old.now) }
     requires within { place < length old.now }
+    requires there { Some tree.now.pairs ≡ slice_get old.now place }
     requires sorted { IsAscending K.cmp (pairs_in (drop place old.now)) }
     requires whole { IsCutting K.cmp S old.now out.old }
     requires rising { IsAscending K.cmp (given_pairs old.now out.old ++ ahead K.cmp changes.old gone.now place old.now) }
@@ -307,9 +325,9 @@ fn merge_segment<K: Clone + Ord + Drop, V: Clone + Drop, W: Trees<K, V>, const S
     ensures reached { OnOk result (PassesWhatReaches K.cmp gone.now old.now place changes.old changes.new) }
     ensures counted { OnOk result (CountsFrom old.now (place + 1) out.new) }
 {
-    count_out(out, old, place);
-    make_ready::<K, V, W, S>(out, changes, old, place)?;
-    let mut pairs = Sieve::new((&*old).segment(place), gone);
+    count_out(out, old, place, tree);
+    make_ready::<K, V, W, S>(out, changes, old, place, tree)?;
+    let mut pairs = Sieve::new(tree, gone);
     let mut more = true;
     while more {
         more = merge_more::<K, V, W, S>(out, changes, &mut pairs, gone, old, place)?;

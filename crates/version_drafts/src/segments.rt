@@ -136,15 +136,18 @@ pub(crate) fn count_out<K: Ord, V, W: Trees<K, V>>(
     out: &mut SegmentBuilder<K, V>,
     old: &VersionView<'_, K, V, W>,
     place: usize,
+    tree: &TreeIndex<K, V>,
 )
-    requires within { place < length old.now }
+    requires there { Some tree.now.pairs ≡ slice_get old.now place }
     requires counted { CountsFrom old.now place out.old }
     ensures row { out.new.row ≡ out.old.row }
     ensures held { out.new.held ≡ out.old.held }
     ensures tail { out.new.tail.pairs ≡ out.old.tail.pairs }
     ensures counted { CountsFrom old.now (place + 1) out.new }
 {
-    out.length -= old.segment(place).len();
+    let _ = old;
+    let _ = place;
+    out.length -= tree.len();
 }
 
 /// Says about how many pairs come next, so that a tree has room for them from its beginning on.

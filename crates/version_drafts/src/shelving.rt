@@ -1,16 +1,17 @@
 //! Rows that are being built: those that are closed, and the parts of an open one.
 //!
-//! A row of the older version is taken over whole, with its keys, where no write touches one of its segments. Of a row that is
-//! touched, the other segments go into the open row, in pieces of at most half a row, and their keys are cloned. The open row is
-//! closed where a whole row comes behind it, and where it would be too long with what comes next. With fewer segments than a
-//! quarter of a row it stays open, and a whole row behind it is taken piece by piece. So rows don't become ever shorter.
+//! A row of the older version is taken over whole, with its keys, where no write touches one of its segments. Rows side by side
+//! are taken by one loop, which has room for all. Of a row that is touched, the other segments go into the open row, in pieces of
+//! at most half a row, and their keys are cloned. The open row is closed where a whole row comes behind it, and where it would be
+//! too long with what comes next. With fewer segments than a quarter of a row it stays open, and a whole row behind it is taken
+//! piece by piece. So rows don't become ever shorter.
 
 ghost use Rattle.std.specs.Prelude.{◌≡◌, ◌≤◌, ◌<◌, ◌+◌, ◌-◌, ◌∷◌, ◌++◌, [], ℕ, IsTrue, List, Some, length, map, IfOk, OnOk};
 ghost use Rattle.leaf_array.specs.Values.{ClonesAreSame};
 ghost use Rattle.version_views.specs.Cuts.{greatest_key, pairs_in};
 ghost use Rattle.version_views.specs.Rows.{CutsInRows, between, end_of, row_part, start_of};
 ghost use Rattle.version_drafts.specs.Cutting.{OfBlock};
-ghost use Rattle.version_drafts.specs.Shelves.{ClosesRow, IsShelved, IsShelving, IsWholeRow, LiesInRow, TakesMore};
+ghost use Rattle.version_drafts.specs.Shelves.{BeginsRow, ClosesRow, HasRoom, IsShelved, IsShelving, IsWholeRow, LiesInRow, TakesMore, TakesRows};
 
 use crate::segments::Part;
 use crate::shelves::Shelf;
@@ -127,10 +128,15 @@ pub(crate) fn put_stretch<K: Clone + Ord + Drop, V: Drop, W: Trees<K, V>>(
     let mut row = rows.spot_of(from).row;
     let mut at = from;
     while at < upto {
-        let end = end_in(rows, row, upto);
-        put_in_row(out, old, rows, row, at, end)?;
-        at = end;
-        row += 1;
+        if takes_whole(out, rows, row, at, upto) {
+            row = put_rows(out, old, rows, row, upto)?;
+            at = rows.start_of(row);
+        } else {
+            let end = end_in(rows, row, upto);
+            put_pieces(out, old, rows, row, at, end)?;
+            at = end;
+            row += 1;
+        }
     }
     Ok(())
 }
@@ -147,34 +153,8 @@ fn end_in<K, R>(rows: &Directory<K, R>, row: usize, upto: usize) -> usize
     if end < upto { end } else { upto }
 }
 
-/// Takes segments of one row of the older version: the row itself, where they are all that it has and the open row has enough
-/// segments or none.
-fn put_in_row<K: Clone + Ord + Drop, V: Drop, W: Trees<K, V>>(
-    out: &mut Shelving<K, V>,
-    old: &VersionView<'_, K, V, W>,
-    rows: &Directory<K, W::Owners>,
-    row: usize,
-    from: usize,
-    upto: usize,
-) -> Result<(), AllocError>
-    requires keys { ClonesAreSame K.is_clone }
-    requires rows { CutsInRows old.now rows.now }
-    requires inside { row < length rows.now.ends.items }
-    requires begins { start_of rows.now.ends.items row ≤ from }
-    requires some { from < upto }
-    requires stops { upto ≤ end_of rows.now.ends.items row }
-    requires whole { IsShelving old.now rows.now.ends.items out.old }
-    ensures { OnOk result (TakesMore old.now rows.now.ends.items (between from upto old.now) 0 out.old out.new) }
-{
-    if takes_whole(out, rows, row, from, upto) {
-        close(out)?;
-        put_row(out, old, rows, row)
-    } else {
-        put_pieces(out, old, rows, row, from, upto)
-    }
-}
-
-/// Whether a stretch is taken as a row of the older version.
+/// Whether a stretch begins with a row of the older version that is taken over whole: all of it is there, and the open row has
+/// enough segments or none.
 fn takes_whole<K: Ord, V, R>(
     out: &Shelving<K, V>,
     rows: &Directory<K, R>,
@@ -183,17 +163,17 @@ fn takes_whole<K: Ord, V, R>(
     upto: usize,
 ) -> bool
     requires { row < length rows.now.ends.items }
-    ensures { IsTrue result → IsWholeRow rows.now.ends.items row from upto }
+    ensures { IsTrue result → BeginsRow rows.now.ends.items row from upto }
 {
     takes_row(out) && is_whole(rows, row, from, upto)
 }
 
-/// Whether a stretch is a whole row of the older version.
+/// Whether a stretch begins with a whole row of the older version.
 fn is_whole<K, R>(rows: &Directory<K, R>, row: usize, from: usize, upto: usize) -> bool
     requires { row < length rows.now.ends.items }
-    ensures { IsTrue result → IsWholeRow rows.now.ends.items row from upto }
+    ensures { IsTrue result → BeginsRow rows.now.ends.items row from upto }
 {
-    from == rows.start_of(row) && upto == rows.ends()[row]
+    from == rows.start_of(row) && rows.ends()[row] <= upto
 }
 
 /// Whether the open row can be closed where a row comes behind it: it has enough segments, or none.
@@ -201,26 +181,77 @@ fn takes_row<K: Ord, V>(out: &Shelving<K, V>) -> bool {
     out.keys.is_empty() || out.keys.len() >= row_size(out) / 4
 }
 
-/// Takes a row of the older version over whole, where no row is open.
+/// Takes rows of the older version over whole, from one on, as far as they end by a place. Answers which row comes behind them.
+#[inline(never)]
+fn put_rows<K: Clone + Ord + Drop, V: Drop, W: Trees<K, V>>(
+    out: &mut Shelving<K, V>,
+    old: &VersionView<'_, K, V, W>,
+    rows: &Directory<K, W::Owners>,
+    first: usize,
+    upto: usize,
+) -> Result<usize, AllocError>
+    requires keys { ClonesAreSame K.is_clone }
+    requires rows { CutsInRows old.now rows.now }
+    requires inside { first < length rows.now.ends.items }
+    requires some { end_of rows.now.ends.items first ≤ upto }
+    requires whole { IsShelving old.now rows.now.ends.items out.old }
+    ensures { IfOk result (λ next. TakesRows old.now rows.now.ends.items first next upto out.old out.new) }
+{
+    close(out)?;
+    let ends = rows.ends();
+    reserve_rows(out, ends.len() - first)?;
+    let mut row = first;
+    let mut at = rows.start_of(first);
+    while row < ends.len() && ends[row] <= upto {
+        let end = ends[row];
+        put_row(out, old, rows, row, at, end)?;
+        at = end;
+        row += 1;
+    }
+    Ok(row)
+}
+
+/// Makes room for so many rows more.
+fn reserve_rows<K: Ord, V>(out: &mut Shelving<K, V>, more: usize) -> Result<(), AllocError>
+    ensures same { OnOk result ((blocks : List (List (K × V))) (ends : List ℕ) → IsShelving blocks ends out.old → TakesMore blocks ends [] 0 out.old out.new) }
+    ensures keys { OnOk result (out.new.keys.items ≡ out.old.keys.items) }
+    ensures room { OnOk result (HasRoom more out.new) }
+{
+    out.rows.reserve(more)?;
+    out.greatest.reserve(more)?;
+    out.ends.reserve(more)
+}
+
+/// Takes a row of the older version over whole, where no row is open. Condition: there is room for it.
 fn put_row<K: Clone + Ord + Drop, V: Drop, W: Trees<K, V>>(
     out: &mut Shelving<K, V>,
     old: &VersionView<'_, K, V, W>,
     rows: &Directory<K, W::Owners>,
     row: usize,
+    from: usize,
+    upto: usize,
 ) -> Result<(), AllocError>
     requires keys { ClonesAreSame K.is_clone }
     requires rows { CutsInRows old.now rows.now }
-    requires inside { row < length rows.now.ends.items }
+    requires is { IsWholeRow rows.now.ends.items row from upto }
     requires none { out.old.keys.items ≡ [] }
+    requires room { HasRoom 1 out.old }
     requires whole { IsShelving old.now rows.now.ends.items out.old }
-    ensures { OnOk result (TakesMore old.now rows.now.ends.items (row_part rows.now.ends.items row old.now) 0 out.old out.new) }
+    ensures taken { OnOk result (TakesMore old.now rows.now.ends.items (between from upto old.now) 0 out.old out.new) }
+    ensures none { OnOk result (out.new.keys.items ≡ []) }
+    ensures room { (more : ℕ) → HasRoom (more + 1) out.old → OnOk result (HasRoom more out.new) }
 {
-    let from = rows.start_of(row);
-    let upto = rows.ends()[row];
+    let Some(count) = out.count.checked_add(upto - from) else {
+        return Err(AllocError);
+    };
     let last = key_of_row(old, rows, row)?;
     let keys = rows.rows()[row].shared_keys()?;
     let segments = Shelf::Older { row, from, upto };
-    push_row(out, Row::new(segments, keys), last, upto - from)
+    out.rows.push_reserved(Row::new(segments, keys));
+    out.greatest.push_reserved(last);
+    out.ends.push_reserved(count);
+    out.count = count;
+    Ok(())
 }
 
 /// Takes segments of one row of the older version by pieces, each of at most half as many as a new row has.
