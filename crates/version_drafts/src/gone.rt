@@ -9,6 +9,7 @@ ghost use Rattle.version_views.specs.Cuts.{separators_of};
 ghost use Rattle.version_views.specs.SeparatorSearch.{IsOrdered};
 
 use crate::scans::PairScan;
+use crate::segments::Here;
 use std::alloc::AllocError;
 use std::ops::Bound;
 use tree_index::TreeIndex;
@@ -103,20 +104,19 @@ pub(crate) fn covers<K: Ord, V, W: Trees<K, V>>(
     false
 }
 
-/// Whether a pair of the segment at a place lies in a range that is gone: a look at its tree, where the segments of the
+/// Whether a pair of a segment lies in a range that is gone: a look at its tree, where the segments of the
 /// ends don't tell.
 pub(crate) fn thins<K: Ord, V, W: Trees<K, V>>(
     gone: &[Gone<K>],
     old: &VersionView<'_, K, V, W>,
-    place: usize,
-    tree: &TreeIndex<K, V>,
+    here: &Here<'_, K, V>,
 ) -> bool
     requires spans { All (IsSpan K.cmp old.now) gone.now }
-    requires there { Some tree.now.pairs ≡ slice_get old.now place }
-    ensures some { IsTrue result → (b : List (K × V)) → slice_get old.now place ≡ Some b → AllKeys (λ k. is_gone K.cmp gone.now k ≡ false) b → ⊥ }
-    ensures none { result ≡ false → (b : List (K × V)) → slice_get old.now place ≡ Some b → AllKeys (λ k. is_gone K.cmp gone.now k ≡ false) b }
+    requires there { Some here.now.tree.now.pairs ≡ slice_get old.now here.now.place }
+    ensures some { IsTrue result → (b : List (K × V)) → slice_get old.now here.now.place ≡ Some b → AllKeys (λ k. is_gone K.cmp gone.now k ≡ false) b → ⊥ }
+    ensures none { result ≡ false → (b : List (K × V)) → slice_get old.now here.now.place ≡ Some b → AllKeys (λ k. is_gone K.cmp gone.now k ≡ false) b }
 {
-    nears(gone, old, place) && has_gone(gone, tree)
+    nears(gone, old, here.place) && has_gone(gone, here.tree)
 }
 
 /// Whether a range that is gone may have a pair of the segment at a place.

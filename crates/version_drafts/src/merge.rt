@@ -17,11 +17,10 @@ use crate::gone::{Gone, apart_upto, covers, thins};
 use crate::row::{ChangeScan, Edit, EditRow};
 use crate::scans::Sieve;
 use crate::segments::{
-    SegmentBuilder, Segments, begun, count_out, expect, finish, push, take_stretch,
+    Here, SegmentBuilder, Segments, begun, count_out, expect, finish, push, take_stretch,
 };
 use std::alloc::{AllocError, Global};
 use std::cmp::Ordering;
-use tree_index::TreeIndex;
 use version_views::{Trees, VersionView};
 
 /// The segments of the list that changes make of a version. A segment that no change touches is taken over, save where it
@@ -74,8 +73,9 @@ fn merged_with<K: Clone + Ord + Drop, V: Clone + Drop, W: Trees<K, V>, const S: 
     let mut left = edits.scan();
     let count = old.segment_count();
     let mut place = 0;
+    let mut near = 0;
     while place < count {
-        place = pass::<K, V, W, S>(&mut out, &mut left, gone, old, place)?;
+        place = pass::<K, V, W, S>(&mut out, &mut left, gone, old, place, &mut near)?;
     }
     put_all::<K, V, W, S>(&mut out, &mut left, old)?;
     let segments = finish::<K, V, W, S>(out, old)?;
@@ -83,13 +83,15 @@ fn merged_with<K: Clone + Ord + Drop, V: Clone + Drop, W: Trees<K, V>, const S: 
 }
 
 /// Merges what is left of the segment at a place with the changes that touch it, or takes it over with those behind it that
-/// nothing touches. One that a range has all pairs of is passed by. Answers the place of the next segment.
+/// nothing touches. One that a range has all pairs of is passed by. Answers the place of the next segment. `near` is the row of the
+/// segment that was passed last, where this one is looked for first.
 fn pass<K: Clone + Ord + Drop, V: Clone + Drop, W: Trees<K, V>, const S: usize>(
     out: &mut SegmentBuilder<K, V>,
     changes: &mut ChangeScan<'_, '_, K, V>,
     gone: &[Gone<K>],
     old: &VersionView<'_, K, V, W>,
     place: usize,
+    near: &mut usize,
 ) -> Result<usize, AllocError>
     requires keys { ClonesAreSame K.is_clone }
     requires values { ClonesAreSame V.is_clone }
@@ -108,17 +110,23 @@ fn pass<K: Clone + Ord + Drop, V: Clone + Drop, W: Trees<K, V>, const S: usize>(
     // how many there are shows the proof that a place behind this one can be named
     let _count = old.segment_count();
     let next = place + 1;
-    let tree = old.segment(place);
+    let found = old.segment_near(place, *near);
+    let here = Here {
+        place,
+        row: found.1,
+        tree: found.0,
+    };
+    *near = here.row;
     if covers(gone, old, place) {
-        count_out(out, old, place, tree);
+        count_out(out, old, &here);
         return Ok(next);
     }
-    if touches::<K, V, W, S>(changes, gone, old, place, tree) {
-        merge_segment::<K, V, W, S>(out, changes, gone, old, place, tree)?;
+    if touches::<K, V, W, S>(changes, gone, old, &here) {
+        merge_segment::<K, V, W, S>(out, changes, gone, old, &here)?;
         return Ok(next);
     }
-    if joins::<K, V, S>(out, tree.len()) {
-        merge_segment::<K, V, W, S>(out, changes, gone, old, place, tree)?;
+    if joins::<K, V, S>(out, here.tree.len()) {
+        merge_segment::<K, V, W, S>(out, changes, gone, old, &here)?;
         return Ok(next);
     }
     let end = stretch_end(changes, gone, old, next);
@@ -167,41 +175,40 @@ fn reached_at<K: Ord, V, W: Trees<K, V>>(
     }
 }
 
-/// Whether the next change touches the segment at a place, or a range that is gone has a pair of it.
+/// Whether the next change touches a segment, or a range that is gone has a pair of it.
 fn touches<K: Ord, V, W: Trees<K, V>, const S: usize>(
     changes: &ChangeScan<'_, '_, K, V>,
     gone: &[Gone<K>],
     old: &VersionView<'_, K, V, W>,
-    place: usize,
-    tree: &TreeIndex<K, V>,
+    here: &Here<'_, K, V>,
 ) -> bool
     requires old { IsCut K.cmp S old.now (separators_of old.now) }
     requires spans { All (IsSpan K.cmp old.now) gone.now }
-    requires within { place < length old.now }
-    requires there { Some tree.now.pairs ≡ slice_get old.now place }
-    ensures touched { IsTrue result → OfBlock old.now place (IsTouched K.cmp changes.now gone.now) }
-    ensures passed { result ≡ false → OfBlock old.now place (IsUntouched K.cmp changes.now gone.now) }
+    requires within { here.now.place < length old.now }
+    requires there { Some here.now.tree.now.pairs ≡ slice_get old.now here.now.place }
+    ensures touched { IsTrue result → OfBlock old.now here.now.place (IsTouched K.cmp changes.now gone.now) }
+    ensures passed { result ≡ false → OfBlock old.now here.now.place (IsUntouched K.cmp changes.now gone.now) }
 {
-    if reaches::<K, V, W, S>(changes, old, place) {
+    if reaches::<K, V, W, S>(changes, old, here) {
         return true;
     }
-    thins(gone, old, place, tree)
+    thins(gone, old, here)
 }
 
-/// Whether the next change touches the segment at a place: its key is at most the greatest one there.
+/// Whether the next change touches a segment: its key is at most the greatest one there.
 fn reaches<K: Ord, V, W: Trees<K, V>, const S: usize>(
     changes: &ChangeScan<'_, '_, K, V>,
     old: &VersionView<'_, K, V, W>,
-    place: usize,
+    here: &Here<'_, K, V>,
 ) -> bool
     requires old { IsCut K.cmp S old.now (separators_of old.now) }
-    requires within { place < length old.now }
-    ensures reached { IsTrue result → OfBlock old.now place (IsReachedBy K.cmp changes.now) }
-    ensures passed { result ≡ false → OfBlock old.now place (IsPassedBy K.cmp changes.now) }
+    requires within { here.now.place < length old.now }
+    ensures reached { IsTrue result → OfBlock old.now here.now.place (IsReachedBy K.cmp changes.now) }
+    ensures passed { result ≡ false → OfBlock old.now here.now.place (IsPassedBy K.cmp changes.now) }
 {
     match changes.front() {
         None => false,
-        Some((key, _)) => match old.greatest_at(place) {
+        Some((key, _)) => match old.greatest_near(here.place, here.row) {
             Some(last) => match key.cmp(last) {
                 Ordering::Less => true,
                 Ordering::Equal => true,
@@ -223,59 +230,57 @@ fn joins<K: Ord, V, const S: usize>(out: &SegmentBuilder<K, V>, size: usize) -> 
     last > 0 && size <= S && last <= S - size
 }
 
-/// Tells how many pairs come of the segment at a place and of those behind it, up to one that no change touches.
+/// Tells how many pairs come of a segment and of those behind it, up to one that no change touches.
 fn make_ready<K: Ord + Drop, V: Drop, W: Trees<K, V>, const S: usize>(
     out: &mut SegmentBuilder<K, V>,
     changes: &ChangeScan<'_, '_, K, V>,
     old: &VersionView<'_, K, V, W>,
-    place: usize,
-    tree: &TreeIndex<K, V>,
+    here: &Here<'_, K, V>,
 ) -> Result<(), AllocError>
     requires old { IsCut K.cmp S old.now (separators_of old.now) }
-    requires within { place < length old.now }
+    requires within { here.now.place < length old.now }
     ensures row { OnOk result (out.new.row ≡ out.old.row) }
     ensures held { OnOk result (out.new.held ≡ out.old.held) }
     ensures tail { OnOk result (out.new.tail.pairs ≡ out.old.tail.pairs) }
     ensures length { OnOk result (out.new.length ≡ out.old.length) }
 {
-    expect::<K, V, S>(
-        out,
-        pairs_ahead::<K, V, W, S>(changes, old, place, tree.len()),
-    )
+    expect::<K, V, S>(out, pairs_ahead::<K, V, W, S>(changes, old, here))
 }
 
-/// How many pairs come of the segment at a place, which has `size` of them, and of those behind it, up to one that no change
-/// touches, or until they fill two trees.
+/// How many pairs come of a segment and of those behind it, up to one that no change touches, or until they fill two trees.
 fn pairs_ahead<K: Ord, V, W: Trees<K, V>, const S: usize>(
     changes: &ChangeScan<'_, '_, K, V>,
     old: &VersionView<'_, K, V, W>,
-    place: usize,
-    size: usize,
+    here: &Here<'_, K, V>,
 ) -> usize
     requires old { IsCut K.cmp S old.now (separators_of old.now) }
-    requires within { place < length old.now }
+    requires within { here.now.place < length old.now }
 {
     let count = old.segment_count();
     let mut ahead = changes.copy();
-    let mut total = size.saturating_add(pass_upto::<K, V, W, S>(&mut ahead, old, place));
-    for at in place + 1..count {
+    let first = pass_upto::<K, V, W, S>(&mut ahead, old, here.place, here.row);
+    let mut total = here.tree.len().saturating_add(first);
+    for at in here.place + 1..count {
         if total / 2 >= S {
             return total;
         }
-        let more = pass_upto::<K, V, W, S>(&mut ahead, old, at);
+        let more = pass_upto::<K, V, W, S>(&mut ahead, old, at, here.row);
         if more == 0 {
             return total;
         }
-        total = total.saturating_add((&*old).segment(at).len().saturating_add(more));
+        let (tree, _) = (&*old).segment_near(at, here.row);
+        total = total.saturating_add(tree.len().saturating_add(more));
     }
     total
 }
 
-/// Passes the changes up to the end of the segment at a place, and counts them: at most as many as a tree takes.
+/// Passes the changes up to the end of the segment at a place, and counts them: at most as many as a tree takes. It is looked for
+/// in a row first.
 fn pass_upto<K: Ord, V, W: Trees<K, V>, const S: usize>(
     ahead: &mut ChangeScan<'_, '_, K, V>,
     old: &VersionView<'_, K, V, W>,
     place: usize,
+    near: usize,
 ) -> usize
     requires separated { IsSeparated old.now (separators_of old.now) }
     requires within { place < length old.now }
@@ -283,7 +288,7 @@ fn pass_upto<K: Ord, V, W: Trees<K, V>, const S: usize>(
     if ahead.front().is_none() {
         return 0;
     }
-    let Some(last) = old.greatest_at(place) else {
+    let Some(last) = old.greatest_near(place, near) else {
         return 0;
     };
     for count in 0..S {
@@ -306,31 +311,30 @@ fn merge_segment<K: Clone + Ord + Drop, V: Clone + Drop, W: Trees<K, V>, const S
     changes: &mut ChangeScan<'_, '_, K, V>,
     gone: &[Gone<K>],
     old: &VersionView<'_, K, V, W>,
-    place: usize,
-    tree: &TreeIndex<K, V>,
+    here: &Here<'_, K, V>,
 ) -> Result<(), AllocError>
     requires keys { ClonesAreSame K.is_clone }
     requires values { ClonesAreSame V.is_clone }
     requires old { IsCut K.cmp S old.now (separators_of old.now) }
-    requires within { place < length old.now }
-    requires there { Some tree.now.pairs ≡ slice_get old.now place }
-    requires sorted { IsAscending K.cmp (pairs_in (drop place old.now)) }
+    requires within { here.now.place < length old.now }
+    requires there { Some here.now.tree.now.pairs ≡ slice_get old.now here.now.place }
+    requires sorted { IsAscending K.cmp (pairs_in (drop here.now.place old.now)) }
     requires whole { IsCutting K.cmp S old.now out.old }
-    requires rising { IsAscending K.cmp (given_pairs old.now out.old ++ ahead K.cmp changes.old gone.now place old.now) }
-    requires counted { CountsFrom old.now place out.old }
+    requires rising { IsAscending K.cmp (given_pairs old.now out.old ++ ahead K.cmp changes.old gone.now here.now.place old.now) }
+    requires counted { CountsFrom old.now here.now.place out.old }
     ensures whole { OnOk result (IsCutting K.cmp S old.now out.new) }
-    ensures list { OnOk result (KeepsListFrom K.cmp gone.now old.now place changes.old out.old (place + 1) changes.new out.new) }
-    ensures filled { OnOk result (GivesNoMoreOfBlock K.cmp S gone.now old.now place (length changes.old) out.old (length changes.new) out.new) }
+    ensures list { OnOk result (KeepsListFrom K.cmp gone.now old.now here.now.place changes.old out.old (here.now.place + 1) changes.new out.new) }
+    ensures filled { OnOk result (GivesNoMoreOfBlock K.cmp S gone.now old.now here.now.place (length changes.old) out.old (length changes.new) out.new) }
     ensures fewer { OnOk result (length changes.new ≤ length changes.old) }
-    ensures reached { OnOk result (PassesWhatReaches K.cmp gone.now old.now place changes.old changes.new) }
-    ensures counted { OnOk result (CountsFrom old.now (place + 1) out.new) }
+    ensures reached { OnOk result (PassesWhatReaches K.cmp gone.now old.now here.now.place changes.old changes.new) }
+    ensures counted { OnOk result (CountsFrom old.now (here.now.place + 1) out.new) }
 {
-    count_out(out, old, place, tree);
-    make_ready::<K, V, W, S>(out, changes, old, place, tree)?;
-    let mut pairs = Sieve::new(tree, gone);
+    count_out(out, old, here);
+    make_ready::<K, V, W, S>(out, changes, old, here)?;
+    let mut pairs = Sieve::new(here.tree, gone);
     let mut more = true;
     while more {
-        more = merge_more::<K, V, W, S>(out, changes, &mut pairs, gone, old, place)?;
+        more = merge_more::<K, V, W, S>(out, changes, &mut pairs, gone, old, here.place)?;
     }
     Ok(())
 }

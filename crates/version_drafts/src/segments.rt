@@ -77,6 +77,15 @@ pub(crate) fn count_of<K: Ord, V>(parts: &[Part<K, V>]) -> Option<usize>
     Some(count)
 }
 
+/// A segment of the older version: its place, the row that it lies in, and its tree. Segments beside it are found by that row
+/// without a search.
+#[derive(Drop)]
+pub(crate) struct Here<'t, K: Ord, V> {
+    pub(crate) place: usize,
+    pub(crate) row: usize,
+    pub(crate) tree: &'t TreeIndex<K, V>,
+}
+
 /// The pairs that were given so far, by rising keys: in segments that are done, and in a last tree that takes more.
 #[derive(Drop)]
 pub(crate) struct SegmentBuilder<K: Ord, V> {
@@ -131,23 +140,21 @@ fn most_parts(named: usize) -> usize {
     named.saturating_mul(4).saturating_add(1)
 }
 
-/// Takes the pairs of the older segment at a place off the count: it isn't taken over, and what is left of it is yet to come.
+/// Takes the pairs of an older segment off the count: it isn't taken over, and what is left of it is yet to come.
 pub(crate) fn count_out<K: Ord, V, W: Trees<K, V>>(
     out: &mut SegmentBuilder<K, V>,
     old: &VersionView<'_, K, V, W>,
-    place: usize,
-    tree: &TreeIndex<K, V>,
+    here: &Here<'_, K, V>,
 )
-    requires there { Some tree.now.pairs ≡ slice_get old.now place }
-    requires counted { CountsFrom old.now place out.old }
+    requires there { Some here.now.tree.now.pairs ≡ slice_get old.now here.now.place }
+    requires counted { CountsFrom old.now here.now.place out.old }
     ensures row { out.new.row ≡ out.old.row }
     ensures held { out.new.held ≡ out.old.held }
     ensures tail { out.new.tail.pairs ≡ out.old.tail.pairs }
-    ensures counted { CountsFrom old.now (place + 1) out.new }
+    ensures counted { CountsFrom old.now (here.now.place + 1) out.new }
 {
     let _ = old;
-    let _ = place;
-    out.length -= tree.len();
+    out.length -= here.tree.len();
 }
 
 /// Says about how many pairs come next, so that a tree has room for them from its beginning on.

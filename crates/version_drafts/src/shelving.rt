@@ -349,7 +349,7 @@ fn copy_keys<K: Clone + Ord + Drop, V, W: Trees<K, V>>(
     ensures { OnOk result (map Some keys.new.items ≡ map Some keys.old.items ++ map greatest_key (between from upto old.now)) }
 {
     let first = rows.start_of(row);
-    let last = key_at(old, upto - 1)?;
+    let last = key_at(old, upto - 1, row)?;
     let told = rows.rows()[row].keys();
     keys.extend_from_slice(&told[from - first..upto - 1 - first])?;
     keys.push(last)?;
@@ -450,21 +450,23 @@ fn key_of_row<K: Clone + Ord, V, W: Trees<K, V>>(
 {
     match rows.separators().get(row) {
         Some(key) => key.clone(),
-        None => key_at(old, rows.ends()[row] - 1),
+        None => key_at(old, rows.ends()[row] - 1, row),
     }
 }
 
-/// A clone of the greatest key of the segment of the older version at a place. Condition: there is one.
+/// A clone of the greatest key of the segment of the older version at a place, which is looked for in a row first. Condition: there
+/// is one.
 fn key_at<K: Clone + Ord, V, W: Trees<K, V>>(
     old: &VersionView<'_, K, V, W>,
     place: usize,
+    near: usize,
 ) -> Result<K, AllocError>
     requires keys { ClonesAreSame K.is_clone }
     requires within { place < length old.now }
     ensures { IfOk result (λ key. OfBlock old.now place (λ b. greatest_key b ≡ Some key)) }
 {
     old.laws();
-    match old.greatest_at(place) {
+    match old.greatest_near(place, near) {
         Some(key) => key.clone(),
         None => unreachable!(),
     }

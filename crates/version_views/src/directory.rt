@@ -1,7 +1,7 @@
 //! Directories: versions of a list, as rows of segments in order.
 
-ghost use Rattle.std.specs.Prelude.{◌≡◌, ◌<◌, ◌≤◌, length, get_or};
-ghost use Rattle.version_views.specs.Rows.{count_in, place_at, start_of, IsInside};
+ghost use Rattle.std.specs.Prelude.{◌≡◌, ◌<◌, ◌≤◌, IsTrue, length, get_or};
+ghost use Rattle.version_views.specs.Rows.{count_in, end_of, place_at, start_of, IsInside};
 
 use crate::row::Row;
 use crate::search::place_of;
@@ -121,6 +121,32 @@ impl<K, R> Directory<K, R> {
             row,
             at: place - self.start_of(row),
         }
+    }
+
+    /// The same, and without a search where that row is the one named.
+    pub fn spot_near(&self, place: usize, row: usize) -> Spot
+        requires { place < count_in self.now.ends.items }
+        ensures inside { IsInside self.now.ends.items result }
+        ensures place { place_at self.now.ends.items result ≡ place }
+    {
+        if self.lies_in(place, row) {
+            Spot {
+                row,
+                at: place - self.start_of(row),
+            }
+        } else {
+            self.spot_of(place)
+        }
+    }
+
+    /// Whether a row has the segment at a place among all.
+    #[inline]
+    fn lies_in(&self, place: usize, row: usize) -> bool
+        ensures row { IsTrue result → row < length self.now.ends.items }
+        ensures begins { IsTrue result → start_of self.now.ends.items row ≤ place }
+        ensures stops { IsTrue result → place < end_of self.now.ends.items row }
+    {
+        row < self.ends.len() && self.start_of(row) <= place && place < self.ends[row]
     }
 
     /// The place among all segments of one in a row. Condition: it is there.

@@ -174,7 +174,17 @@ impl<'a, K: Ord, V, W: Trees<K, V>> VersionView<'a, K, V, W> {
         requires { place < length self.now }
         ensures { (b : List (K × V)) → Some b ≡ slice_get self.now place → option_copied result ≡ greatest_key b }
     {
-        let spot = self.directory.spot_of(place);
+        self.greatest_near(place, 0)
+    }
+
+    /// The same, and without a search where the segment lies in the row named. Condition: there is one.
+    pub fn greatest_near(&self, place: usize, near: usize) -> Option<&'a K>
+    where
+        V: 'a,
+        requires { place < length self.now }
+        ensures { (b : List (K × V)) → Some b ≡ slice_get self.now place → option_copied result ≡ greatest_key b }
+    {
+        let spot = self.directory.spot_near(place, near);
         let row = &self.directory.rows[spot.row];
         if let Some(key) = row.keys().get(spot.at) {
             return Some(key);
@@ -191,6 +201,15 @@ impl<'a, K: Ord, V, W: Trees<K, V>> VersionView<'a, K, V, W> {
         ensures { Some result.now.pairs ≡ slice_get self.now place }
     {
         self.tree(place)
+    }
+
+    /// The same, and its row: without a search where that is the row named. Condition: there is one.
+    pub fn segment_near(&self, place: usize, near: usize) -> (&'a TreeIndex<K, V>, usize)
+        requires { place < length self.now }
+        ensures { Some result.0.now.pairs ≡ slice_get self.now place }
+    {
+        let spot = self.directory.spot_near(place, near);
+        (tree_at(self.source, self.directory, spot), spot.row)
     }
 
     /// The tree of a segment.

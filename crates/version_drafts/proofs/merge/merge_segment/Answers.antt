@@ -19,9 +19,9 @@ loop-more-init g c =
     let blocks = c.args.old.now in
     let gone = c.args.gone.now in
     let test = λ (k : g.row.K.Denot). not (is_gone cmp gone k) in
-    let rest = without_gone cmp gone (pairs_in (drop (c.args.place + 1) blocks)) in
-    let b = c.args.tree.now.pairs in
-    let whole : c.new-pairs.result ++ rest ≡ without_gone cmp gone (pairs_in (drop c.args.place blocks)) = ap (λ ps. ps ++ rest) c.new-pairs.ensures ∙ (sym (filter-append (λ p. test p.0) b (pairs_in (drop (c.args.place + 1) blocks))) ∙ ap (without_gone cmp gone) (sym (block_at c.args.place blocks b c.requires.there))) in
+    let rest = without_gone cmp gone (pairs_in (drop (c.args.here.now.place + 1) blocks)) in
+    let b = c.args.here.now.tree.now.pairs in
+    let whole : c.new-pairs.result ++ rest ≡ without_gone cmp gone (pairs_in (drop c.args.here.now.place blocks)) = ap (λ ps. ps ++ rest) c.new-pairs.ensures ∙ (sym (filter-append (λ p. test p.0) b (pairs_in (drop (c.args.here.now.place + 1) blocks))) ∙ ap (without_gone cmp gone) (sym (block_at c.args.here.now.place blocks b c.requires.there))) in
     let block : (b : List (g.row.K.Denot × g.row.V.Denot)) → Some b ≡ _ → without_gone cmp gone b ≡ c.new-pairs.result = λ b e. ap (without_gone cmp gone) (some_same (e ∙ sym c.requires.there)) ∙ sym c.new-pairs.ensures in
     let e = c.in_ok-make_ready.ensures in
     let e' = c.count_out.ensures in
@@ -30,13 +30,13 @@ loop-more-init g c =
     let out = c.make_ready.new.out in
     record {
       whole = cutting_same blocks g.row.S c.args.out.now out row tail cmp c.requires.whole (e.held ∙ e'.held);
-      list = ap (λ ps. given_pairs blocks out ++ apply_delta cmp c.args.changes.now ps) whole ∙ ap (λ ps. ps ++ apply_delta cmp c.args.changes.now (without_gone cmp gone (pairs_in (drop c.args.place blocks)))) (given_same blocks g.row.S c.args.out.now out row tail);
-      sorted = subst (IsAscending cmp) (sym whole) (rising_kept cmp test (pairs_in (drop c.args.place blocks)) c.requires.sorted);
+      list = ap (λ ps. given_pairs blocks out ++ apply_delta cmp c.args.changes.now ps) whole ∙ ap (λ ps. ps ++ apply_delta cmp c.args.changes.now (without_gone cmp gone (pairs_in (drop c.args.here.now.place blocks)))) (given_same blocks g.row.S c.args.out.now out row tail);
+      sorted = subst (IsAscending cmp) (sym whole) (rising_kept cmp test (pairs_in (drop c.args.here.now.place blocks)) c.requires.sorted);
       filled = λ b here. filled_then g.row.S _ _ _ c.args.out.now out out (filled_same blocks g.row.S c.args.out.now out row tail _) (filled_none g.row.S _ _ out (let same = ap length (block b here) in omega (arith, same)));
       fewer = omega arith;
       reached = λ b e h. inl (subst (IsReachedBy cmp c.args.changes.now) (block b e) h);
       done = λ e. absurd (false≢true (sym e));
-      counted = counts_on blocks (c.args.place + 1) c.count_out.new.out out e'.counted (counts_same blocks g.row.S c.count_out.new.out out e.row e.tail e.length);
+      counted = counts_on blocks (c.args.here.now.place + 1) c.count_out.new.out out e'.counted (counts_same blocks g.row.S c.count_out.new.out out e.row e.tail e.length);
     }
 
 pub loop-more-preserved : goal.loop-more-preserved
@@ -57,7 +57,7 @@ loop-more-preserved g c =
         | inr less ↦ let y = e.less in inr (omega (arith, less, y))
       ];
       done = e.done;
-      counted = counts_on c.args.old.now (c.args.place + 1) c.loop-more.out c.merge_more.new.out i.counted e.counted;
+      counted = counts_on c.args.old.now (c.args.here.now.place + 1) c.loop-more.out c.merge_more.new.out i.counted e.counted;
     }
 
 pub loop-more-smaller : goal.loop-more-smaller

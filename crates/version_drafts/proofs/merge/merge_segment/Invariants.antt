@@ -12,16 +12,16 @@ abbrev pub invariant-loop-more : goal.invariant-loop-more
 invariant-loop-more g l =
     let cmp = g.K.Ord.cmp in
     let blocks = l.old in
-    let rest = without_gone cmp l.gone (pairs_in (drop (l.place + 1) blocks)) in
+    let rest = without_gone cmp l.gone (pairs_in (drop (l.here.place + 1) blocks)) in
     record {
       whole : IsCutting cmp g.row.S blocks l.out;
-      list : given_pairs blocks l.out ++ apply_delta cmp l.changes (l.pairs ++ rest) ≡ given_pairs blocks l.fn.out ++ ahead cmp l.fn.changes l.gone l.place blocks;
+      list : given_pairs blocks l.out ++ apply_delta cmp l.changes (l.pairs ++ rest) ≡ given_pairs blocks l.fn.out ++ ahead cmp l.fn.changes l.gone l.here.place blocks;
       sorted : IsAscending cmp (l.pairs ++ rest);
-      filled : (b : List (g.row.K.Denot × g.row.V.Denot)) → Some b ≡ slice_get blocks l.place → GivesNoMoreThanRead g.row.S (length (without_gone cmp l.gone b) + length l.fn.changes) (length l.pairs + length l.changes) l.fn.out l.out;
+      filled : (b : List (g.row.K.Denot × g.row.V.Denot)) → Some b ≡ slice_get blocks l.here.place → GivesNoMoreThanRead g.row.S (length (without_gone cmp l.gone b) + length l.fn.changes) (length l.pairs + length l.changes) l.fn.out l.out;
       fewer : length l.changes ≤ length l.fn.changes;
-      reached : (b : List (g.row.K.Denot × g.row.V.Denot)) → Some b ≡ slice_get blocks l.place → IsReachedBy cmp l.fn.changes (without_gone cmp l.gone b) → IsReachedBy cmp l.changes l.pairs ⊎ (length l.changes < length l.fn.changes);
+      reached : (b : List (g.row.K.Denot × g.row.V.Denot)) → Some b ≡ slice_get blocks l.here.place → IsReachedBy cmp l.fn.changes (without_gone cmp l.gone b) → IsReachedBy cmp l.changes l.pairs ⊎ (length l.changes < length l.fn.changes);
       done : l.more ≡ false → l.pairs ≡ [];
-      counted : CountsFrom blocks (l.place + 1) l.out;
+      counted : CountsFrom blocks (l.here.place + 1) l.out;
     }
 
 abbrev pub decreases-loop-more : goal.decreases-loop-more
