@@ -206,18 +206,21 @@ fn place_parts<K: Ord + Drop, V: Drop, const S: usize>(
     requires there { CanTakeOver w.old (older_slot older) parts.items }
     ensures { StandsIn (made_in parts.items) (map kept_slot result.items) (blocks_of_parts (blocks_at w.old (older_slot older)) parts.items) w.old w.new }
 {
+    let mut near = 0;
     for part in parts {
-        place_part(w, part, older, &mut owners);
+        place_part(w, part, older, &mut owners, &mut near);
     }
     owners
 }
 
-/// Places a new segment, or takes a stretch of a row over, and keeps the owners.
+/// Places a new segment, or takes a stretch of a row over, and keeps the owners. `near` is the row of the stretch before, where
+/// this one is looked for first.
 fn place_part<K: Ord + Drop, V: Drop, const S: usize>(
     w: &mut World<Item<K, V, S>, NoJob>,
     part: Part<K, V>,
     older: Option<Loaded<Item<K, V, S>>>,
     owners: &mut Vec<Kept>,
+    near: &mut usize,
 )
     requires room { length owners.old.items + segments_of part ≤ vec_capacity owners.old }
     requires free { makes part ≤ sum_by vacancy w.old.states }
@@ -232,28 +235,31 @@ fn place_part<K: Ord + Drop, V: Drop, const S: usize>(
         Part::Made(tree) => owners.push_reserved(place_segment(w, tree)),
         Part::Taken { from, upto } => match older {
             Some(at) => {
-                let (row, first) = row_of(w, &at, from);
-                group::keep_row(w, row, first, first + (upto - from), owners);
+                let found = row_of(w, &at, from, *near);
+                *near = found.2;
+                group::keep_row(w, found.0, found.1, found.1 + (upto - from), owners);
             }
             None => unreachable!(),
         },
     }
 }
 
-/// The row of the older version that has the segment at a place among all, and its place there.
+/// The row of the older version that has the segment at a place among all, its place there, and which row it is. No search is made
+/// where that is the one named.
 fn row_of<K: Ord, V, const S: usize>(
     w: &World<Item<K, V, S>, NoJob>,
     older: &Loaded<Item<K, V, S>>,
     place: usize,
-) -> (GroupName, usize)
+    near: usize,
+) -> (GroupName, usize, usize)
     requires there { HasRows w.now (loaded_slot older.now) }
     requires place { place < length (slots_at w.now (loaded_slot older.now)) }
     ensures stretch { (upto : ℕ) → LiesInRow (ends_at w.now (loaded_slot older.now)) place upto → IsStretch w.now (loaded_slot older.now) (group_named result.0) result.1 place upto }
     ensures within { result.1 ≤ place }
 {
     let dir = directory_at(w, older);
-    let spot = dir.spot_of(place);
-    (dir.rows()[spot.row].owners().name(), spot.at)
+    let spot = dir.spot_near(place, near);
+    (dir.rows()[spot.row].owners().name(), spot.at, spot.row)
 }
 
 /// The directory of the older version.

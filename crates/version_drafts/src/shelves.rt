@@ -52,18 +52,20 @@ pub(crate) fn shelved<K: Clone + Ord + Drop, V: Drop, W: Trees<K, V>>(
     let Segments { parts, length } = segments;
     // a row may become two
     let mut out = Shelving::with_room(alloc, rows.row_count().saturating_add(1))?;
+    let mut near = 0;
     for part in parts {
-        put_part(&mut out, old, rows, part)?;
+        put_part(&mut out, old, rows, part, &mut near)?;
     }
     out.into_directory(number, length)
 }
 
-/// Takes a part.
+/// Takes a part. `near` is a row of the stretch before, where this one is looked for first.
 fn put_part<K: Clone + Ord + Drop, V: Drop, W: Trees<K, V>>(
     out: &mut Shelving<K, V>,
     old: &VersionView<'_, K, V, W>,
     rows: &Directory<K, W::Owners>,
     part: Part<K, V>,
+    near: &mut usize,
 ) -> Result<(), AllocError>
     requires keys { ClonesAreSame K.is_clone }
     requires rows { CutsInRows old.now rows.now }
@@ -74,6 +76,6 @@ fn put_part<K: Clone + Ord + Drop, V: Drop, W: Trees<K, V>>(
 {
     match part {
         Part::Made(tree) => put_made(out, tree),
-        Part::Taken { from, upto } => put_stretch(out, old, rows, from, upto),
+        Part::Taken { from, upto } => put_stretch(out, old, rows, from, upto, near),
     }
 }

@@ -110,13 +110,15 @@ pub(crate) fn put_made<K: Clone + Ord + Drop, V: Drop>(
     Ok(())
 }
 
-/// Takes the segments of the older version from one place up to another.
+/// Takes the segments of the older version from one place up to another. `near` is the row of the last one that was taken singly,
+/// where the first one is looked for.
 pub(crate) fn put_stretch<K: Clone + Ord + Drop, V: Drop, W: Trees<K, V>>(
     out: &mut Shelving<K, V>,
     old: &VersionView<'_, K, V, W>,
     rows: &Directory<K, W::Owners>,
     from: usize,
     upto: usize,
+    near: &mut usize,
 ) -> Result<(), AllocError>
     requires keys { ClonesAreSame K.is_clone }
     requires rows { CutsInRows old.now rows.now }
@@ -125,7 +127,7 @@ pub(crate) fn put_stretch<K: Clone + Ord + Drop, V: Drop, W: Trees<K, V>>(
     requires whole { IsShelving old.now rows.now.ends.items out.old }
     ensures { OnOk result (TakesMore old.now rows.now.ends.items (between from upto old.now) 0 out.old out.new) }
 {
-    let mut row = rows.spot_of(from).row;
+    let mut row = rows.spot_near(from, *near).row;
     let mut at = from;
     while at < upto {
         if takes_whole(out, rows, row, at, upto) {
@@ -135,6 +137,7 @@ pub(crate) fn put_stretch<K: Clone + Ord + Drop, V: Drop, W: Trees<K, V>>(
             let end = end_in(rows, row, upto);
             put_pieces(out, old, rows, row, at, end)?;
             at = end;
+            *near = row;
             row += 1;
         }
     }
