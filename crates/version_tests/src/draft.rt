@@ -1,6 +1,6 @@
 //! Drafts by example, and against plain lists.
 
-ghost use Rattle.std.specs.Prelude.{◌≡◌, ◌≤◌, ◌<◌, ◌+◌};
+ghost use Rattle.std.specs.Prelude.{◌≡◌, ◌≤◌, ◌<◌, ◌+◌, length};
 
 use crate::plain::following;
 use local_versions::Reply::{Absent, Cleared, Duplicate, Inserted, RangeRemoved, Upserted};
@@ -72,10 +72,31 @@ fn is_cut<const S: usize>(version: &LocalView<'_, u64, u64, S>, size: usize) -> 
         if version.greatest_at(place) != Some(last) {
             return false;
         }
+        if !is_found_near(version, place, *last) {
+            return false;
+        }
         if segment.len() > size || before.saturating_add(segment.len()) <= size {
             return false;
         }
         before = segment.len();
+    }
+    true
+}
+
+// Whether a segment is found whichever row is looked at first, one that isn't there among them.
+fn is_found_near<const S: usize>(
+    version: &LocalView<'_, u64, u64, S>,
+    place: usize,
+    last: u64,
+) -> bool
+    requires { place < length version.now }
+{
+    for near in 0..4 {
+        let (tree, row) = version.segment_near(place, near);
+        let found = tree.iter().next_back().map(|(key, _)| *key);
+        if found != Some(last) || version.greatest_near(place, row) != Some(&last) {
+            return false;
+        }
     }
     true
 }
