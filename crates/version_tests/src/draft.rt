@@ -293,3 +293,35 @@ pub(crate) fn makes_a_plain_list(alloc: Global) -> Result<bool, AllocError> {
     let (list, told) = plain::applied(alloc, NONE.2, INNER.0)?;
     Ok(list.as_slice() == INNER.2 && told.as_slice() == INNER.1)
 }
+
+// Whether forty segments of one pair lie in rows as they should, the first 32 in the first row, wherever they are looked for.
+fn rows_are_found(alloc: Global, store: &mut LocalStore<u64, u64, 1>) -> Result<bool, AllocError>
+    requires { store.old.present.number ≡ 0 }
+{
+    let mut writes = Vec::new(alloc);
+    for key in 0..40u64 {
+        writes.push(Insert(key, key))?;
+    }
+    let made = written::<1>(alloc, store, writes.as_slice())?;
+    let version = store.present();
+    for (place, row) in [(0usize, 0usize), (31, 0), (32, 1), (39, 1)] {
+        for near in 0..3usize {
+            if place >= version.segment_count() || version.segment_near(place, near).1 != row {
+                return Ok(false);
+            }
+        }
+    }
+    Ok(made.is_cut)
+}
+
+#[test]
+fn a_segment_is_found_in_its_row(rt: HostRuntime) -> Result<(), Fail> {
+    let alloc = rt.alloc();
+    let mut store = LocalStore::<u64, u64, 1>::new(alloc, 0, 100)?;
+    let found = rows_are_found(alloc, &mut store);
+    store.close_all();
+    store.reclaim();
+    store.end();
+    assert!(rt; found?);
+    Ok(())
+}

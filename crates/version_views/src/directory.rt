@@ -123,7 +123,8 @@ impl<K, R> Directory<K, R> {
         }
     }
 
-    /// The same, and without a search where that row is the one named.
+    /// The row of the segment at a place among all, and its place there, as `spot_of` answers. No search is made where it lies in the
+    /// row named, which needn't be there. Condition: the segment is there.
     pub fn spot_near(&self, place: usize, row: usize) -> Spot
         requires { place < count_in self.now.ends.items }
         ensures inside { IsInside self.now.ends.items result }

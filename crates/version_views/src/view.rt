@@ -177,7 +177,8 @@ impl<'a, K: Ord, V, W: Trees<K, V>> VersionView<'a, K, V, W> {
         self.greatest_near(place, 0)
     }
 
-    /// The same, and without a search where the segment lies in the row named. Condition: there is one.
+    /// The greatest key of the segment at a place, as `greatest_at` answers. No search for it is made where it lies in the row named,
+    /// which needn't be there. Condition: there is one.
     pub fn greatest_near(&self, place: usize, near: usize) -> Option<&'a K>
     where
         V: 'a,
@@ -203,7 +204,8 @@ impl<'a, K: Ord, V, W: Trees<K, V>> VersionView<'a, K, V, W> {
         self.tree(place)
     }
 
-    /// The same, and its row: without a search where that is the row named. Condition: there is one.
+    /// The tree of the segment at a place, and the row that it lies in. No search is made where that is the row named, which needn't
+    /// be there. No clause says which row it is: it serves to name one again. Condition: there is one.
     pub fn segment_near(&self, place: usize, near: usize) -> (&'a TreeIndex<K, V>, usize)
         requires { place < length self.now }
         ensures { Some result.0.now.pairs ≡ slice_get self.now place }
