@@ -235,9 +235,9 @@ fn place_part<K: Ord + Drop, V: Drop, const S: usize>(
         Part::Made(tree) => owners.push_reserved(place_segment(w, tree)),
         Part::Taken { from, upto } => match older {
             Some(at) => {
-                let found = row_of(w, &at, from, *near);
-                *near = found.2;
-                group::keep_row(w, found.0, found.1, found.1 + (upto - from), owners);
+                let (row, first, number) = row_of(w, &at, from, *near);
+                *near = number;
+                group::keep_row(w, row, first, first + (upto - from), owners);
             }
             None => unreachable!(),
         },

@@ -11,8 +11,8 @@ use Rattle.local_versions.specs.Placing.{CanTakeOver, HasPlaced, older_slot, par
 use Rattle.local_versions.proofs.StretchPlacingLemmas.{stretch_inside, stretch_takes, stretch_within}
 use Rattle.local_versions.proofs.placing.place_part.Goals as goal
 
-pub row_of-found-requires : goal.row_of-found-requires
-row_of-found-requires g c = (
+pub row_of-first-requires : goal.row_of-first-requires
+row_of-first-requires g c = (
   omega arith,
   (
     ((subst (λ older. CanTakeOver c.args.w.now (older_slot older) (c.args.part ∷ [])) c.in-Some.is c.requires.there).there),
@@ -28,7 +28,7 @@ keep_row-requires-clause-within g c =
     let w = c.args.w.now in
     let o = loaded_slot c.in-Some.at in
     let there = subst (λ p. CanTakeOver w o (p ∷ [])) c.in-Taken.is (subst (λ older. CanTakeOver w (older_slot older) (c.args.part ∷ [])) c.in-Some.is c.requires.there) in
-    (c.row_of-found.ensures.stretch c.in-Taken.upto (stretch_inside w c.in-Taken.from c.in-Taken.upto o there)).within
+    (c.row_of-first.ensures.stretch c.in-Taken.upto (stretch_inside w c.in-Taken.from c.in-Taken.upto o there)).within
 
 pub keep_row-requires-clause-takes : goal.keep_row-requires-clause-takes
 keep_row-requires-clause-takes g c =
@@ -38,7 +38,7 @@ keep_row-requires-clause-takes g c =
     let upto = c.in-Taken.upto in
     let there = subst (λ p. CanTakeOver w o (p ∷ [])) c.in-Taken.is (subst (λ older. CanTakeOver w (older_slot older) (c.args.part ∷ [])) c.in-Some.is c.requires.there) in
     let once = λ (j : _). subst (λ p. times j (part_slots (slots_at w o) p) ≤ 1) c.in-Taken.is (subst (λ older. times j (part_slots (slots_at w (older_slot older)) c.args.part) ≤ 1) c.in-Some.is (c.requires.once j)) in
-    let stretch = c.row_of-found.ensures.stretch upto (stretch_inside w from upto o there) in
+    let stretch = c.row_of-first.ensures.stretch upto (stretch_inside w from upto o there) in
     subst (λ is. TakeOwners is w) (sym stretch.slots) (stretch_takes w from upto o there once)
 
 pub keep_row-requires-clause-room : goal.keep_row-requires-clause-room
@@ -60,9 +60,9 @@ returns-in-Some-clause-placed g c =
     let o = loaded_slot c.in-Some.at in
     let from = c.in-Taken.from in
     let upto = c.in-Taken.upto in
-    let first = c.row_of-found.result.1 in
-    let xs = row_between w (group_named c.row_of-found.result.0) first (first + (upto - from)) in
+    let first = c.row_of-first.result.1 in
+    let xs = row_between w (group_named c.row_of-first.result.0) first (first + (upto - from)) in
     let there = subst (λ p. CanTakeOver w o (p ∷ [])) c.in-Taken.is (subst (λ older. CanTakeOver w (older_slot older) (c.args.part ∷ [])) c.in-Some.is c.requires.there) in
-    let stretch = c.row_of-found.ensures.stretch upto (stretch_inside w from upto o there) in
+    let stretch = c.row_of-first.ensures.stretch upto (stretch_inside w from upto o there) in
     let here : HasPlaced (slots_at w o) (parts.Taken from upto) xs w v = (stretch.slots, c.keep_row.ensures.raised) in
     (xs, c.keep_row.ensures.owners, subst (λ p. HasPlaced (slots_at w (older_slot c.args.older)) p xs w v) (sym c.in-Taken.is) (subst (λ older. HasPlaced (slots_at w (older_slot older)) (parts.Taken from upto) xs w v) (sym c.in-Some.is) here))
