@@ -110,12 +110,8 @@ fn pass<K: Clone + Ord + Drop, V: Clone + Drop, W: Trees<K, V>, const S: usize>(
     // how many there are shows the proof that a place behind this one can be named
     let _count = old.segment_count();
     let next = place + 1;
-    let found = old.segment_near(place, *near);
-    let here = Here {
-        place,
-        row: found.1,
-        tree: found.0,
-    };
+    let (tree, row) = old.segment_near(place, *near);
+    let here = Here { place, row, tree };
     *near = here.row;
     if covers(gone, old, place) {
         count_out(out, old, &here);

@@ -105,8 +105,8 @@ returns-then-joins-clause-thrifty g c = λ budget last t.
     let blocks = c.args.old.now in
     let gone = c.args.gone.now in
     let test = is_gone cmp gone in
-    let b = c.segment_near-found.result.0.now.pairs in
-    let here = c.segment_near-found.ensures in
+    let b = c.segment_near-row.result.0.now.pairs in
+    let here = c.segment_near-row.ensures in
     let sized = all_slice (IsSegmentSized g.row.S) blocks c.args.place b c.requires.old.sizes (sym here) in
     let apart = (c.if-touches.ensures.passed refl b here).1 in
     let same = ap length (without_all cmp gone b apart) in
@@ -131,8 +131,8 @@ take_stretch-requires-clause-apart g c =
     let gone = c.args.gone.now in
     let place = c.args.place in
     let end = c.stretch_end-end.result in
-    let b = c.segment_near-found.result.0.now.pairs in
-    let seg = c.segment_near-found.ensures in
+    let b = c.segment_near-row.result.0.now.pairs in
+    let seg = c.segment_near-row.ensures in
     let cs = c.args.changes.now in
     let out = c.args.out.now in
     let less = c.stretch_end-end.ensures.from in
@@ -190,8 +190,8 @@ returns-clause-thrifty g c = λ budget last t.
     let gone = c.args.gone.now in
     let place = c.args.place in
     let end = c.stretch_end-end.result in
-    let b = c.segment_near-found.result.0.now.pairs in
-    let seg = c.segment_near-found.ensures in
+    let b = c.segment_near-row.result.0.now.pairs in
+    let seg = c.segment_near-row.ensures in
     let cs = c.args.changes.now in
     let less = c.stretch_end-end.ensures.from in
     let within = c.stretch_end-end.ensures.within in
@@ -223,7 +223,7 @@ pub touches-requires-clause-spans : goal.touches-requires-clause-spans
 touches-requires-clause-spans g c = c.requires.spans
 
 pub touches-requires-clause-there : goal.touches-requires-clause-there
-touches-requires-clause-there g c = c.segment_near-found.ensures
+touches-requires-clause-there g c = c.segment_near-row.ensures
 
 pub touches-requires-clause-within : goal.touches-requires-clause-within
 touches-requires-clause-within g c = c.requires.within
@@ -241,7 +241,7 @@ pub merge_segment-requires-clause-within : goal.merge_segment-requires-clause-wi
 merge_segment-requires-clause-within g c = c.requires.within
 
 pub merge_segment-requires-clause-there : goal.merge_segment-requires-clause-there
-merge_segment-requires-clause-there g c = c.segment_near-found.ensures
+merge_segment-requires-clause-there g c = c.segment_near-row.ensures
 
 pub merge_segment-requires-clause-whole : goal.merge_segment-requires-clause-whole
 merge_segment-requires-clause-whole g c = c.requires.whole
@@ -262,7 +262,7 @@ pub merge_segment-requires-then-joins-clause-within : goal.merge_segment-require
 merge_segment-requires-then-joins-clause-within g c = c.requires.within
 
 pub merge_segment-requires-then-joins-clause-there : goal.merge_segment-requires-then-joins-clause-there
-merge_segment-requires-then-joins-clause-there g c = c.segment_near-found.ensures
+merge_segment-requires-then-joins-clause-there g c = c.segment_near-row.ensures
 
 pub merge_segment-requires-then-joins-clause-whole : goal.merge_segment-requires-then-joins-clause-whole
 merge_segment-requires-then-joins-clause-whole g c = c.requires.whole
