@@ -26,12 +26,38 @@ pub enum NoBase {
     NoSlot,
 }
 
+/// A number of slots for each kind of index. A segment takes one in an index of one thread, and a row of segments in one that
+/// threads share.
+#[derive(Clone, Copy)]
+pub struct SlotCounts {
+    pub local: usize,
+    pub shared: usize,
+}
+
+/// A place with room for several versions of a few pairs.
+const ROOMY: SlotCounts = SlotCounts {
+    local: 16,
+    shared: 16,
+};
+
+/// The empty version takes one.
+const ONE: SlotCounts = SlotCounts {
+    local: 1,
+    shared: 1,
+};
+
+/// The five pairs take three segments, in one row, and their version.
+const FOR_FIVE: SlotCounts = SlotCounts {
+    local: 4,
+    shared: 2,
+};
+
 /// What is answered where an index is to begin with a list.
 #[derive(Clone, Copy)]
 pub enum Begun {
-    /// This many slots are in use then, and the index answers these calls. One that has sessions of its own answers those of the
+    /// So many slots are in use then, and the index answers these calls. One that has sessions of its own answers those of the
     /// second table, too, on another index.
-    With(usize, &'static [Row], &'static [Row]),
+    With(SlotCounts, &'static [Row], &'static [Row]),
     /// There is no index, and the pairs are returned.
     Not(NoBase),
 }
@@ -41,16 +67,16 @@ pub enum Begun {
 pub struct BaseCase {
     pub number: u64,
     pub pairs: &'static [(u64, u64)],
-    pub slots: usize,
+    pub slots: SlotCounts,
     pub told: Begun,
 }
 
 const JUST_ENOUGH: BaseCase = BaseCase {
     number: 7,
     pairs: FIVE,
-    slots: 4,
+    slots: FOR_FIVE,
     told: Begun::With(
-        4,
+        FOR_FIVE,
         &[
             (Counts, Counted(7, 5)),
             (Call::Base, Based(7, FIVE)),
@@ -76,16 +102,19 @@ const JUST_ENOUGH: BaseCase = BaseCase {
 const ONE_TOO_FEW: BaseCase = BaseCase {
     number: 7,
     pairs: FIVE,
-    slots: 3,
+    slots: SlotCounts {
+        local: 3,
+        shared: 1,
+    },
     told: Begun::Not(NoBase::NoSlot),
 };
 
 const WITH_ROOM: BaseCase = BaseCase {
     number: 7,
     pairs: FIVE,
-    slots: 16,
+    slots: ROOMY,
     told: Begun::With(
-        4,
+        FOR_FIVE,
         &[
             (
                 CommitOn(7, &[Got(1, Some(10))], &[Upsert(1, 11)]),
@@ -128,14 +157,14 @@ const WITH_ROOM: BaseCase = BaseCase {
 const TWICE_A_KEY: BaseCase = BaseCase {
     number: 7,
     pairs: &[(1, 10), (3, 30), (3, 31)],
-    slots: 16,
+    slots: ROOMY,
     told: Begun::Not(NoBase::NotAscending(2)),
 };
 
 const TURNED: BaseCase = BaseCase {
     number: 7,
     pairs: &[(2, 20), (1, 10)],
-    slots: 16,
+    slots: ROOMY,
     told: Begun::Not(NoBase::NotAscending(1)),
 };
 
@@ -143,16 +172,16 @@ const TURNED: BaseCase = BaseCase {
 const TURNED_AND_TOO_FEW: BaseCase = BaseCase {
     number: 7,
     pairs: &[(1, 10), (2, 20), (9, 90), (4, 40), (3, 30)],
-    slots: 1,
+    slots: ONE,
     told: Begun::Not(NoBase::NotAscending(3)),
 };
 
 const OF_NOTHING: BaseCase = BaseCase {
     number: 0,
     pairs: &[],
-    slots: 1,
+    slots: ONE,
     told: Begun::With(
-        1,
+        ONE,
         &[
             (Counts, Counted(0, 0)),
             (Call::Base, Based(0, &[])),
@@ -167,9 +196,9 @@ const OF_NOTHING: BaseCase = BaseCase {
 const EMPTIED: BaseCase = BaseCase {
     number: 3,
     pairs: &[],
-    slots: 16,
+    slots: ROOMY,
     told: Begun::With(
-        1,
+        ONE,
         &[
             (Audit(2, &[]), Audited(TooOld(3))),
             (
@@ -185,9 +214,9 @@ const EMPTIED: BaseCase = BaseCase {
 const LAST_NUMBER: BaseCase = BaseCase {
     number: u64::MAX,
     pairs: FIVE,
-    slots: 16,
+    slots: ROOMY,
     told: Begun::With(
-        4,
+        FOR_FIVE,
         &[
             (Commit(&[Upsert(1, 11)]), Refused(Exhausted)),
             (Audit(u64::MAX, &[Got(1, Some(10))]), Audited(Yes)),

@@ -12,7 +12,7 @@ mod claims;
 mod commits;
 
 pub use audits::AUDITS;
-pub use bases::{BASES, BaseCase, Begun, FIVE, NoBase};
+pub use bases::{BASES, BaseCase, Begun, FIVE, NoBase, SlotCounts};
 pub use calls::{Call, Entry, Row, Table, Told, is_accepted, is_fed, writes_of};
 pub use checkpoints::{CHECKPOINTS, CUT_AT_THE_LAST_NUMBER, FED};
 pub use claims::{Claim, answer, query, receipt};

@@ -57,11 +57,11 @@ fn begins<R: Abort>(
     wanted: Result<usize, BaseCause>,
     rows: &[Row],
 ) -> bool {
-    if case.slots == 0 || case.slots > 16 {
+    if case.slots.local == 0 || case.slots.local > 16 {
         panic!(rt; "a small index");
     }
     let pairs = Vec::from_clones(alloc, case.pairs).expect(rt, ROOM);
-    match held(alloc, case.number, pairs, case.slots) {
+    match held(alloc, case.number, pairs, case.slots.local) {
         Ok(index) => {
             let found = Ok(index.slots_in_use());
             plays(rt, alloc, index, rows) && found == wanted
@@ -74,8 +74,8 @@ fn begins<R: Abort>(
 fn is_begun<R: Abort>(rt: &R, alloc: Global, case: &BaseCase) -> bool {
     match case.told {
         Begun::With(used, rows, by_sessions) => {
-            begins(rt, alloc, case, Ok(used), rows)
-                && begins(rt, alloc, case, Ok(used), by_sessions)
+            begins(rt, alloc, case, Ok(used.local), rows)
+                && begins(rt, alloc, case, Ok(used.local), by_sessions)
         }
         Begun::Not(why) => begins(rt, alloc, case, Err(cause_of(why)), &[]),
     }

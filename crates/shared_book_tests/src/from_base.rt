@@ -56,7 +56,7 @@ fn begins<L: Naming, R: Abort>(
         (Ok(scene), Begun::With(used, rows, _)) => {
             let found = in_use(domain);
             let (right, made) = played(rt, alloc, scene, &[rows]);
-            right == made && found == used
+            right == made && found == used.shared
         }
         (Err((local, _, refused)), Begun::Not(why)) => {
             let is_free = left(domain, local);
@@ -75,10 +75,10 @@ fn begins<L: Naming, R: Abort>(
 
 /// Whether it does in a place of its own.
 fn begins_alone<R: Abort>(rt: &R, alloc: Global, case: BaseCase) -> bool {
-    if case.slots == 0 || case.slots > 16 {
+    if case.slots.shared == 0 || case.slots.shared > 16 {
         panic!(rt; "a small place");
     }
-    let domain = place(alloc, case.slots).expect(rt, ROOM);
+    let domain = place(alloc, case.slots.shared).expect(rt, ROOM);
     let local = member(rt, &domain);
     let is_right = begins::<Brand, R>(rt, alloc, &domain, local, Blank::new(1), case);
     end(rt, domain);
@@ -165,7 +165,7 @@ fn tried<L: Naming, R: Abort>(
 {
     match begun_again::<L, R>(rt, alloc, domain, local, blank, met) {
         Ok(scene) => {
-            assert_eq!(rt; in_use(domain), 4);
+            assert_eq!(rt; in_use(domain), 2);
             let list = copied(rt, &scene, met);
             scene.end();
             Ok(list)
@@ -204,20 +204,20 @@ fn insisted<R: Abort>(
 
 #[test]
 fn a_refusal_of_memory_gives_the_pairs_back(rt: HostRuntime) {
-    let _met = insisted(&rt, rt.alloc(), 4, Ok(()));
+    let _met = insisted(&rt, rt.alloc(), 2, Ok(()));
 }
 
 #[test]
 fn no_memory_is_refused_where_a_book_begins_with_a_list(rt: HostRuntime) {
-    assert!(rt; !insisted(&rt, rt.alloc(), 4, Ok(())));
+    assert!(rt; !insisted(&rt, rt.alloc(), 2, Ok(())));
 }
 
 #[test]
 fn a_refusal_of_memory_gives_the_pairs_back_where_slots_are_too_few(rt: HostRuntime) {
-    let _met = insisted(&rt, rt.alloc(), 3, Err(SharedBaseCause::NoSlot));
+    let _met = insisted(&rt, rt.alloc(), 1, Err(SharedBaseCause::NoSlot));
 }
 
 #[test]
 fn no_memory_is_refused_where_slots_are_too_few(rt: HostRuntime) {
-    assert!(rt; !insisted(&rt, rt.alloc(), 3, Err(SharedBaseCause::NoSlot)));
+    assert!(rt; !insisted(&rt, rt.alloc(), 1, Err(SharedBaseCause::NoSlot)));
 }

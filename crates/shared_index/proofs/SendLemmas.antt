@@ -36,8 +36,8 @@ module _ (L K V S : RattleType) (n : Naming.Ghosts L.Denot) (l : Ledger.Ghosts L
   pub book_send : IsSend K → IsSync K → IsSend V → IsSync V → IsSend (book.the_row L K V S n l kc ko kp kq vc vp)
   book_send ks kt vs vt =
       let row = node.the_row K V ko kp kq in
-      let local = locals.the_send row (node_send K V ko kp kq ks kt vs vt) (node_sync K V ko kp kq ks kt vt) in
-      let present = present_send K V ko kp kq S ks kt vt in
+      let local = locals.the_send row (node_send K V ko kp kq ks kt vs vt) (node_sync K V ko kp kq ks kt vs vt) in
+      let present = present_send K V ko kp kq S ks kt vs vt in
       let history = histories.the_send K V ko kp kq ks vs in
       let within : IsSend (book_inside.the_row L K V S n l kc ko kp kq vc vp) = declared_send (book_inside.the_type L K V S n l kc ko kp kq vc vp) (send, (local, (present, (history, (search (ledgers.the_send, crosses, sendable) depth 10, tt))))) in
       view_send (book_inside.the_row L K V S n l kc ko kp kq vc vp) _ _ _ _ within
@@ -45,7 +45,7 @@ module _ (L K V S : RattleType) (n : Naming.Ghosts L.Denot) (l : Ledger.Ghosts L
   pub index_sync : (d : NamedLft) (ke : Eq.Ghosts K.Denot) → IsSend K → IsSync K → IsSend V → IsSync V → IsSync (index.the_row d L K V S n l kc ko ke kp kq vc vp)
   index_sync d ke ks kt vs vt =
       let some = node_send K V ko kp kq ks kt vs vt in
-      let all = node_sync K V ko kp kq ks kt vt in
+      let all = node_sync K V ko kp kq ks kt vs vt in
       let book = book_send ks kt vs vt in
       let within : IsSync (index_inside.the_row d L K V S n l kc ko ke kp kq vc vp) = declared_sync (index_inside.the_type d L K V S n l kc ko ke kp kq vc vp) (place_sync (node.the_row K V ko kp kq) (holding.ghosts K V ko holding.no_dict ke holding.no_dict kp holding.no_dict kq holding.no_dict holding.no_dict holding.no_dict) d some all, (search (cells.the_sync, all, sendable) depth 10, (search (book, crosses, sendable) depth 10, (search sendable depth 10, (sync, tt))))) in
       view_sync (index_inside.the_row d L K V S n l kc ko ke kp kq vc vp) _ _ _ _ within

@@ -165,15 +165,16 @@ fn an_index_of_one_thread_goes_on_in_two_and_back(rt: HostRuntime) {
     assert!(rt; goes_on(&rt, alloc, list));
 }
 
-/// Why no index begins with the list in a place of three slots; none where one does.
+/// Why no index begins with the list in a place of so many slots; none where one does.
 fn refused<R: Abort>(
     rt: &R,
     alloc: Global,
+    slots: u16,
     list: &'static [(u64, u64)],
 ) -> Option<SharedBaseCause> {
     let start = Start {
         base: Some((7, list)),
-        ..empty(2, 3, 1)
+        ..empty(2, slots, 1)
     };
     plays(rt, alloc, start, Nothing)
 }
@@ -181,19 +182,20 @@ fn refused<R: Abort>(
 #[test]
 fn no_index_begins_where_keys_do_not_rise_or_slots_are_too_few(rt: HostRuntime) {
     let told = [
-        refused(&rt, rt.alloc(), &[(2, 20), (1, 10)]),
+        refused(&rt, rt.alloc(), 2, &[(2, 20), (1, 10)]),
         refused(
             &rt,
             rt.alloc(),
+            2,
             &[(1, 10), (1, 11), (2, 20), (3, 30), (4, 40)],
         ),
-        refused(&rt, rt.alloc(), LAST),
-        refused(&rt, rt.alloc(), FIRST),
+        refused(&rt, rt.alloc(), 1, LAST),
+        refused(&rt, rt.alloc(), 2, LAST),
     ];
     assert!(rt; told == [
         Some(SharedBaseCause::NotAscending(1)),
         Some(SharedBaseCause::NotAscending(1)),
-        // three segments and a version
+        // a row and a version
         Some(SharedBaseCause::NoSlot),
         None,
     ]);

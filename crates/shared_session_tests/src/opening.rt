@@ -135,9 +135,9 @@ pub const NO_GUARD: &[Row] = &[
     (Open(2, 2), Err(OpenRefused::Earlier(1))),
     (Open(3, 0), Err(OpenRefused::NoVersion)),
     (Renew(2), Ok(2)),
-    (Slots, Ok(6)),
+    (Slots, Ok(4)),
     (Reclaim, Ok(0)),
-    (Slots, Ok(3)),
+    (Slots, Ok(2)),
 ];
 
 /// An empty cell names no version, and a segment is none.

@@ -1,33 +1,30 @@
-//! A place with versions of two segments, built by hand, and a cell that names one.
+//! A place with versions of two segments, and a cell that names one.
 //!
 //! Where memory is refused, what refused it is tried again, and `met` says so.
 
-ghost use Rattle.std.specs.Prelude.{◌≡◌, ◌<◌, ◌∷◌, [], ◌≤◌, vec_capacity};
+ghost use Rattle.std.specs.Prelude.{◌≡◌, ◌<◌, []};
+ghost use Rattle.std.specs.Ordering.{nat_cmp};
 ghost use Rattle.sdd_domain.specs.Cells.{cell_number};
 ghost use Rattle.sdd_domain.specs.Layout.{IsSized};
 ghost use Rattle.sdd_domain.specs.Sharing.{kept_in, IsOwnerOf};
 ghost use Rattle.sdd_domain.specs.Tokens.{place_of, home_of, hand_of, own_of, cell_count, IsInNest, IsSameButHand};
 ghost use Rattle.shared_session_tests.specs.Participants.{CanWrite, StillRests};
+ghost use Rattle.shared_versions.specs.Drafts.{IsPlaceable, nothing};
 ghost use Rattle.shared_versions.specs.Nodes.{held_by};
-ghost use Rattle.version_views.specs.Items.{shared_items};
+ghost use Rattle.shared_versions.specs.Placing.{IsStill};
 
 use crate::calls::{closed, leave, made, registered, retire};
 use sdd_domain::atomic_shared::AtomicShared;
 use sdd_domain::domain::Domain;
-use sdd_domain::held::Held;
-use sdd_domain::holding::hold_last;
 use sdd_domain::local::Local;
 use sdd_domain::refusal::RegisterRefused;
 use sdd_domain::shared::Shared;
 use sdd_plain::refusal::NoSlot;
 use sdd_plain::sizes::Sizes;
-use sdd_plain::tag::Tag;
 use shared_sessions::SharedSession;
-use shared_versions::{Node, Version};
+use shared_versions::{Draft, Node, Present, Version, build_list, rising_until};
 use std::alloc::{AllocError, Global};
 use std::process::Abort;
-use std::sync::Arc;
-use version_views::{Directory, Row, Segment};
 
 /// The items of the place: versions of numbers by numbers.
 pub type Item = Node<u64, u64>;
@@ -58,7 +55,7 @@ pub const SEVERAL: Sizes = Sizes {
 /// A place for one participant, one version and one cell, which takes few allocations.
 pub const SMALL: Sizes = Sizes {
     participants: 1,
-    slots: 3,
+    slots: 2,
     cells: 1,
     jobs: 0,
 };
@@ -114,90 +111,20 @@ pub fn placed<R: Abort>(
     }
 }
 
-/// A segment of this pair.
-pub fn one<R: Abort>(
-    rt: &R,
-    alloc: Global,
-    key: u64,
-    value: u64,
-    met: &mut bool,
-) -> Segment<u64, u64>
-    ensures { result.pairs ≡ (key, value) ∷ [] }
+/// A draft of the version of this list.
+fn drafted<R: Abort>(rt: &R, alloc: Global, list: Numbered, met: &mut bool) -> Draft<u64, u64, 2>
+    ensures { IsPlaceable nat_cmp 2 nothing result }
 {
-    let mut segment = Segment::new(alloc);
-    if let Err((key, value)) = segment.push(key, value) {
-        *met = true;
-        let Ok(()) = segment.push(key, value) else {
-            panic!(rt; "{TWICE}");
-        };
+    let (number, (first, second, third)) = list;
+    let pairs = [(1, first), (2, second), (5, third)];
+    if rising_until(&pairs) < pairs.len() {
+        panic!(rt; "the keys rise");
     }
-    segment
-}
-
-/// A segment of the keys 1 and 2.
-fn two<R: Abort>(
-    rt: &R,
-    alloc: Global,
-    first: u64,
-    second: u64,
-    met: &mut bool,
-) -> Segment<u64, u64>
-    ensures { result.pairs ≡ (1, first) ∷ (2, second) ∷ [] }
-{
-    let mut segment = one(rt, alloc, 1, first, met);
-    if let Err((key, value)) = segment.push(2, second) {
-        *met = true;
-        let Ok(()) = segment.push(key, value) else {
-            panic!(rt; "{TWICE}");
-        };
-    }
-    segment
-}
-
-/// Room for two owners.
-fn room<R: Abort>(rt: &R, alloc: Global, met: &mut bool) -> Vec<Held<Item>>
-    ensures none { result.items ≡ [] }
-    ensures room { 2 ≤ vec_capacity result }
-{
-    match Vec::with_capacity(alloc, 2) {
-        Ok(room) => room,
-        Err(_) => {
+    match build_list::<u64, u64, 2>(alloc, number, &pairs) {
+        Ok(draft) => draft,
+        Err(AllocError) => {
             *met = true;
-            match Vec::with_capacity(alloc, 2) {
-                Ok(room) => room,
-                Err(_) => panic!(rt; "{TWICE}"),
-            }
-        }
-    }
-}
-
-/// A vector of one value.
-fn alone<R: Abort, T>(rt: &R, alloc: Global, value: T, met: &mut bool) -> Vec<T>
-    ensures { result.items ≡ value ∷ [] }
-{
-    let mut values = Vec::new(alloc);
-    if let Err(refused) = values.push(value) {
-        *met = true;
-        match values.push(refused.value) {
-            Ok(()) => {}
-            Err(_) => panic!(rt; "{TWICE}"),
-        }
-    }
-    values
-}
-
-/// The key that separates two segments of a row.
-fn keys<R: Abort>(rt: &R, alloc: Global, met: &mut bool) -> Arc<Vec<u64>, Global>
-    ensures { shared_items result ≡ 2 ∷ [] }
-{
-    match Arc::new(alloc, alone(rt, alloc, 2, met)) {
-        Ok(keys) => keys,
-        Err(refused) => {
-            *met = true;
-            match Arc::new(alloc, refused.value) {
-                Ok(keys) => keys,
-                Err(_) => panic!(rt; "{TWICE}"),
-            }
+            build_list::<u64, u64, 2>(alloc, number, &pairs).expect(rt, TWICE)
         }
     }
 }
@@ -214,22 +141,16 @@ pub fn version<R: Abort>(
     requires home { (home_of local.old ≡ place_of domain.now) × (hand_of local.old ≡ []) }
     ensures place { kept_in result ≡ (place_of domain.now).0 }
     ensures hand { hand_of local.new ≡ [] }
-    ensures same { IsSameButHand local.old local.new }
+    ensures same { IsStill local.old local.new }
 {
-    let (number, (first, second, third)) = list;
-    let front = Node::Segment(two(rt, alloc, first, second, met));
-    let front = placed(rt, domain, front, local);
-    let back = Node::Segment(one(rt, alloc, 5, third, met));
-    let back = placed(rt, domain, back, local);
-    let mut held = room(rt, alloc, met);
-    hold_last(domain, &mut held, front, local);
-    hold_last(domain, &mut held, back, local);
-    let row = Row::new(held, keys(rt, alloc, met));
-    let rows = alone(rt, alloc, row, met);
-    let ends = alone(rt, alloc, 2, met);
-    let directory = Directory::new(number, 3, rows, Vec::new(alloc), ends);
-    let version = Version::new(directory, 2);
-    placed(rt, domain, Node::Version(version), local)
+    let draft = drafted(rt, alloc, list, met);
+    match Present::holding(alloc, domain, draft, local) {
+        Ok((present, owner)) => {
+            present.end(domain, local);
+            owner
+        }
+        Err(NoSlot) => panic!(rt; "slots are free"),
+    }
 }
 
 /// A cell that owns the item, where one is free.
@@ -255,7 +176,8 @@ pub fn cell<R: Abort>(
 #[derive(Clone, Copy)]
 pub enum First {
     Nothing,
-    Segment,
+    /// A row, which is no version.
+    Row,
     /// The empty version, of the width 2.
     Empty,
     /// A version of the width 2, this number and these values.
@@ -284,10 +206,7 @@ pub fn owning<R: Abort>(
                 Err(NoSlot) => panic!(rt; "a cell is free"),
             };
         }
-        First::Segment => {
-            let segment = Node::Segment(one(rt, alloc, 5, 50, &mut met));
-            placed(rt, domain, segment, local)
-        }
+        First::Row => placed(rt, domain, Node::Row(Vec::new(alloc)), local),
         First::Empty => {
             let empty = Node::Version(Version::empty(alloc, 2));
             placed(rt, domain, empty, local)
@@ -308,9 +227,7 @@ pub fn renew<R: Abort>(rt: &R, alloc: Global, at: At<'_>, local: &mut Local<Item
 {
     let mut met = false;
     let next = version(rt, alloc, at.domain, local, list, &mut met);
-    if let (Some(old), _) = at.cell.swap(at.domain, (Some(next), Tag::None), local) {
-        old.release(at.domain, local);
-    }
+    shared_versions::publish(at.domain, at.cell, next, local);
 }
 
 /// A pair that is lent, as it is.

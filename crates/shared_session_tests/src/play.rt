@@ -92,7 +92,7 @@ const PLAYS: &[(First, Play)] = &[
     (First::Version(7, (10, 20, 50)), Rows(AT_LEAST)),
     (TENS, Rows(NO_GUARD)),
     (First::Nothing, Rows(&NO_VERSION)),
-    (First::Segment, Rows(&NO_VERSION)),
+    (First::Row, Rows(&NO_VERSION)),
     (First::Empty, Rows(ONE_WIDTH)),
     (TENS, Within),
     (TENS, OfLoaded),

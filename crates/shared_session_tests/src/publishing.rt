@@ -57,7 +57,7 @@ pub fn beside<R: Abort>(
     reclaim(at.domain, writer);
     let left = in_use(at.domain);
     values == [Some(10), Some(10), Some(50)]
-        && (counts, left) == ((6, 1), 3)
+        && (counts, left) == ((4, 1), 2)
         && read == Ok(Answer::Get(Some(20)))
         && later == (Some(11), 2)
         && is_read(&receipt)

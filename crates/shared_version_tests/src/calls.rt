@@ -4,6 +4,7 @@ ghost use Rattle.std.specs.Prelude.{◌≤◌};
 
 use crate::scene::Scene;
 use std::alloc::Global;
+use std::ops::Bound;
 use std::process::Abort;
 use version_views::Write;
 
@@ -23,11 +24,23 @@ pub(crate) fn upserts<R: Abort>(
     writes
 }
 
+/// The removal of the pairs from one key on and below another.
+pub(crate) fn removal<R: Abort>(rt: &R, alloc: Global, from: u64, to: u64) -> Vec<Write<u64, u64>> {
+    let mut writes = Vec::new(alloc);
+    let write = Write::RemoveRange(Bound::Included(from), Bound::Excluded(to));
+    let Ok(()) = writes.push(write) else {
+        panic!(rt; "memory is there");
+    };
+    writes
+}
+
 /// A call on a scene.
 #[derive(Clone, Copy)]
 pub(crate) enum Call {
     /// Upserts the pairs of the keys from the first on and below the second with a value, and publishes what that leaves.
     Upsert(u64, u64, u64),
+    /// Removes the pairs of the keys from the first on and below the second, and publishes what that leaves.
+    Remove(u64, u64),
     /// Reads the value of a key.
     Get(u64),
     Reclaim,
@@ -65,6 +78,10 @@ fn answers<R: Abort, const S: usize>(
         (Call::Upsert(from, to, value), Told::Refused) => {
             let writes = upserts(rt, alloc, from..to, value);
             !scene.commit(rt, alloc, &writes)
+        }
+        (Call::Remove(from, to), Told::Placed) => {
+            let writes = removal(rt, alloc, from, to);
+            scene.commit(rt, alloc, &writes)
         }
         (Call::Get(key), Told::Found(value, pairs)) => scene.seen(rt, key) == (value, pairs),
         (Call::Reclaim, Told::Done) => {

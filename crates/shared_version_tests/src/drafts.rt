@@ -58,8 +58,8 @@ fn drafted(alloc: Global) -> Result<(bool, usize, bool), AllocError> {
     Ok((there, slots_of(draft), replies == wanted))
 }
 
-// nine pairs in three segments, and the version
-const EXPECTED: (bool, usize, bool) = (false, 4, true);
+// nine pairs in one row, and the version
+const EXPECTED: (bool, usize, bool) = (false, 2, true);
 
 /// Whether memory was refused while a draft was made, and whether it was as wanted, by a second try then.
 fn drafted_again(alloc: Global) -> (bool, bool) {

@@ -9,6 +9,8 @@ use sdd_domain::shared::Shared;
 use shared_versions::{Node, Present, Reader, Session, Version, view_of};
 use std::ops::Bound;
 use std::process::Abort;
+use std::sync::Arc;
+use std::test::Fail;
 use version_views::Segment;
 
 /// The number, the width, how many segments and pairs a version has, and whether it has no pair of a key, and none at all.
@@ -35,13 +37,16 @@ fn the_empty_version_has_no_pair(rt: HostRuntime) {
 }
 
 #[test]
-fn a_segment_holds_nothing(rt: HostRuntime) {
-    let mut segment = Segment::<u64, u64>::new(rt.alloc());
+fn a_row_holds_nothing(rt: HostRuntime) -> Result<(), Fail> {
+    let alloc = rt.alloc();
+    let mut segment = Segment::<u64, u64>::new(alloc);
     match segment.push(3, 30) {
         Ok(()) => {},
         Err(_) => panic!(rt; "no memory"),
     }
-    let mut node = Node::Segment(segment);
+    let mut segments = Vec::new(alloc);
+    segments.push(Arc::new(alloc, segment)?)?;
+    let mut node = Node::Row(segments);
     let no_version = node.version().is_none();
     match node.give_up() {
         None => {},
@@ -49,6 +54,7 @@ fn a_segment_holds_nothing(rt: HostRuntime) {
     }
     end(node);
     assert!(rt; no_version);
+    Ok(())
 }
 
 /// The width of the version that a node is.

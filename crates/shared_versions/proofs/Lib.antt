@@ -3,11 +3,11 @@ pub mod DirectoryLemmas
 pub mod EmptyLemmas
 pub mod LoadedLemmas
 pub mod MovingLemmas
+pub mod OwnRowLemmas
 pub mod OwnedLemmas
 pub mod OwnerLemmas
 pub mod PresentLemmas
 pub mod SeamLemmas
 pub mod SendLemmas
-pub mod ShelfLemmas
+pub mod SharingLemmas
 pub mod StillLemmas
-pub mod UnitLemmas

@@ -9,8 +9,8 @@ use Rattle.atomic_table.specs.Seated.{TableId}
 use Rattle.sdd_domain.specs.Sharing.{IsHeldAs, IsOwnerOf, kept_in}
 use Rattle.sdd_domain.specs.declared.held.Held.{Held}
 use Rattle.sdd_domain.specs.declared.shared.Shared.{Shared}
-use Rattle.shared_versions.specs.Nodes.{IsSegment, OwnsSegment, item_held, owned_pairs, segment_pairs}
-use Rattle.shared_versions.specs.Placing.{IsSegmentOf, item_owned, pairs_owned}
+use Rattle.shared_versions.specs.Nodes.{IsItem, OwnsItem, item_blocks, item_held}
+use Rattle.shared_versions.specs.Placing.{IsRowOf, blocks_owned, item_owned}
 use Rattle.shared_versions.specs.declared.node.Node.{Node}
 use Rattle.shared_versions.proofs.LoadedLemmas.{value_is}
 
@@ -32,14 +32,14 @@ module _ {T : Type 0} where
   same_held s h same = same_item s.part.part.seen.value h.part.part.seen.value s.there same
 
 module _ {K V : Type 0} where
-  -- another owner of a segment owns one, too, of the same pairs
-  pub same_segment : (place : TableId) (s t : Shared (Node K V)) → kept_in t ≡ kept_in s → ((x : Node K V) → IsOwnerOf s x → IsOwnerOf t x) → IsSegmentOf place s → IsSegmentOf place t × (pairs_owned t ≡ pairs_owned s)
-  same_segment place s t home h is = let same = same_owned s t h in ((home ∙ is.0, subst IsSegment (sym same) is.1), ap segment_pairs same)
+  -- another owner of a row owns one, too, of the same pairs
+  pub same_row : (place : TableId) (s t : Shared (Node K V)) → kept_in t ≡ kept_in s → ((x : Node K V) → IsOwnerOf s x → IsOwnerOf t x) → IsRowOf place s → IsRowOf place t × (blocks_owned t ≡ blocks_owned s)
+  same_row place s t home h is = let same = same_owned s t h in ((home ∙ is.0, subst IsItem (sym same) is.1), ap item_blocks same)
 
-  -- what an item holds is a segment of the same pairs
-  pub held_segment : (place : TableId) (s : Shared (Node K V)) (h : Held (Node K V)) → IsHeldAs s h → IsSegmentOf place s → OwnsSegment h × (owned_pairs h ≡ pairs_owned s)
-  held_segment place s h as_it_was is = let same = same_held s h as_it_was in (subst IsSegment (sym same) is.1, ap segment_pairs same)
+  -- what an item holds is a row of the same pairs
+  pub held_row : (place : TableId) (s : Shared (Node K V)) (h : Held (Node K V)) → IsHeldAs s h → IsRowOf place s → OwnsItem h × (item_blocks (item_held h) ≡ blocks_owned s)
+  held_row place s h as_it_was is = let same = same_held s h as_it_was in (subst IsItem (sym same) is.1, ap item_blocks same)
 
-  -- an owner of a node that is a segment owns one, of its pairs
-  pub made_segment : (place : TableId) (s : Shared (Node K V)) (n : Node K V) → kept_in s ≡ place → IsOwnerOf s n → IsSegment (Some n) → IsSegmentOf place s × (pairs_owned s ≡ segment_pairs (Some n))
-  made_segment place s n home owns is = let same = owned_is s n owns in ((home, subst IsSegment (sym same) is), ap segment_pairs same)
+  -- an owner of a node that is a row owns one, of its pairs
+  pub made_row : (place : TableId) (s : Shared (Node K V)) (n : Node K V) → kept_in s ≡ place → IsOwnerOf s n → IsItem (Some n) → IsRowOf place s × (blocks_owned s ≡ item_blocks (Some n))
+  made_row place s n home owns is = let same = owned_is s n owns in ((home, subst IsItem (sym same) is), ap item_blocks same)

@@ -23,16 +23,16 @@ module _ (K V : RattleType) (g : Ord.Ghosts K.Denot) (g' : PartialEq.Ghosts K.De
   pub node_send : IsSend K → IsSync K → IsSend V → IsSync V → IsSend (node.the_row K V g g' g'')
   node_send keys keys' values values' = search (knot.crosses, held.the_send, held.the_sync, directory.the_send, directory.the_sync, rows.the_send, rows.the_sync, segment.the_send, segment.the_sync, crosses, sendable) depth 20
 
-  pub node_sync : IsSend K → IsSync K → IsSync V → IsSync (node.the_row K V g g' g'')
-  node_sync keys keys' values = search (knot.crosses, held.the_sync, directory.the_sync, rows.the_sync, segment.the_sync, crosses, sendable) depth 20
+  pub node_sync : IsSend K → IsSync K → IsSend V → IsSync V → IsSync (node.the_row K V g g' g'')
+  node_sync keys keys' values values' = search (knot.crosses, held.the_sync, directory.the_sync, rows.the_sync, segment.the_send, segment.the_sync, crosses, sendable) depth 20
 
-  pub owner_send : IsSend K → IsSync K → IsSync V → IsSend (shared.the_row (node.the_row K V g g' g''))
-  owner_send keys keys' values = owners.the_send (node.the_row K V g g' g'') (node_sync keys keys' values)
+  pub owner_send : IsSend K → IsSync K → IsSend V → IsSync V → IsSend (shared.the_row (node.the_row K V g g' g''))
+  owner_send keys keys' values values' = owners.the_send (node.the_row K V g g' g'') (node_sync keys keys' values values')
 
-  pub present_send : (S : RattleType) → IsSend K → IsSync K → IsSync V → IsSend (present.the_row K V S g g' g'')
-  present_send S keys keys' values =
+  pub present_send : (S : RattleType) → IsSend K → IsSync K → IsSend V → IsSync V → IsSend (present.the_row K V S g g' g'')
+  present_send S keys keys' values values' =
       let row = shared.the_row (node.the_row K V g g' g'') in
-      let owner = owner_send keys keys' values in
+      let owner = owner_send keys keys' values values' in
       let kept = Vec-send (option.the_row row) (options.the_send row owner) in
       let within : IsSend (inside.the_row K V S g g' g'') = declared_send (inside.the_type K V S g g' g'') (owner, (kept, tt)) in
       view_send (inside.the_row K V S g g' g'') _ _ _ _ within

@@ -1,83 +1,106 @@
 -- versions that aren't placed yet, each of an older one
-use Rattle.std.specs.Prelude.{◌≡◌, ℕ, ◌≤◌, List, [], ◌∷◌, length, vec_capacity}
-use Rattle.std.specs.Global.{Vec}
-use Rattle.std.specs.List.{All, flat_map}
+use Rattle.std.specs.Prelude.{◌≡◌, ℕ, ◌+◌, ◌*◌, ◌/◌, ◌≤◌, List, [], length, map, get_or, sum_by, vec_capacity}
+use Rattle.std.specs.Arc.{arc_value}
+use Rattle.std.specs.Global.{Global}
+use Rattle.std.specs.declared.sync.Arc.{Arc}
+use Rattle.std.specs.List.{flat_map}
 use Rattle.std.specs.declared.cmp.Ordering.{Ordering}
-use Rattle.sdd_domain.specs.declared.held.Held.{Held}
+use Rattle.tree_index.specs.Tree.{Tree}
 use Rattle.version_views.specs.Cuts.{IsCut, pairs_in, separators_of}
-use Rattle.version_views.specs.Items.{row_owners}
+use Rattle.version_views.specs.Items.{row_keys, row_owners}
 use Rattle.version_views.specs.Rows.{IsRowed}
+use Rattle.version_views.specs.declared.directory.Directory.{Directory}
 use Rattle.version_views.specs.declared.row.Row.{Row}
-pub use Rattle.version_drafts.specs.Drafts.{Plan, number_of, slots_for}
-use Rattle.version_drafts.specs.Drafts as drafts
-use Rattle.version_drafts.specs.Parts.{LiesWithin, segments_in}
-use Rattle.version_drafts.specs.Shelves.{shelf_blocks}
-use Rattle.version_drafts.specs.declared.segments.Part.{Part}
-use Rattle.version_drafts.specs.declared.segments.Part.TheVariants as parts
+use Rattle.version_drafts.specs.Shelves.{made_on_all, shelf_blocks}
 use Rattle.version_drafts.specs.declared.shelves.Shelf.{Shelf}
-use Rattle.version_drafts.specs.declared.shelves.Shelf.TheVariants as shelves
+use Rattle.shared_versions.specs.Nodes.{blocks_of, rows_of, segment_pairs}
 use Rattle.shared_versions.specs.Sight.{Sight}
+use Rattle.shared_versions.specs.declared.node.RowOwner.{RowOwner}
+use Rattle.shared_versions.specs.declared.planned.Planned.{Planned}
+use Rattle.shared_versions.specs.declared.planned.Planned.TheVariants as planned
 use Rattle.shared_versions.specs.declared.room.Room.{Room}
+
+-- a version to be placed, of segments of at most s pairs: a directory, of whose rows some are those of an older version
+pub record Plan (K V : Type 0) (s : ℕ) : Type 0 where
+  pub shelves : Directory K (Planned K V)
 
 module _ {K V : Type 0} where
   -- a version without segments
   abbrev pub nothing : Sight K V
-  nothing = record { number = 0; width = 0; blocks = []; owners = [] }
+  nothing = record { number = 0; width = 0; own = []; blocks = []; rows = []; owners = [] }
 
   -- the list of a version
   abbrev pub list_of : Sight K V → List (K × V)
   list_of v = pairs_in v.blocks
 
+  -- the pairs of a planned row's segments, where the older version's rows that are items have these; and those of a row that is to be an item
+  abbrev pub planned_blocks : List (List (List (K × V))) → Planned K V → List (List (K × V))
+  planned_blocks rows (planned.Older number) = get_or rows number []
+  planned_blocks rows (planned.New segments) = map segment_pairs segments.items
+  planned_blocks rows (planned.Own segments) = map segment_pairs (arc_value segments).items
+
+  abbrev pub planned_placed : List (List (List (K × V))) → Planned K V → List (List (K × V))
+  planned_placed rows (planned.Older number) = get_or rows number []
+  planned_placed rows (planned.New segments) = map segment_pairs segments.items
+  planned_placed rows (planned.Own segments) = []
+
+  -- how many slots a planned row takes, and how many all rows
+  abbrev pub slots_on : Planned K V → ℕ
+  slots_on (planned.Older number) = 0
+  slots_on (planned.New segments) = 1
+  slots_on (planned.Own segments) = 0
+
+  abbrev pub slots_on_all : List (Row K (Planned K V)) → ℕ
+  slots_on_all rows = sum_by (λ r. slots_on r.segments) rows
+
+  -- its number, and how many slots it takes: one for each row that is placed, and one for its directory
+  abbrev pub number_of : {s : ℕ} → Plan K V s → ℕ
+  number_of p = p.shelves.number
+
+  abbrev pub slots_for : {s : ℕ} → Plan K V s → ℕ
+  slots_for p = slots_on_all p.shelves.rows.items + 1
+
   -- the pairs of the segments of a version to be placed, and its list
   abbrev pub blocks_planned : {s : ℕ} → Sight K V → Plan K V s → List (List (K × V))
-  blocks_planned old p = drafts.blocks_planned old.blocks p
+  blocks_planned old p = flat_map (row_owners (planned_blocks old.rows)) p.shelves.rows.items
 
   abbrev pub list_planned : {s : ℕ} → Sight K V → Plan K V s → List (K × V)
-  list_planned old p = drafts.list_planned old.blocks p
+  list_planned old p = pairs_in (blocks_planned old p)
 
-  -- the parts of a row, one of which is all of a row that is taken over, and those of rows, in order
-  abbrev pub shelf_parts : Shelf K V → List (Part K V)
-  shelf_parts (shelves.Older row from upto) = parts.Taken from upto ∷ []
-  shelf_parts (shelves.New ps) = ps.items
-
-  abbrev pub parts_in : List (Row K (Shelf K V)) → List (Part K V)
-  parts_in rows = flat_map (row_owners shelf_parts) rows
-
-  -- how many segments a row has
-  abbrev pub size_of : Shelf K V → ℕ
-  size_of shelf = segments_in (shelf_parts shelf)
-
-  -- its segments are cut as they should be and stand in rows, its pairs are counted, and the older version has what it takes over
+  -- its segments are cut as they should be and stand in rows, and its pairs are counted
   pub record IsPlaceable (cmp : K → K → Ordering) (s : ℕ) (old : Sight K V) (p : Plan K V s) : Type 0 where
     pub cut : IsCut cmp s (blocks_planned old p) (separators_of (blocks_planned old p))
-    pub rowed : IsRowed (shelf_blocks old.blocks) p.shelves
+    pub rowed : IsRowed (planned_blocks old.rows) p.shelves
     pub counted : p.shelves.length ≡ length (list_planned old p)
-    pub there : All (LiesWithin (length old.blocks)) (parts_in p.shelves.rows.items)
 
--- nothing is in it, and there is room for so many owners
-pub record HasHeldRoom {T : Type 0} (n : ℕ) (held : Vec (Held T)) : Type 0 where
-  pub none : held.items ≡ []
-  pub room : n ≤ vec_capacity held
+  -- upon an older version, it is planned as these rows of parts say, and takes no more slots than they do
+  pub record IsPlannedAs {s : ℕ} (own : List (List (Arc (Tree K V) Global))) (old : Directory K (RowOwner K V)) (shelves : Directory K (Shelf K V)) (p : Plan K V s) : Type 0 where
+    pub number : p.shelves.number ≡ shelves.number
+    pub count : p.shelves.length ≡ shelves.length
+    pub blocks : map (λ r. planned_blocks (rows_of old) r.segments) p.shelves.rows.items ≡ map (λ r. shelf_blocks (blocks_of own old) r.segments) shelves.rows.items
+    pub keys : map row_keys p.shelves.rows.items ≡ map row_keys shelves.rows.items
+    pub separators : p.shelves.separators.items ≡ shelves.separators.items
+    pub ends : p.shelves.ends.items ≡ shelves.ends.items
+    pub slots : slots_for p ≤ made_on_all shelves.rows.items + 1
+
+-- so many slots are counted, and they are few, where segments have at most s pairs
+pub record IsDrafted {K V : Type 0} (s : ℕ) (shelves : Directory K (Planned K V)) (slots : ℕ) : Type 0 where
+  pub few : slots ≤ 2 * (shelves.length / (s + 1)) + 2
+  pub counted : slots ≡ slots_on_all shelves.rows.items + 1
 
 -- nothing is in it
 pub record IsUnused {K V : Type 0} (room : Room K V) : Type 0 where
-  pub no_parts : room.parts.items ≡ []
-  pub no_keys : room.keys.items ≡ []
+  pub none_granted : room.granted.items ≡ []
   pub no_rows : room.rows.items ≡ []
-  pub no_owners : room.owners.items ≡ []
+  pub none_own : room.own.items ≡ []
   pub none_to_keep : room.to_keep.items ≡ []
   pub no_kept : room.kept.items ≡ []
 
--- and there is room for so many rows, parts and segments
-pub record HasRoomFor {K V : Type 0} (row_count part_count segment_count : ℕ) (room : Room K V) : Type 0 where
+-- and there is room for so many rows
+pub record HasRoomFor {K V : Type 0} (count : ℕ) (room : Room K V) : Type 0 where
   pub unused : IsUnused room
-  pub parts : part_count ≤ vec_capacity room.parts
-  pub keys : row_count ≤ vec_capacity room.keys
-  pub rows : row_count ≤ vec_capacity room.rows
-  pub owners : segment_count ≤ vec_capacity room.owners
-  pub to_keep : segment_count ≤ vec_capacity room.to_keep
-  pub kept : segment_count ≤ vec_capacity room.kept
-
--- there is room for all that these rows have
-abbrev pub HasRoomOf : {K V : Type 0} → List (Row K (Shelf K V)) → Room K V → Type 0
-HasRoomOf rows room = HasRoomFor (length rows) (length (parts_in rows)) (segments_in (parts_in rows)) room
+  pub granted : count ≤ vec_capacity room.granted
+  pub rows : count ≤ vec_capacity room.rows
+  pub own : count ≤ vec_capacity room.own
+  pub to_keep : count ≤ vec_capacity room.to_keep
+  pub kept : count ≤ vec_capacity room.kept

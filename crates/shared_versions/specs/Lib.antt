@@ -4,4 +4,3 @@ pub mod Falls
 pub mod Readers
 pub mod Drafts
 pub mod Placing
-pub mod Units

@@ -10,14 +10,14 @@ ghost use Rattle.shared_versions.specs.Drafts.{IsPlaceable, list_of, list_planne
 use crate::draft::Draft;
 use crate::lending::view_of;
 use crate::node::Version;
-use crate::room::RowRoom;
+use crate::planned::NoRoom;
 use std::alloc::{AllocError, Global};
 use version_drafts::plans;
-use version_views::{Reply, Write};
+use version_views::{Directory, Reply, Write};
 
 /// The version that writes make of an older one, under the next number, and the replies to them. Fails only if an
-/// allocation fails. Nothing is placed yet, and no word of the place is read. Segments that no write touches are taken
-/// over, so the older version has to be there when it is placed.
+/// allocation fails. Nothing is placed yet, and no word of the place is read. Rows that no write touches are taken over, so the
+/// older version has to be there when it is placed; of a row that is touched, the other segments are shared at once.
 pub fn build<K: Clone + Ord + Drop, V: Clone + Drop, const S: usize>(
     alloc: Global,
     old: &Version<K, V>,
@@ -36,14 +36,15 @@ pub fn build<K: Clone + Ord + Drop, V: Clone + Drop, const S: usize>(
 {
     old.laws();
     let view = view_of(old);
-    let (plan, replies) = plans::build::<K, V, _, RowRoom<K, V>, S>(
+    let rows = old.directory();
+    let (plan, replies) = plans::build::<K, V, _, NoRoom, S>(
         alloc,
         old.number() + 1,
         &view,
-        old.directory(),
+        rows,
         writes,
     )?;
-    Ok((Draft::of(alloc, plan)?, replies))
+    Ok((Draft::of(alloc, rows, old.own(), plan)?, replies))
 }
 
 /// The version of clones of these pairs, whose keys rise, under a number. Fails only if an allocation fails. Nothing is placed yet, and
@@ -65,6 +66,11 @@ pub fn build_list<K: Clone + Ord + Drop, V: Clone + Drop, const S: usize>(
     ensures fewest { IfOk result (λ made. S * slots_for made < length pairs.now + 2 * S) }
     ensures placeable { IfOk result (IsPlaceable K.cmp S nothing) }
 {
-    let plan = plans::build_list::<K, V, RowRoom<K, V>, S>(alloc, number, pairs)?;
-    Draft::of(alloc, plan)
+    let plan = plans::build_list::<K, V, NoRoom, S>(alloc, number, pairs)?;
+    let none = Directory::new(0, 0, Vec::new(alloc), Vec::new(alloc), Vec::new(alloc));
+    let own = Vec::new(alloc);
+    let draft = Draft::of(alloc, &none, &own, plan);
+    own.destroy_empty();
+    none.into_rows().destroy_empty();
+    draft
 }

@@ -8,8 +8,8 @@ use sdd_domain::held::Held;
 use sdd_domain::holds::Holds;
 use std::mem;
 
-/// A version gives its segments up, from the last one on: the first time it becomes the rest of a version, whose owners are
-/// left. A segment holds nothing.
+/// A version gives the owners of its rows up, from the last one on: the first time it becomes the rest of a version, whose rows
+/// are left. A row holds nothing: its segments are shared with other rows, and go with the last one.
 impl<K: Ord + Drop, V: Drop> Holds for Node<K, V> {
     ghost use Rattle.shared_versions.specs.Nodes.{held_by};
 
@@ -26,7 +26,7 @@ impl<K: Ord + Drop, V: Drop> Holds for Node<K, V> {
     fn end(self) {
         match self {
             Node::Version(version) => version.into_rest().end(),
-            Node::Segment(_) => {}
+            Node::Row(_) => {}
             Node::Rest(rest) => rest.end(),
         }
     }

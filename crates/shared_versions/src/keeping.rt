@@ -1,10 +1,10 @@
-//! What is to be kept of the segments of a version to be placed.
+//! What is to be kept of the rows of a version to be placed.
 
 ghost use Rattle.std.specs.Prelude.{◌≡◌, ◌≤◌, [], length, map, reverse, vec_capacity};
 ghost use Rattle.std.specs.List.{All, AllPairs};
 ghost use Rattle.sdd_domain.specs.CellSteps.{StepsOnNoCell};
 ghost use Rattle.sdd_domain.specs.Tokens.{place_of, home_of, hand_of};
-ghost use Rattle.shared_versions.specs.Placing.{AreApart, IsKeptSegment, IsNewIn, IsStill, IsToKeep, IsWithinKept, moved_from, owner_of, pairs_kept, pairs_kept_at, pairs_to_keep, without};
+ghost use Rattle.shared_versions.specs.Placing.{AreApart, IsKeptRow, IsNewIn, IsStill, IsToKeep, IsWithinKept, blocks_kept, blocks_to_keep, moved_from, owner_of, without};
 
 use crate::kept::{WriterOwner, release_kept};
 use crate::node::Node;
@@ -14,16 +14,17 @@ use sdd_domain::local::Local;
 use sdd_domain::shared::Shared;
 use std::mem;
 
-/// What is to be kept of a segment once its version is placed: an owner of a new one, or the owner that is kept already, which
-/// stays at its place until then.
+/// What is to be kept of a row once its version is placed: an owner of a new one, or the owner that is kept already, which
+/// stays at its place until then; nothing where the version has the row itself.
 pub(crate) enum ToKeep<K: Ord, V> {
     New(Shared<Node<K, V>>),
     Old(usize),
+    Nothing,
 }
 
-/// Keeps owners of the segments of a version that was placed, in the room for them: those of its new segments, and those that
-/// were kept of the others, which are moved. The older ones that are left are released. Condition: no two are moved from one
-/// place, which is empty then.
+/// Keeps owners of the rows of a version that was placed, in the room for them: those of its new rows, and those that were kept of
+/// the others, which are moved. The older ones that are left are released. Condition: no two are moved from one place, which is
+/// empty then.
 pub(crate) fn keep_all<K: Ord + Drop, V: Drop>(
     domain: &Domain<Node<K, V>>,
     mut to_keep: Vec<ToKeep<K, V>>,
@@ -33,12 +34,12 @@ pub(crate) fn keep_all<K: Ord + Drop, V: Drop>(
 )
     requires home { home_of local.old ≡ place_of domain.now }
     requires to_keep { All (IsToKeep (place_of domain.now).0 (length kept.old.items)) to_keep.items }
-    requires kept { All (IsKeptSegment (place_of domain.now).0) kept.old.items }
+    requires kept { All (IsKeptRow (place_of domain.now).0) kept.old.items }
     requires apart { AllPairs AreApart (reverse (map moved_from to_keep.items)) }
     requires none { room.items ≡ [] }
     requires room { length to_keep.items ≤ vec_capacity room }
-    ensures kept { All (IsKeptSegment (place_of domain.now).0) kept.new.items }
-    ensures pairs { map pairs_kept kept.new.items ≡ reverse (map (pairs_to_keep (pairs_kept_at kept.old.items)) to_keep.items) }
+    ensures kept { All (IsKeptRow (place_of domain.now).0) kept.new.items }
+    ensures blocks { map blocks_kept kept.new.items ≡ reverse (map (blocks_to_keep (map blocks_kept kept.old.items)) to_keep.items) }
     ensures hand { hand_of local.new ≡ hand_of local.old }
     ensures same { IsStill local.old local.new }
     ensures cells { StepsOnNoCell local.old local.new }
@@ -51,7 +52,7 @@ pub(crate) fn keep_all<K: Ord + Drop, V: Drop>(
     release_kept(domain, older, local);
 }
 
-/// The owner to be kept: an older one is moved out of its place.
+/// The owner to be kept, if there is one: an older one is moved out of its place.
 fn moved<K: Ord, V>(to_keep: ToKeep<K, V>, older: &mut Vec<WriterOwner<K, V>>) -> WriterOwner<K, V>
     requires { IsWithinKept (length older.old.items) to_keep }
     ensures owner { result ≡ owner_of older.old.items to_keep }
@@ -59,11 +60,12 @@ fn moved<K: Ord, V>(to_keep: ToKeep<K, V>, older: &mut Vec<WriterOwner<K, V>>) -
 {
     match to_keep {
         ToKeep::New(owner) => Some(owner),
-        ToKeep::Old(place) => mem::replace(&mut older[place], None),
+        ToKeep::Old(number) => mem::replace(&mut older[number], None),
+        ToKeep::Nothing => None,
     }
 }
 
-/// Releases the owners of new segments, of which none is kept: their version wasn't placed.
+/// Releases the owners of new rows, of which none is kept: their version wasn't placed.
 pub(crate) fn release_new<K: Ord + Drop, V: Drop>(
     domain: &Domain<Node<K, V>>,
     mut to_keep: Vec<ToKeep<K, V>>,
@@ -81,6 +83,7 @@ pub(crate) fn release_new<K: Ord + Drop, V: Drop>(
                 let_go(domain, owner, local);
             }
             ToKeep::Old(_) => {}
+            ToKeep::Nothing => {}
         }
     }
     to_keep.destroy_empty();

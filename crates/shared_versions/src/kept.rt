@@ -1,10 +1,10 @@
-//! Owners that the writer keeps of the segments of its version, for the versions to come.
+//! Owners that the writer keeps of the rows of its version, for the versions to come.
 
-ghost use Rattle.std.specs.Prelude.{◌≡◌, ◌<◌, ◌+◌, [], IfSome, IfNone, length, map, get_or};
+ghost use Rattle.std.specs.Prelude.{◌≡◌, ◌≤◌, ◌+◌, [], IfSome, IfNone, length, map, get_or};
 ghost use Rattle.std.specs.List.{All};
 ghost use Rattle.sdd_domain.specs.CellSteps.{StepsOnNoCell};
 ghost use Rattle.sdd_domain.specs.Tokens.{place_of, home_of, hand_of, misses_of};
-ghost use Rattle.shared_versions.specs.Placing.{IsKeptSegment, IsLeft, IsSegmentOf, IsStill, IsStillButMisses, pairs_kept, pairs_owned};
+ghost use Rattle.shared_versions.specs.Placing.{IsKeptRow, IsRowOf, IsStill, IsStillButMisses, blocks_kept, blocks_owned};
 
 use crate::node::Node;
 use crate::owners::let_go;
@@ -13,49 +13,50 @@ use sdd_domain::local::Local;
 use sdd_domain::shared::Shared;
 use std::mem;
 
-/// An owner of a segment. It is out while it is being cloned, and once it was moved.
+/// An owner of a row. There is none where the version has the row itself. It is out while it is being cloned, and once it was
+/// moved.
 pub(crate) type WriterOwner<K, V> = Option<Shared<Node<K, V>>>;
 
-/// One more owner of the segment at this place; none where it can't have one more, which is a miss.
+/// One more owner of the row of this number; none where it can't have one more, which is a miss. Condition: it is an item.
 pub(crate) fn clone_at<K: Ord + Drop, V: Drop>(
     domain: &Domain<Node<K, V>>,
     kept: &mut Vec<WriterOwner<K, V>>,
-    place: usize,
+    number: usize,
     local: &mut Local<Node<K, V>>,
 ) -> Option<Shared<Node<K, V>>>
     requires home { home_of local.old ≡ place_of domain.now }
-    requires inside { place < length kept.old.items }
-    requires kept { All (IsKeptSegment (place_of domain.now).0) kept.old.items }
-    ensures one { IfSome result (λ s. IsSegmentOf (place_of domain.now).0 s × (pairs_owned s ≡ get_or (map pairs_kept kept.old.items) place [])) }
-    ensures kept { All (IsKeptSegment (place_of domain.now).0) kept.new.items }
-    ensures pairs { map pairs_kept kept.new.items ≡ map pairs_kept kept.old.items }
+    requires some { 1 ≤ length (get_or (map blocks_kept kept.old.items) number []) }
+    requires kept { All (IsKeptRow (place_of domain.now).0) kept.old.items }
+    ensures one { IfSome result (λ s. IsRowOf (place_of domain.now).0 s × (blocks_owned s ≡ get_or (map blocks_kept kept.old.items) number [])) }
+    ensures kept { All (IsKeptRow (place_of domain.now).0) kept.new.items }
+    ensures blocks { map blocks_kept kept.new.items ≡ map blocks_kept kept.old.items }
     ensures hand { hand_of local.new ≡ hand_of local.old }
     ensures hit { IfSome result (λ _. misses_of local.new ≡ misses_of local.old) }
     ensures missed { IfNone result (misses_of local.new ≡ misses_of local.old + 1) }
     ensures same { IsStillButMisses local.old local.new }
     ensures cells { StepsOnNoCell local.old local.new }
 {
-    let Some(owner) = mem::replace(&mut kept[place], None) else {
+    let Some(owner) = mem::replace(&mut kept[number], None) else {
         unreachable!();
     };
-    let (owner, other) = clone_segment(domain, owner, local);
-    match mem::replace(&mut kept[place], Some(owner)) {
+    let (owner, other) = clone_row(domain, owner, local);
+    match mem::replace(&mut kept[number], Some(owner)) {
         None => {}
         Some(_) => unreachable!(),
     }
     other
 }
 
-/// Clones an owner of a segment. Only the given one is returned if there can't be one more, which is a miss.
-fn clone_segment<K: Ord + Drop, V: Drop>(
+/// Clones an owner of a row. Only the given one is returned if there can't be one more, which is a miss.
+fn clone_row<K: Ord + Drop, V: Drop>(
     domain: &Domain<Node<K, V>>,
     owner: Shared<Node<K, V>>,
     local: &mut Local<Node<K, V>>,
 ) -> (Shared<Node<K, V>>, Option<Shared<Node<K, V>>>)
     requires home { home_of local.old ≡ place_of domain.now }
-    requires mine { IsSegmentOf (place_of domain.now).0 owner }
-    ensures own { IsSegmentOf (place_of domain.now).0 result.0 × (pairs_owned result.0 ≡ pairs_owned owner) }
-    ensures other { IfSome result.1 (λ s. IsSegmentOf (place_of domain.now).0 s × (pairs_owned s ≡ pairs_owned owner)) }
+    requires mine { IsRowOf (place_of domain.now).0 owner }
+    ensures own { IsRowOf (place_of domain.now).0 result.0 × (blocks_owned result.0 ≡ blocks_owned owner) }
+    ensures other { IfSome result.1 (λ s. IsRowOf (place_of domain.now).0 s × (blocks_owned s ≡ blocks_owned owner)) }
     ensures hand { hand_of local.new ≡ hand_of local.old }
     ensures hit { IfSome result.1 (λ _. misses_of local.new ≡ misses_of local.old) }
     ensures missed { IfNone result.1 (misses_of local.new ≡ misses_of local.old + 1) }
@@ -68,14 +69,14 @@ fn clone_segment<K: Ord + Drop, V: Drop>(
     }
 }
 
-/// Releases the owners of segments that are left.
+/// Releases the owners of rows that are left.
 pub(crate) fn release_kept<K: Ord + Drop, V: Drop>(
     domain: &Domain<Node<K, V>>,
     mut kept: Vec<WriterOwner<K, V>>,
     local: &mut Local<Node<K, V>>,
 )
     requires home { home_of local.old ≡ place_of domain.now }
-    requires left { All (IsLeft (place_of domain.now).0) kept.items }
+    requires left { All (IsKeptRow (place_of domain.now).0) kept.items }
     ensures hand { hand_of local.new ≡ hand_of local.old }
     ensures same { IsStill local.old local.new }
     ensures cells { StepsOnNoCell local.old local.new }

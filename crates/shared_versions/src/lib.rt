@@ -1,8 +1,10 @@
 //! Versions of an ordered list of pairs in a place that threads share.
 //!
-//! What is in a slot is a [`Node`]: a version, a segment of versions, or what is left of a version that is reclaimed. A
-//! version owns its segments by [`Held`](sdd_domain::held::Held), and is whole by its type: who has a node that is a
-//! [`Version`] reads it without a look at the place. A [`Reader`] keeps what was loaded from a cell, once it was found to be a
+//! What is in a slot is a [`Node`]: a version, a row of segments, or what is left of a version that is reclaimed. A version owns
+//! its rows by [`Held`](sdd_domain::held::Held), and is whole by its type: who has a node that is a [`Version`] reads it without
+//! a look at the place. Versions have rows in common by their owners, and rows have segments in common by an
+//! [`Arc`](std::sync::Arc) of each. A row with a new segment takes a slot. A row of older segments alone takes none: the versions
+//! that have it share it by an `Arc`. A [`Reader`] keeps what was loaded from a cell, once it was found to be a
 //! version, and reads it under the guard.
 //!
 //! <!-- crates/shared_version_tests/src/sessions.rt read -->
@@ -30,25 +32,26 @@
 
 mod building;
 mod draft;
+mod granting;
 mod holding;
 mod keeping;
 mod kept;
 mod lending;
 mod node;
 mod owners;
-mod pairs;
+mod planned;
 mod present;
 mod reader;
 mod reclaiming;
 mod room;
 mod rows;
 mod session;
-mod units;
 
 pub use building::{build, build_list};
 pub use draft::Draft;
 pub use lending::view_of;
-pub use node::{Node, Rest, Version};
+pub use node::{Node, Rest, RowOwner, Version};
+pub use planned::Planned;
 pub use present::{Present, publish};
 pub use reader::{Reader, version_at};
 pub use reclaiming::{reclaim, reclaim_once};

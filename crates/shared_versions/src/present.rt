@@ -5,19 +5,19 @@ ghost use Rattle.std.specs.List.{All};
 ghost use Rattle.sdd_domain.specs.CellSteps.{StepsOnNoCell};
 ghost use Rattle.sdd_domain.specs.Cells.{cell_number};
 ghost use Rattle.sdd_domain.specs.Tokens.{place_of, home_of, hand_of, cell_count, misses_of};
-ghost use Rattle.shared_versions.specs.Placing.{HasPut, IsKeptSegment, IsPlanned, IsPresent, IsOwnedIn, IsStill, IsStillButMisses, item_owned, pairs_kept, sight_in, sight_kept, version_owned};
+ghost use Rattle.shared_versions.specs.Placing.{HasPut, IsKeptRow, IsPlanned, IsPresent, IsOwnedIn, IsStill, IsStillButMisses, blocks_kept, item_owned, sight_in, sight_kept, version_owned};
 ghost use Rattle.shared_versions.specs.Drafts.{IsPlaceable, nothing};
 ghost use Rattle.shared_versions.specs.Readers.{HasWidth};
 
 use crate::draft::Draft;
+use crate::granting::grant_all;
 use crate::keeping::{keep_all, release_new};
 use crate::kept::{WriterOwner, release_kept};
 use crate::lending::view_of;
 use crate::node::{Node, Version};
 use crate::owners::{let_go, place_two, take_back};
-use crate::pairs::all_owners;
-use crate::room::{Room, end_rooms};
-use crate::rows::{hold_rows, take_apart};
+use crate::room::Room;
+use crate::rows::hold_rows;
 use sdd_domain::atomic_shared::AtomicShared;
 use sdd_domain::domain::Domain;
 use sdd_domain::holds::Holds;
@@ -30,16 +30,16 @@ use std::marker::Model;
 use std::mem;
 use version_views::{Directory, VersionView};
 
-/// The present version, and one more owner of each of its segments, for the versions to come. It must be consumed by `end`.
+/// The present version, and one more owner of each of its rows that is an item, for the versions to come. It must be consumed by `end`.
 ///
 /// Contracts see its place, and the version.
 pub struct Present<K: Ord, V, const S: usize> {
     version: Shared<Node<K, V>>,
-    segments: Vec<WriterOwner<K, V>>,
+    rows: Vec<WriterOwner<K, V>>,
 }
 
 /// Invariant: specs/Placing.antt, IsPresent: the owner owns a version of segments of at most `S` pairs, and the others own its
-/// segments, in order, in the same place.
+/// rows, in order, in the same place.
 impl<K: Ord, V, const S: usize> Model for Present<K, V, S> {
     ghost use Rattle.shared_versions.specs.Placing.{IsPresent, Placed, placed_of};
 
@@ -47,7 +47,7 @@ impl<K: Ord, V, const S: usize> Model for Present<K, V, S> {
 
     ghost view = { λ p. placed_of p.version };
 
-    ghost invariant = { λ p. IsPresent S p.version p.segments.items };
+    ghost invariant = { λ p. IsPresent S p.version p.rows.items };
 }
 
 impl<K: Ord + Drop, V: Drop, const S: usize> Present<K, V, S> {
@@ -78,7 +78,7 @@ impl<K: Ord + Drop, V: Drop, const S: usize> Present<K, V, S> {
         requires home { home_of local.old ≡ place_of domain.now }
         requires hand { hand_of local.old ≡ [] }
         ensures place { IfOk result (λ made. made.0.place ≡ (place_of domain.now).0) }
-        ensures version { IfOk result (λ made. made.0.version ≡ record { number = 0; width = S; blocks = []; owners = [] }) }
+        ensures version { IfOk result (λ made. made.0.version ≡ record { number = 0; width = S; own = []; blocks = []; rows = []; owners = [] }) }
         ensures root { IfOk result (λ made. IsOwnedIn (place_of domain.now).0 made.1 × (version_owned made.1 ≡ Some made.0.version)) }
         ensures hand { hand_of local.new ≡ [] }
         ensures hit { OnOk result (misses_of local.new ≡ misses_of local.old) }
@@ -88,8 +88,8 @@ impl<K: Ord + Drop, V: Drop, const S: usize> Present<K, V, S> {
     {
         match place_two(domain, Node::Version(Version::empty(alloc, S)), local) {
             Ok((version, root)) => {
-                let segments = Vec::new(alloc);
-                Ok((Present { version, segments }, root))
+                let rows = Vec::new(alloc);
+                Ok((Present { version, rows }, root))
             }
             Err(Some(node)) => {
                 node.end();
@@ -120,11 +120,11 @@ impl<K: Ord + Drop, V: Drop, const S: usize> Present<K, V, S> {
         ensures same { IsStillButMisses local.old local.new }
         ensures cells { StepsOnNoCell local.old local.new }
     {
-        let mut segments = Vec::new(alloc);
-        match place_draft(domain, draft, &mut segments, local) {
-            Some((version, root)) => Ok((Present { version, segments }, root)),
+        let mut rows = Vec::new(alloc);
+        match place_draft(domain, draft, &mut rows, local) {
+            Some((version, root)) => Ok((Present { version, rows }, root)),
             None => {
-                segments.destroy_empty();
+                rows.destroy_empty();
                 Err(NoSlot)
             }
         }
@@ -154,7 +154,7 @@ impl<K: Ord + Drop, V: Drop, const S: usize> Present<K, V, S> {
         ensures same { IsStillButMisses local.old local.new }
         ensures cells { StepsOnNoCell local.old local.new }
     {
-        match place_draft(domain, draft, &mut self.segments, local) {
+        match place_draft(domain, draft, &mut self.rows, local) {
             Some((version, root)) => {
                 let older = mem::replace(&mut self.version, version);
                 let_go(domain, older, local);
@@ -164,7 +164,7 @@ impl<K: Ord + Drop, V: Drop, const S: usize> Present<K, V, S> {
         }
     }
 
-    /// Releases the version and its segments: what no cell and no other version owns is retired.
+    /// Releases the version and its rows: what no cell and no other version owns is retired.
     pub fn end(self, domain: &Domain<Node<K, V>>, local: &mut Local<Node<K, V>>)
         requires home { home_of local.old ≡ place_of domain.now }
         requires mine { self.place ≡ (place_of domain.now).0 }
@@ -172,66 +172,67 @@ impl<K: Ord + Drop, V: Drop, const S: usize> Present<K, V, S> {
         ensures same { IsStill local.old local.new }
         ensures cells { StepsOnNoCell local.old local.new }
     {
-        let Present { version, segments } = self;
+        let Present { version, rows } = self;
         let_go(domain, version, local);
-        release_kept(domain, segments, local);
+        release_kept(domain, rows, local);
     }
 }
 
-/// Places the version of a draft, and gives two owners of it. What is kept of an older version's segments becomes an owner of
-/// each of the new one's. None where it is refused, which is a miss: then what is kept has the same pairs, and what was placed
-/// waits to be reclaimed.
+/// Places the version of a draft, and gives two owners of it. What is kept of an older version's rows becomes an owner of each of
+/// the new one's. None where it is refused, which is a miss: then what is kept has the same pairs, and what was placed waits to be
+/// reclaimed.
 fn place_draft<K: Ord + Drop, V: Drop, const S: usize>(
     domain: &Domain<Node<K, V>>,
     draft: Draft<K, V, S>,
-    segments: &mut Vec<WriterOwner<K, V>>,
+    kept: &mut Vec<WriterOwner<K, V>>,
     local: &mut Local<Node<K, V>>,
 ) -> Option<(Shared<Node<K, V>>, Shared<Node<K, V>>)>
     requires home { home_of local.old ≡ place_of domain.now }
     requires hand { hand_of local.old ≡ [] }
-    requires kept { All (IsKeptSegment (place_of domain.now).0) segments.old.items }
-    requires placeable { IsPlaceable K.cmp S (sight_kept segments.old.items) draft }
+    requires kept { All (IsKeptRow (place_of domain.now).0) kept.old.items }
+    requires placeable { IsPlaceable K.cmp S (sight_kept kept.old.items) draft }
     ensures here { IfSome result (λ both. IsOwnedIn (place_of domain.now).0 both.0 × IsOwnedIn (place_of domain.now).0 both.1) }
     ensures one { IfSome result (λ both. version_owned both.1 ≡ Some (sight_in (version_owned both.0))) }
-    ensures made { IfSome result (λ both. IsPlanned S (sight_kept segments.old.items) draft (sight_in (version_owned both.0))) }
-    ensures present { IfSome result (λ both. IsPresent S both.0 segments.new.items) }
-    ensures kept { IfNone result (All (IsKeptSegment (place_of domain.now).0) segments.new.items) }
-    ensures still { IfNone result (map pairs_kept segments.new.items ≡ map pairs_kept segments.old.items) }
+    ensures made { IfSome result (λ both. IsPlanned S (sight_kept kept.old.items) draft (sight_in (version_owned both.0))) }
+    ensures present { IfSome result (λ both. IsPresent S both.0 kept.new.items) }
+    ensures kept { IfNone result (All (IsKeptRow (place_of domain.now).0) kept.new.items) }
+    ensures still { IfNone result (map blocks_kept kept.new.items ≡ map blocks_kept kept.old.items) }
     ensures hand { hand_of local.new ≡ [] }
     ensures hit { IfSome result (λ _. misses_of local.new ≡ misses_of local.old) }
     ensures missed { IfNone result (misses_of local.new ≡ misses_of local.old + 1) }
     ensures same { IsStillButMisses local.old local.new }
     ensures cells { StepsOnNoCell local.old local.new }
 {
-    let (shelves, rooms, room) = draft.into_parts();
-    let (number, length, shelves, separators, ends) = shelves.into_parts();
+    let (shelves, room) = draft.into_parts();
+    let (number, length, planned, separators, ends) = shelves.into_parts();
     let Room {
-        parts,
-        keys,
+        granted,
         rows,
-        owners,
+        own,
         to_keep,
-        kept,
+        kept: next,
     } = room;
-    let (parts, keys) = take_apart(shelves, parts, keys);
-    let all = all_owners(domain, parts, owners, to_keep, segments, local);
-    let Some((owners, to_keep)) = all else {
-        end_rooms(rooms);
+    let Some((granted, to_keep)) = grant_all(domain, planned, granted, to_keep, kept, local) else {
         rows.destroy_empty();
-        kept.destroy_empty();
+        own.destroy_empty();
+        next.destroy_empty();
         return None;
     };
-    let rows = hold_rows(domain, keys, rooms, owners, rows, local);
+    let (rows, own) = hold_rows(domain, granted, rows, own, local);
     let directory = Directory::new(number, length, rows, separators, ends);
-    match place_two(domain, Node::Version(Version::new(directory, S)), local) {
+    match place_two(
+        domain,
+        Node::Version(Version::new(directory, own, S)),
+        local,
+    ) {
         Ok(both) => {
             // only now are owners moved: nothing is refused any more
-            keep_all(domain, to_keep, segments, kept, local);
+            keep_all(domain, to_keep, kept, next, local);
             Some(both)
         }
         Err(refused) => {
             release_new(domain, to_keep, local);
-            kept.destroy_empty();
+            next.destroy_empty();
             if let Some(node) = refused {
                 take_back(domain, node, local);
             }

@@ -8,8 +8,8 @@ pub mod world;
 
 pub use sdd_plain::NoSlot;
 pub use shared_versions::{
-    Draft, Node, Present, Reader, Rest, Session, Version, build, build_list, publish, reclaim,
-    reclaim_once, rising_until, version_at, view_of,
+    Draft, Node, Present, Reader, Rest, RowOwner, Session, Version, build, build_list, publish,
+    reclaim, reclaim_once, rising_until, version_at, view_of,
 };
 pub use version_drafts::plans::OwnersRoom;
 pub use version_views::{

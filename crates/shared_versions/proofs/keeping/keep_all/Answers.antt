@@ -1,9 +1,9 @@
-use Rattle.std.proofs.Common.{◌≡◌, ◌∷◌, [], length, sym, ap, ◌∙◌, subst, arith}
+use Rattle.std.proofs.Common.{◌≡◌, ◌∷◌, [], length, map, sym, ap, ◌∙◌, subst, arith}
 use Rattle.std.specs.List.{All, AllPairs}
 use Rattle.std.specs.Prelude.{IfSome}
 use Rattle.std.proofs.lemmas.List.{length-append}
 use Rattle.std.proofs.lemmas.List.Elements.{All-pop, All-push}
-use Rattle.shared_versions.specs.Placing.{AreApart, IsKeptSegment, IsLeft, IsSameIn, IsToKeep, IsWithinKept, moved_from, owner_of, pairs_kept, pairs_kept_at, pairs_to_keep}
+use Rattle.shared_versions.specs.Placing.{AreApart, IsKeptRow, IsSameIn, IsToKeep, IsWithinKept, blocks_kept, blocks_to_keep, moved_from, owner_of}
 use Rattle.shared_versions.proofs.ApartLemmas.{pairs_head, pairs_tail}
 use Rattle.shared_versions.proofs.MovingLemmas.{all_stay, all_turned, as_many_places, owner_told, rest_left}
 use Rattle.shared_versions.proofs.SeamLemmas.{crossing, first_told}
@@ -13,7 +13,7 @@ pub moving-preserved : goal.moving-preserved
 moving-preserved g c =
     let place = c.args.domain.now.table.shared.table_id in
     let first = c.args.kept.now.items in
-    let named = pairs_kept_at first in
+    let named = map blocks_kept first in
     let before = c.moving.invariant in
     let older = c.moving.older.items in
     let rest = c.pop.new.self.items in
@@ -31,12 +31,12 @@ moving-preserved g c =
     let far = all_turned (AreApart (moved_from one)) moved_from rest (pairs_head AreApart (moved_from one) _ apart) in
     let left = c.moved.ensures.left in
     record {
-      pairs = before.pairs ∙ sym (crossing (pairs_to_keep named) pairs_kept one owner rest c.moving.to_keep.items c.moving.kept.items c.push_reserved.new.self.items fewer keeps (ap pairs_kept owner_is ∙ told.1));
+      blocks = before.blocks ∙ sym (crossing (blocks_to_keep named) blocks_kept one owner rest c.moving.to_keep.items c.moving.kept.items c.push_reserved.new.self.items fewer keeps (ap blocks_kept owner_is ∙ told.1));
       to_keep = all.0;
       there = all_stay first older c.moved.new.older.items one rest left far there.0;
       apart = pairs_tail AreApart (moved_from one) _ apart;
-      kept = subst (All (IsKeptSegment place)) (sym keeps) (All-push (IsKeptSegment place) c.moving.kept.items owner before.kept (subst (IsKeptSegment place) (sym owner_is) told.0));
-      left = subst (All (IsLeft place)) (sym left) (rest_left place older one before.left);
+      kept = subst (All (IsKeptRow place)) (sym keeps) (All-push (IsKeptRow place) c.moving.kept.items owner before.kept (subst (IsKeptRow place) (sym owner_is) told.0));
+      left = subst (All (IsKeptRow place)) (sym left) (rest_left place older one before.left);
       places = ap length left ∙ (as_many_places older one ∙ before.places);
       room = omega (arith, before.room, ap length fewer, length-append rest (one ∷ []), ap length keeps, length-append c.moving.kept.items (owner ∷ []), c.push_reserved.ensures.capacity);
     }

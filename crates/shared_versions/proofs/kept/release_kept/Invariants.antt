@@ -2,13 +2,13 @@ use Rattle.std.proofs.Common.{◌≡◌, length}
 use Rattle.std.specs.List.{All}
 use Rattle.sdd_domain.specs.CellSteps.{StepsOnNoCell}
 use Rattle.sdd_domain.specs.Tokens.{place_of, hand_of}
-use Rattle.shared_versions.specs.Placing.{IsLeft, IsStill}
+use Rattle.shared_versions.specs.Placing.{IsKeptRow, IsStill}
 use Rattle.shared_versions.proofs.kept.release_kept.Given as goal
 
 -- the owners that are left are of the place, and the participant is the same
 abbrev pub invariant-releasing : goal.invariant-releasing
 invariant-releasing g l = record {
-  kept : All (IsLeft (place_of l.fn.domain).0) l.kept.items;
+  kept : All (IsKeptRow (place_of l.fn.domain).0) l.kept.items;
   hand : hand_of l.local ≡ hand_of l.fn.local;
   same : IsStill l.fn.local l.local;
   cells : StepsOnNoCell l.fn.local l.local;

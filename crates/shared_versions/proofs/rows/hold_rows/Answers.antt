@@ -1,63 +1,85 @@
-use Rattle.std.proofs.Common.{◌∷◌, [], ◌++◌, length, map, reverse, sym, ap, ◌∙◌, append_assoc, subst, arith}
+use Rattle.std.proofs.Common.{◌≡◌, ◌∷◌, [], ◌++◌, length, map, reverse, refl, sym, ap, ◌∙◌, subst, arith}
 use Rattle.std.specs.List.{All}
-use Rattle.std.specs.Vec.Iter.{into_iter_items}
-use Rattle.std.proofs.lemmas.List.{length-append, map-append, reverse-append}
-use Rattle.std.proofs.lemmas.List.Elements.{All-append}
-use Rattle.std.proofs.lemmas.List.Sums.{sum_by_push}
+use Rattle.std.specs.Prelude.{IfSome}
+use Rattle.std.proofs.lemmas.List.{length-append}
+use Rattle.std.proofs.lemmas.List.Elements.{All-nil, All-pop, All-push}
 use Rattle.sdd_domain.specs.Holding.{all_told}
-use Rattle.version_views.specs.Items.{row_keys, shared_items}
+use Rattle.sdd_domain.specs.Tokens.{hand_of}
+use Rattle.version_views.specs.Items.{row_keys}
 use Rattle.version_views.specs.declared.row.Row.{Row}
-use Rattle.shared_versions.specs.Nodes.{OwnsSegment, held_in, owned_pairs, owners_in}
-use Rattle.shared_versions.specs.Placing.{pairs_owned, total}
+use Rattle.shared_versions.specs.Nodes.{OwnsRow, holds_in, own_segments, row_holds}
+use Rattle.shared_versions.specs.Placing.{IsGrantedIn, granted_face, owner_face, row_face}
+use Rattle.shared_versions.proofs.OwnRowLemmas.{faces_still, owned_still}
 use Rattle.shared_versions.proofs.OwnerLemmas.{told_both, with_last}
+use Rattle.shared_versions.proofs.SeamLemmas.{crossing}
 use Rattle.shared_versions.proofs.StillLemmas.{still}
 use Rattle.shared_versions.proofs.rows.hold_rows.Goals as goal
 
-pub loop-shared-preserved : goal.loop-shared-preserved
-loop-shared-preserved g c =
-    let i = c.loop-shared.invariant in
-    let step = rw c.in-Some.is at c.next.ensures.steps in
-    let rest = into_iter_items c.next.new.self in
-    let rows = c.loop-shared.rows.items in
-    let row = c.new.result in
-    let is = c.new.ensures in
+pub held-owner-requires-clause-home : goal.held-owner-requires-clause-home
+held-owner-requires-clause-home g c = c.holding.invariant.same.0 ∙ c.requires.home
+
+pub held-owner-requires-clause-mine : goal.held-owner-requires-clause-mine
+held-owner-requires-clause-mine g c =
+    let place = c.args.domain.now.table.shared.table_id in
+    let Is = λ (r : Row _ _). IsGrantedIn place r.segments in
+    let popped = All-pop Is c.holding.granted.items c.pop.new.self.items c.pop.result c.pop.ensures.items c.holding.invariant.owners in
+    let here = subst (λ r. IfSome r Is) c.in-Some.is popped.1 in
+    subst (IsGrantedIn place) (sym (ap (λ (r : Row _ _). r.segments) c.into_parts-segments.ensures)) here
+
+pub holding-preserved : goal.holding-preserved
+holding-preserved g c =
+    let place = c.args.domain.now.table.shared.table_id in
+    let before = c.holding.invariant in
+    let row = c.in-Some.row in
+    let segments = c.into_parts-segments.result.0 in
+    let keys = c.into_parts-segments.result.1 in
+    let is : row ≡ record { segments = segments; separators = keys } = sym c.into_parts-segments.ensures in
+    let new = c.new.result in
+    let new_is = c.new.ensures in
+    let fewer = c.in-Some.ensures.items in
+    let rest = c.pop.new.self.items in
     let longer = c.push_reserved.ensures.items in
-    let e = c.hold_row-held.ensures in
-    let held = c.hold_row-held.result.items in
-    let left = c.pop.new.self.items in
-    let room = c.in-Some-pop.room in
-    let rooms = c.in-Some-pop.ensures.items in
-    let size = λ (r : Row _ _). length (held_in r.segments) in
-    let owners = reverse (map pairs_owned c.hold_row-held.new.owners.items) in
-    let both = ap owners_in longer ∙ with_last rows row ∙ ap (λ (r : Row _ _). owners_in rows ++ held_in r.segments) is in
+    let rows = c.holding.rows.items in
+    let own = own_segments c.holding.own.items in
+    let now = own_segments c.held-owner.new.own.items in
+    let e = c.held-owner.ensures in
+    let owner = c.held-owner.result in
+    let face_is : row_face (owner_face now) new ≡ row_face granted_face row =
+    ap (row_face (owner_face now)) new_is
+    ∙ ap (λ f. (f, row_keys (record { segments = segments; separators = keys }))) e.face
+    ∙ sym (ap (row_face granted_face) is) in
+    let both : holds_in c.push_reserved.new.self.items ≡ holds_in rows ++ row_holds owner = ap holds_in longer ∙ with_last rows new ∙ ap (λ (r : Row _ _). holds_in rows ++ row_holds r.segments) new_is in
+    let Owns = λ (r : Row _ _). OwnsRow now r.segments in
     record {
-      counted = omega (arith, step.1, i.counted, ap length step.0);
-      each = omega (arith, i.each, ap length step.0, ap length rooms, length-append left (room ∷ []));
-      pairs =
-          ap (λ hs. map owned_pairs hs ++ owners) both
-          ∙ ap (λ ps. ps ++ owners) (map-append owned_pairs (owners_in rows) held)
-          ∙ append_assoc (map owned_pairs (owners_in rows)) (map owned_pairs held) owners
-          ∙ ap (λ ps. map owned_pairs (owners_in rows) ++ ps) e.pairs
-          ∙ i.pairs;
-      owners = e.owners;
-      segments = subst (All OwnsSegment) (sym both) (All-append OwnsSegment (owners_in rows) held i.segments e.segments);
-      all = omega (arith, i.all, e.left, ap total rooms, sum_by_push (λ n. n) left room);
-      sizes =
-          ap (λ rs. map size rs ++ reverse left) longer
-          ∙ ap (λ ns. ns ++ reverse left) (map-append size rows (row ∷ []))
-          ∙ append_assoc (map size rows) (size row ∷ []) (reverse left)
-          ∙ ap (λ n. map size rows ++ n ∷ reverse left) (ap size is ∙ e.size)
-          ∙ ap (λ ns. map size rows ++ ns) (sym (ap reverse rooms ∙ reverse-append left (room ∷ [])))
-          ∙ i.sizes;
-      keys =
-          ap (λ rs. map row_keys rs ++ map shared_items rest) longer
-          ∙ ap (λ ks. ks ++ map shared_items rest) (map-append row_keys rows (row ∷ []))
-          ∙ append_assoc (map row_keys rows) (row_keys row ∷ []) (map shared_items rest)
-          ∙ ap (λ ks. map row_keys rows ++ ks ∷ map shared_items rest) (ap row_keys is)
-          ∙ ap (λ ks. map row_keys rows ++ map shared_items ks) (sym step.0)
-          ∙ i.keys;
-      room = omega (arith, i.room, ap length step.0, ap length longer, length-append rows (row ∷ []), c.push_reserved.ensures.capacity);
-      hand = e.hand ∙ ap (λ hs. all_told held ++ hs) i.hand ∙ sym (ap all_told both ∙ told_both (owners_in rows) held);
-      same = still c.args.local.now c.loop-shared.local c.hold_row-held.new.local i.same e.same;
-      cells = e.cells ∙ i.cells;
+      faces =
+          crossing (row_face granted_face) (row_face (owner_face now)) row new rest c.holding.granted.items rows c.push_reserved.new.self.items fewer longer face_is
+          ∙ ap (λ fs. fs ++ reverse (map (row_face granted_face) c.holding.granted.items)) (faces_still own now e.more rows before.owned)
+          ∙ before.faces;
+      owners = (All-pop (λ (r : Row _ _). IsGrantedIn place r.segments) c.holding.granted.items rest c.pop.result c.pop.ensures.items before.owners).0;
+      owned = subst (All Owns) (sym longer) (All-push Owns rows new (owned_still own now e.more rows before.owned) (subst Owns (sym new_is) e.owned));
+      room = (
+        omega (arith, before.room.0, ap length fewer, length-append rest (row ∷ []), ap length longer, length-append rows (new ∷ []), c.push_reserved.ensures.capacity),
+        omega (arith, before.room.1, ap length fewer, length-append rest (row ∷ []), e.few, e.room),
+      );
+      hand = e.hand ∙ ap (λ hs. all_told (row_holds owner) ++ hs) before.hand ∙ sym (ap all_told both ∙ told_both (holds_in rows) (row_holds owner));
+      same = still c.args.local.now c.holding.local c.held-owner.new.local before.same e.same;
+      cells = e.cells ∙ before.cells;
     }
+
+pub holding-init : goal.holding-init
+holding-init g c =
+    let none = c.requires.none.0 in
+    let none_own = c.requires.none.1 in
+    let own = own_segments c.args.own.items in
+    record {
+      faces = ap (λ rs. map (row_face (owner_face own)) rs ++ reverse (map (row_face granted_face) c.args.granted.items)) none;
+      owners = c.requires.owners;
+      owned = subst (All (λ (r : Row _ _). OwnsRow own r.segments)) (sym none) (All-nil (λ (r : Row _ _). OwnsRow own r.segments));
+      room = (omega (arith, ap length none, c.requires.room.0), omega (arith, ap length none_own, c.requires.room.1));
+      hand = c.requires.hand ∙ sym (ap (λ rs. all_told (holds_in rs)) none);
+      same = (refl, refl, refl, refl, refl);
+      cells = refl;
+    }
+
+pub push_reserved-requires : goal.push_reserved-requires
+push_reserved-requires g c = omega (arith, c.holding.invariant.room.0, ap length c.in-Some.ensures.items, length-append c.pop.new.self.items (c.in-Some.row ∷ []), c.holding.rows.ok.0)

@@ -1,30 +1,24 @@
-use Rattle.std.proofs.Common.{◌≡◌, ◌≤◌, ◌+◌, ◌++◌, length, map, reverse}
+use Rattle.std.proofs.Common.{◌≡◌, ◌+◌, ◌≤◌, ◌++◌, length, map, reverse}
 use Rattle.std.specs.List.{All}
 use Rattle.std.specs.Prelude.{vec_capacity}
-use Rattle.std.specs.Vec.Iter.{into_iter_items, into_iter_len}
 use Rattle.sdd_domain.specs.CellSteps.{StepsOnNoCell}
 use Rattle.sdd_domain.specs.Holding.{all_told}
 use Rattle.sdd_domain.specs.Tokens.{place_of, hand_of}
-use Rattle.version_views.specs.Items.{row_keys, shared_items}
-use Rattle.shared_versions.specs.Nodes.{OwnsSegment, held_in, owned_pairs, owners_in}
-use Rattle.shared_versions.specs.Placing.{IsSegmentOf, IsStill, pairs_owned, total}
+use Rattle.shared_versions.specs.Nodes.{OwnsRow, holds_in, own_segments}
+use Rattle.shared_versions.specs.Placing.{IsGrantedIn, IsStill, granted_face, owner_face, row_face}
 use Rattle.shared_versions.proofs.rows.hold_rows.Given as goal
 
--- the first rows hold the last owners, and the others have room for the rest
-abbrev pub invariant-loop-shared : goal.invariant-loop-shared
-invariant-loop-shared g l =
-    let rest = into_iter_items l.shared-iterator in
-    record {
-      counted : into_iter_len l.shared-iterator ≡ length rest;
-      each : length rest ≡ length l.rooms.items;
-      pairs : map owned_pairs (owners_in l.rows.items) ++ reverse (map pairs_owned l.owners.items) ≡ reverse (map pairs_owned l.fn.owners.items);
-      owners : All (IsSegmentOf (place_of l.fn.domain).0) l.owners.items;
-      segments : All OwnsSegment (owners_in l.rows.items);
-      all : length l.owners.items ≡ total l.rooms.items;
-      sizes : map (λ r. length (held_in r.segments)) l.rows.items ++ reverse l.rooms.items ≡ reverse l.fn.rooms.items;
-      keys : map row_keys l.rows.items ++ map shared_items rest ≡ map shared_items l.fn.keys.items;
-      room : length l.rows.items + length rest ≤ vec_capacity l.rows;
-      hand : hand_of l.local ≡ all_told (owners_in l.rows.items);
-      same : IsStill l.fn.local l.local;
-      cells : StepsOnNoCell l.fn.local l.local;
-    }
+-- the first rows are held, and their owners in hand, and the others are left
+abbrev pub invariant-holding : goal.invariant-holding
+invariant-holding g l = record {
+  faces : map (row_face (owner_face (own_segments l.own.items))) l.rows.items ++ reverse (map (row_face granted_face) l.granted.items) ≡ reverse (map (row_face granted_face) l.fn.granted.items);
+  owners : All (λ r. IsGrantedIn (place_of l.fn.domain).0 r.segments) l.granted.items;
+  owned : All (λ r. OwnsRow (own_segments l.own.items) r.segments) l.rows.items;
+  room : (length l.granted.items + length l.rows.items ≤ vec_capacity l.rows) × (length l.granted.items + length l.own.items ≤ vec_capacity l.own);
+  hand : hand_of l.local ≡ all_told (holds_in l.rows.items);
+  same : IsStill l.fn.local l.local;
+  cells : StepsOnNoCell l.fn.local l.local;
+}
+
+abbrev pub decreases-holding : goal.decreases-holding
+decreases-holding g l = length l.granted.items
