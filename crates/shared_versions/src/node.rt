@@ -29,8 +29,8 @@ pub enum RowOwner<K: Ord, V> {
 
 /// A version: a directory of rows of segments.
 ///
-/// Contracts see its number, the pairs of its segments in order, those of each row that is an item, and the slots and rounds of
-/// the owners of such rows.
+/// Contracts see its number, the pairs of its segments in order, those of each row that is an item, the segments of each other
+/// row, and the slots and rounds of the owners of items.
 #[cycle(nodes)]
 pub struct Version<K: Ord, V> {
     directory: Directory<K, RowOwner<K, V>>,
