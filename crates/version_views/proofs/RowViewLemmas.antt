@@ -126,8 +126,8 @@ module _ {K V R O : Type 0} {cmp : K → K → Ordering} {has_row : R → Type 0
           let same : before_row row_blocks d.rows.items row + at ≡ place_at d.ends.items spot_found = ap (λ n. n + at) size ∙ sym (place_is (row_owners owners) d.rows.items d.ends.items view_ends spot_found r here) in
           subst (λ bs. IsPlaceOf cmp key (separators_of bs) (place_at d.ends.items spot_found)) flat_blocks (subst (IsPlaceOf cmp key (separators_of (flat_map row_blocks d.rows.items))) same whole)
 
-      -- a comparison for each binary digit among the rows, and eight in one
-      pub found_cost : (first second : ℕ) → 2 ^ first ≤ 2 * length d.separators.items + 1 → 2 ^ second ≤ 2 * length (row_keys r) + 1 → (digits : ℕ) → length (blocks_at owners pairs d) < 2 ^ digits → first + second ≤ 8 + digits
+      -- a comparison for each binary digit among the rows, and ten in one
+      pub found_cost : (first second : ℕ) → 2 ^ first ≤ 2 * length d.separators.items + 1 → 2 ^ second ≤ 2 * length (row_keys r) + 1 → (digits : ℕ) → length (blocks_at owners pairs d) < 2 ^ digits → first + second ≤ 10 + digits
       found_cost first second one two digits fits =
           let size = length-map d.rows.items (λ r. pairs_in (row_blocks r)) in
           let rows = some_rows in
@@ -138,5 +138,5 @@ module _ {K V R O : Type 0} {cmp : K → K → Ordering} {has_row : R → Type 0
           let few = is.few in
           let fit = is.some in
           let less = separators_fewer (row_blocks r) (row_keys r) is.separated (omega (arith, fit)) in
-          let inner = digits_hold second 8 (length (row_keys r)) 255 two (omega (arith, less, few)) (omega arith) in
+          let inner = digits_hold second 10 (length (row_keys r)) 1023 two (omega (arith, less, few)) (omega arith) in
           omega (arith, outer, inner)

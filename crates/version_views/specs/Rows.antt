@@ -40,10 +40,10 @@ pub record AreEnds {R O : Type 0} (owners : R → List O) (rows : List R) (ends 
   pub count : length ends ≡ length rows
   pub each : (i : ℕ) → i < length rows → end_of ends i ≡ length (flat_map owners (take (suc i) rows))
 
--- a row of 1 to 255 blocks, each but the last with its greatest key
+-- a row of 1 to 1023 blocks, each but the last with its greatest key
 pub record IsRow {K V : Type 0} (blocks : List (List (K × V))) (keys : List K) : Type 0 where
   pub some : 1 ≤ length blocks
-  pub few : length blocks ≤ 255
+  pub few : length blocks ≤ 1023
   pub separated : IsSeparated blocks keys
 
 -- a directory's rows, which have these blocks, are such rows, each but the last with its greatest key; and its ends are theirs

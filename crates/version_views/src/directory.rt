@@ -7,7 +7,7 @@ use crate::row::Row;
 use crate::search::place_of;
 use std::alloc::Global;
 
-/// A version of a list: its segments in order, in rows of 1 to 255 neighbours. `R` is how a place owns the segments of a row.
+/// A version of a list: its segments in order, in rows of 1 to 1023 neighbours. `R` is how a place owns the segments of a row.
 ///
 /// A segment has 1 to `S` pairs, two neighbours together more than `S`. A separator is the greatest key of its row, and
 /// the last row has none. The rows have the greatest keys of their segments but the last.

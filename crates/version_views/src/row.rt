@@ -6,7 +6,7 @@ ghost use Rattle.version_views.specs.Items.{row_keys, shared_items};
 use std::alloc::{AllocError, Global};
 use std::sync::Arc;
 
-/// Neighbouring segments of a version, 1 to 255 of them, and the greatest key of each but the last. `R` is how a place owns
+/// Neighbouring segments of a version, 1 to 1023 of them, and the greatest key of each but the last. `R` is how a place owns
 /// the segments of a row. Versions that have the row share its keys.
 #[derive(Drop)]
 pub struct Row<K, R> {

@@ -233,7 +233,7 @@ impl<'a, K: Ord, V, W: Trees<K, V>> VersionView<'a, K, V, W> {
     }
 }
 
-/// The place in a row that a key lies in or beside, by at most eight comparisons and one for each binary digit of the
+/// The place in a row that a key lies in or beside, by at most ten comparisons and one for each binary digit of the
 /// number of segments, which are counted. Condition: there is a row.
 #[inline]
 fn spot_around<K: Ord, V, W: Trees<K, V>>(
@@ -246,7 +246,7 @@ fn spot_around<K: Ord, V, W: Trees<K, V>>(
     requires some { 0 < length (blocks_at (W.owners source.now) (W.pairs source.now) directory.now) }
     ensures inside { IsInside directory.now.ends.items result }
     ensures place { IsPlaceOf K.cmp key.now (separators_of (blocks_at (W.owners source.now) (W.pairs source.now) directory.now)) (place_at directory.now.ends.items result) }
-    ensures cost { (digits : ℕ) → length (blocks_at (W.owners source.now) (W.pairs source.now) directory.now) < 2 ^ digits → steps.new.count ≤ steps.old.count + 8 + digits }
+    ensures cost { (digits : ℕ) → length (blocks_at (W.owners source.now) (W.pairs source.now) directory.now) < 2 ^ digits → steps.new.count ≤ steps.old.count + 10 + digits }
     ensures raised { steps.old.count ≤ steps.new.count }
 {
     let row = place_of_counted(&directory.separators, key, steps);
