@@ -131,34 +131,34 @@ fn rows_are_taken_over_after_refusals(rt: HostRuntime) {
     on_a_place::<_, 2>(&rt, rt.alloc(), 6, TAKING_OVER);
 }
 
-/// Five hundred segments in fourteen rows, nine of them of 32 segments, and their version. A write touches one row, and the others
-/// are taken over.
+/// Five hundred segments in seven rows, six of them of 80 segments, and their version. A write touches one row, and the others are
+/// taken over.
 const IN_ROWS: &[(Call, Told)] = &[
     (Upsert(1, 1001, 1), Placed),
-    (Slots, Used(16)),
+    (Slots, Used(9)),
     (Reclaim, Done),
-    (Slots, Used(15)),
+    (Slots, Used(8)),
     (Upsert(3, 4, 2), Placed),
-    (Slots, Used(17)),
+    (Slots, Used(10)),
     (Reclaim, Done),
-    (Slots, Used(15)),
+    (Slots, Used(8)),
     (Get(3), Found(Some(2), 1000)),
     (Get(1000), Found(Some(1), 1000)),
     // two rows with new segments leave no slot for their version
-    (Upsert(512, 514, 3), Refused),
+    (Upsert(480, 482, 3), Refused),
     (Reclaim, Done),
-    (Slots, Used(15)),
+    (Slots, Used(8)),
     (Upsert(510, 513, 4), Placed),
     (Get(509), Found(Some(1), 1000)),
     (Get(512), Found(Some(4), 1000)),
     (Get(513), Found(Some(1), 1000)),
     (Reclaim, Done),
-    (Slots, Used(15)),
+    (Slots, Used(8)),
 ];
 
 #[test]
 fn rows_that_no_write_touches_are_taken_over(rt: HostRuntime) {
-    on_a_place::<_, 2>(&rt, rt.alloc(), 17, IN_ROWS);
+    on_a_place::<_, 2>(&rt, rt.alloc(), 10, IN_ROWS);
 }
 
 /// Three rows and their version. The removal of a whole segment leaves a row without a new one, which takes no slot. It is

@@ -83,7 +83,7 @@ module _ {K V : Type 0} (bs : List (List (K × V))) where
         let great = some_same (sym (slice_map greatest_key bs (length bs - 1) b.0 b.1) ∙ ap (λ os. slice_get os (length bs - 1)) (sym apart) ∙ get_rear (map Some ks) (Some k ∷ []) (length bs - 1) 0 at) in
         greatest_last bs b.0 b.1 (some_pair b.0 k great) ∙ great
 
-    pub popped_row : length (ks ++ k ∷ []) ≤ 240 → IsRow bs ks
+    pub popped_row : length (ks ++ k ∷ []) ≤ 480 → IsRow bs ks
     popped_row few = let size = length-append ks (k ∷ []) in record { some = omega (arith, one_more); few = omega (arith, one_more, few, size); separated = popped_separated }
 
 -- ---- the ends of rows
@@ -143,7 +143,7 @@ module _ {K V : Type 0} (blocks : List (List (K × V))) (ends : List ℕ) where
       count = count ∙ h.count ∙ ap (λ rs. length (shelved_blocks blocks rs)) (sym rows);
       keys = ap (map Some) keys ∙ h.keys ∙ ap (λ ps. map greatest_key (blocks_of_parts blocks ps)) (sym parts');
       inside = subst (All (LiesInside ends)) (sym parts') h.inside;
-      few = subst (λ ks. length ks ≤ 240) (sym keys) h.few;
+      few = subst (λ ks. length ks ≤ 480) (sym keys) h.few;
     };
     given = ap (λ rs. shelved_blocks blocks rs ++ blocks_of_parts blocks c'.parts.items) rows ∙ ap (λ ps. shelved_blocks blocks c.rows.items ++ blocks_of_parts blocks ps) parts' ∙ sym (append-nil (blocks_given blocks c));
     trees = (let same = ap made_on_all rows in let made = ap made_in parts' in omega (arith, same, made));
@@ -167,7 +167,7 @@ module _ {K V : Type 0} (blocks : List (List (K × V))) (ends : List ℕ) where
 
   -- a part more in the open row
   pub takes_part : (c c' : Shelving K V) (p : Part K V) → IsShelving blocks ends c → c'.rows.items ≡ c.rows.items → c'.greatest.items ≡ c.greatest.items → c'.ends.items ≡ c.ends.items → c'.count ≡ c.count → c'.parts.items ≡ c.parts.items ++ p ∷ []
-      → map Some c'.keys.items ≡ map Some c.keys.items ++ map greatest_key (part_blocks blocks p) → LiesInside ends p → length c'.keys.items ≤ 240 → TakesMore blocks ends (part_blocks blocks p) (makes p) c c'
+      → map Some c'.keys.items ≡ map Some c.keys.items ++ map greatest_key (part_blocks blocks p) → LiesInside ends p → length c'.keys.items ≤ 480 → TakesMore blocks ends (part_blocks blocks p) (makes p) c c'
   takes_part c c' p h rows greatest ends' count opening keys inside few =
       let f = row_owners (shelf_blocks blocks) in
       let behind : blocks_of_parts blocks c'.parts.items ≡ blocks_of_parts blocks c.parts.items ++ part_blocks blocks p = ap (blocks_of_parts blocks) opening ∙ blocks_behind blocks c.parts.items p in
@@ -219,7 +219,7 @@ module _ {K V : Type 0} (blocks : List (List (K × V))) (ends : List ℕ) where
       count = counted;
       keys = ap (map Some) a.keys ∙ h.keys ∙ ap (λ ps. map greatest_key (blocks_of_parts blocks ps)) (sym a.parts);
       inside = subst (All (LiesInside ends)) (sym a.parts) h.inside;
-      few = subst (λ ks. length ks ≤ 240) (sym a.keys) h.few;
+      few = subst (λ ks. length ks ≤ 480) (sym a.keys) h.few;
     }
 
     -- it comes behind all that was given
@@ -264,7 +264,7 @@ module _ {K V : Type 0} (blocks : List (List (K × V))) (ends : List ℕ) where
 
     pub takes_open : (size : ℕ) → size ≡ length (ks ++ great ∷ []) → ClosesRow row great size mid c' → TakesMore blocks ends [] 0 c c'
     takes_open size long a =
-        let is = popped_row opened ks great named (subst (λ xs. length xs ≤ 240) all h.few) in
+        let is = popped_row opened ks great named (subst (λ xs. length xs ≤ 480) all h.few) in
         let many = keys_many opened (ks ++ great ∷ []) named in
         let none = ap (blocks_of_parts blocks) opening in
         let takes = takes_row mid c' row great size emptied a none (subst (λ xs. IsRow (shelf_blocks blocks row.segments) xs) (sym their) (subst (λ bs. IsRow bs ks) (sym held) is)) on (ap (λ bs. greatest_key (pairs_in bs)) held ∙ popped_greatest opened ks great named) (long ∙ many ∙ ap length (sym held)) in

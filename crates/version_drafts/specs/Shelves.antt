@@ -88,7 +88,7 @@ module _ {K V : Type 0} (blocks : List (List (K × V))) where
     pub count : c.count ≡ length (shelved_blocks blocks c.rows.items)
     pub keys : map Some c.keys.items ≡ map greatest_key (blocks_of_parts blocks c.parts.items)
     pub inside : All (LiesInside older) c.parts.items
-    pub few : length c.keys.items ≤ 240
+    pub few : length c.keys.items ≤ 480
 
   -- more blocks were given, of which so many are trees that were made
   pub record TakesMore (ends : List ℕ) (more : List (List (K × V))) (made : ℕ) (c c' : Shelving K V) : Type 0 where

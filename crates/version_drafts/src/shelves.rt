@@ -28,7 +28,7 @@ pub enum Shelf<K: Ord, V> {
     New(Vec<Part<K, V>>),
 }
 
-/// The parts of a version in rows of 1 to 240 segments, and rows of the older version, whose directory is `rows`. Such a row is
+/// The parts of a version in rows of 1 to 480 segments, and rows of the older version, whose directory is `rows`. Such a row is
 /// taken over whole, with its keys, where all of it is; but where it comes behind a few segments of a new row, these would be too
 /// few for a row, so its segments are taken over one by one. Fails only if an allocation fails.
 pub(crate) fn shelved<K: Clone + Ord + Drop, V: Drop, W: Trees<K, V>>(
@@ -50,8 +50,9 @@ pub(crate) fn shelved<K: Clone + Ord + Drop, V: Drop, W: Trees<K, V>>(
     ensures there { IfOk result (λ made. All (λ r. LiesOn rows.now.ends.items r.segments) made.rows.items) }
 {
     let Segments { parts, length } = segments;
+    let count = old.segment_count().saturating_add(parts.len());
     // a row may become two
-    let mut out = Shelving::with_room(alloc, rows.row_count().saturating_add(1))?;
+    let mut out = Shelving::with_room(alloc, count, rows.row_count().saturating_add(1))?;
     let mut near = 0;
     for part in parts {
         put_part(&mut out, old, rows, part, &mut near)?;

@@ -21,15 +21,23 @@ use std::sync::Arc;
 use tree_index::TreeIndex;
 use version_views::{Directory, Row, Segment, Trees, VersionView, greatest};
 
-/// How many segments a new row has at most where few come before it, and where many do.
+/// How many segments a new row has at most: in a short list, and in a long one.
 const LEAST: usize = 32;
 
-const MOST: usize = 240;
+const MOST: usize = 480;
+
+/// By how much one such limit is above the next lower one.
+const STEP: usize = 16;
+
+/// By how much such a limit is above the root of the number of segments.
+const ROOTS: usize = 3;
 
 /// Rows that are closed, and the parts of an open one.
 #[derive(Drop)]
 pub(crate) struct Shelving<K: Ord, V> {
     pub(crate) alloc: Global,
+    // how many segments a new row has at most
+    pub(crate) size: usize,
     pub(crate) rows: Vec<Row<K, Shelf<K, V>>>,
     // the greatest key of each row
     pub(crate) greatest: Vec<K>,
@@ -42,8 +50,8 @@ pub(crate) struct Shelving<K: Ord, V> {
 }
 
 impl<K: Ord, V> Shelving<K, V> {
-    /// No row, with room for so many. Fails only if an allocation fails.
-    pub(crate) fn with_room(alloc: Global, rows: usize) -> Result<Self, AllocError>
+    /// No row of a version of about so many segments, with room for so many rows. Fails only if an allocation fails.
+    pub(crate) fn with_room(alloc: Global, segments: usize, rows: usize) -> Result<Self, AllocError>
     where
         K: Drop,
         V: Drop,
@@ -56,6 +64,7 @@ impl<K: Ord, V> Shelving<K, V> {
     {
         Ok(Shelving {
             alloc,
+            size: row_limit(segments),
             rows: Vec::with_capacity(alloc, rows)?,
             greatest: Vec::with_capacity(alloc, rows)?,
             ends: Vec::with_capacity(alloc, rows)?,
@@ -82,6 +91,7 @@ impl<K: Ord, V> Shelving<K, V> {
         close(&mut out)?;
         let Shelving {
             alloc: _,
+            size: _,
             rows,
             mut greatest,
             ends,
@@ -295,20 +305,22 @@ fn piece_end(at: usize, upto: usize, piece: usize) -> usize
     if upto - at > piece { at + piece } else { upto }
 }
 
-/// How many segments a new row has at most: an eighth of those before it, but neither few nor very many. A commit copies the row
-/// that it touches and counts every other row. So a short list wants short rows, and a long one fewer rows.
+/// How many segments a new row of so many in all has at most: about three times their root, but neither few nor very many. A
+/// commit copies the row that it touches and counts every other row. So a short list wants short rows, and a long one fewer rows.
+fn row_limit(segments: usize) -> usize {
+    let mut size = LEAST;
+    while size <= MOST - STEP && (size / ROOTS).saturating_mul(size / ROOTS) < segments {
+        size += STEP;
+    }
+    size
+}
+
+/// How many segments a new row has at most.
 fn row_size<K: Ord, V>(out: &Shelving<K, V>) -> usize
     ensures least { 32 ≤ result }
-    ensures most { result ≤ 240 }
+    ensures most { result ≤ 480 }
 {
-    let size = out.count / 8;
-    if size < LEAST {
-        LEAST
-    } else if size < MOST {
-        size
-    } else {
-        MOST
-    }
+    out.size.clamp(LEAST, MOST)
 }
 
 /// Takes segments of one row of the older version into the open row. Condition: there is room for them.
@@ -326,7 +338,7 @@ fn put_piece<K: Clone + Ord + Drop, V: Drop, W: Trees<K, V>>(
     requires begins { start_of rows.now.ends.items row ≤ from }
     requires some { from < upto }
     requires stops { upto ≤ end_of rows.now.ends.items row }
-    requires room { length out.old.keys.items + (upto - from) ≤ 240 }
+    requires room { length out.old.keys.items + (upto - from) ≤ 480 }
     ensures { OnOk result ((ends : List ℕ) → LiesInRow ends from upto → IsShelving old.now ends out.old → TakesMore old.now ends (between from upto old.now) 0 out.old out.new) }
 {
     out.parts.push(Part::Taken { from, upto })?;
@@ -364,9 +376,9 @@ fn make_room<K: Ord + Drop, V: Drop>(
     out: &mut Shelving<K, V>,
     more: usize,
 ) -> Result<(), AllocError>
-    requires { more ≤ 120 }
+    requires { more ≤ 240 }
     ensures closed { OnOk result ((blocks : List (List (K × V))) (ends : List ℕ) → IsShelving blocks ends out.old → TakesMore blocks ends [] 0 out.old out.new) }
-    ensures room { OnOk result (length out.new.keys.items + more ≤ 240) }
+    ensures room { OnOk result (length out.new.keys.items + more ≤ 480) }
 {
     close_full(out, more)?;
     reserve_keys(out)
@@ -377,9 +389,9 @@ fn close_full<K: Ord + Drop, V: Drop>(
     out: &mut Shelving<K, V>,
     more: usize,
 ) -> Result<(), AllocError>
-    requires { more ≤ 120 }
+    requires { more ≤ 240 }
     ensures closed { OnOk result ((blocks : List (List (K × V))) (ends : List ℕ) → IsShelving blocks ends out.old → TakesMore blocks ends [] 0 out.old out.new) }
-    ensures room { OnOk result (length out.new.keys.items + more ≤ 240) }
+    ensures room { OnOk result (length out.new.keys.items + more ≤ 480) }
 {
     let size = out.keys.len();
     let most = row_size(out);
