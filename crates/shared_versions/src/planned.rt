@@ -193,8 +193,9 @@ fn share_all<K: Ord + Drop, V: Drop>(
 ) -> Result<(), AllocError>
     ensures { OnOk result (map segment_pairs segments.new.items ≡ map segment_pairs segments.old.items ++ map segment_pairs more.now) }
 {
+    segments.reserve(more.len())?;
     for one in more {
-        segments.push(Arc::try_clone(one)?)?;
+        segments.push_reserved(Arc::try_clone(one)?);
     }
     Ok(())
 }
