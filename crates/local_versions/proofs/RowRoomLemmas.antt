@@ -1,12 +1,19 @@
--- Room for the rows that are yet to be placed, that of the next one last.
-use Rattle.std.proofs.Common.{◌≡◌, List, [], ◌∷◌, ◌++◌, ℕ, refl, reverse, subst}
+-- Room for the new rows that are yet to be placed, that of the next one last.
+use Rattle.std.proofs.Common.{◌≡◌, List, [], ◌∷◌, ◌++◌, ℕ, refl, reverse, sym, subst}
 use mathlib.Core.List.{reverse-cons}
-use Rattle.std.specs.List.{AllZip}
-use Rattle.version_views.specs.declared.row.Row.{Row}
-use Rattle.version_drafts.specs.Drafts.{FitsShelf, RoomsFit}
-use Rattle.version_drafts.specs.declared.shelves.Shelf.{Shelf}
+use Rattle.std.specs.Global.{Vec}
+use Rattle.std.specs.List.{All, AllZip}
+use Rattle.std.proofs.lemmas.List.Elements.{All-cons, All-nil}
+use Rattle.sdd_world.specs.declared.owner.Kept.{Kept}
+use Rattle.local_versions.specs.Rooms.{FitsIn, IsUnused, RoomsFit}
 
 module _ {X Y : Type 0} (P : X → Y → Type 0) where
+  zip_push : (xs : List X) (ys : List Y) (x : X) (y : Y) → AllZip P xs ys → P x y → AllZip P (xs ++ x ∷ []) (ys ++ y ∷ [])
+  zip_push [] [] x y h p = (p, tt)
+  zip_push [] (b ∷ ys) x y h p = absurd h
+  zip_push (a ∷ xs) [] x y h p = absurd h
+  zip_push (a ∷ xs) (b ∷ ys) x y h p = (h.0, zip_push xs ys x y h.1 p)
+
   none_beside : (ys : List Y) (y : Y) → AllZip P [] (ys ++ y ∷ []) → ⊥
   none_beside [] y h = h
   none_beside (b ∷ ys) y h = h
@@ -21,22 +28,28 @@ module _ {X Y : Type 0} (P : X → Y → Type 0) where
   zip_last (a ∷ xs) [] x y h = absurd (some_beside xs x h.1)
   zip_last (a ∷ xs) (b ∷ ys) x y h = let rest = zip_last xs ys x y h.1 in ((h.0, rest.0), rest.1)
 
-  zip_none : (xs : List X) → AllZip P xs [] → xs ≡ []
-  zip_none [] h = refl
-  zip_none (x ∷ xs) h = absurd h
+-- room for one row more
+pub room_first : (size : ℕ) (sizes : List ℕ) (old new : List (Vec Kept)) (room : Vec Kept) → new ≡ old ++ room ∷ [] → FitsIn room size → RoomsFit old sizes → RoomsFit new (size ∷ sizes)
+room_first size sizes old new room is fits h = subst (λ ns. AllZip FitsIn new ns) (sym (reverse-cons size sizes)) (subst (λ rs. AllZip FitsIn rs (reverse sizes ++ size ∷ [])) (sym is) (zip_push FitsIn old (reverse sizes) room size h fits))
 
-module _ {K V O : Type 0} (fits fits_whole : O → ℕ → Type 0) where
-  abbrev FitsRow : O → Row K (Shelf K V) → Type 0
-  FitsRow room row = FitsShelf fits fits_whole room row.segments
+-- the last room is that of the first row
+pub room_last : (size : ℕ) (sizes : List ℕ) (old new : List (Vec Kept)) (room : Vec Kept) → old ≡ new ++ room ∷ [] → RoomsFit old (size ∷ sizes) → RoomsFit new sizes × FitsIn room size
+room_last size sizes old new room is h = zip_last FitsIn new (reverse sizes) room size (subst (λ ns. AllZip FitsIn (new ++ room ∷ []) ns) (reverse-cons size sizes) (subst (λ rs. AllZip FitsIn rs (reverse (size ∷ sizes))) is h))
 
-  -- the last room is that of the first row
-  pub room_last : (row : Row K (Shelf K V)) (rows : List (Row K (Shelf K V))) (old new : List O) (room : O) → old ≡ new ++ room ∷ [] → RoomsFit fits fits_whole old (row ∷ rows) → RoomsFit fits fits_whole new rows × FitsShelf fits fits_whole room row.segments
-  room_last row rows old new room is h = zip_last FitsRow new (reverse rows) room row (subst (λ rs. AllZip FitsRow (new ++ room ∷ []) rs) (reverse-cons row rows) (subst (λ xs. AllZip FitsRow xs (reverse (row ∷ rows))) is h))
-
-  -- where there is a row, there is room
-  pub some_room : (row : Row K (Shelf K V)) (rows : List (Row K (Shelf K V))) (rooms : List O) → rooms ≡ [] → RoomsFit fits fits_whole rooms (row ∷ rows) → ⊥
-  some_room row rows rooms is h = none_beside FitsRow (reverse rows) row (subst (λ rs. AllZip FitsRow [] rs) (reverse-cons row rows) (subst (λ xs. AllZip FitsRow xs (reverse (row ∷ rows))) is h))
+-- where there is a row, there is room
+pub some_room : (size : ℕ) (sizes : List ℕ) (rooms : List (Vec Kept)) → rooms ≡ [] → RoomsFit rooms (size ∷ sizes) → ⊥
+some_room size sizes rooms is h = none_beside FitsIn (reverse sizes) size (subst (λ ns. AllZip FitsIn [] ns) (reverse-cons size sizes) (subst (λ rs. AllZip FitsIn rs (reverse (size ∷ sizes))) is h))
 
 -- and where there is none, there is none
-pub no_room : {O : Type 0} (K V : Type 0) (fits fits_whole : O → ℕ → Type 0) (rooms : List O) → RoomsFit {K = K} {V = V} fits fits_whole rooms [] → rooms ≡ []
-no_room K V fits fits_whole rooms h = zip_none (λ room (row : Row K (Shelf K V)). FitsShelf fits fits_whole room row.segments) rooms h
+pub no_room : (rooms : List (Vec Kept)) → RoomsFit rooms [] → rooms ≡ []
+no_room [] h = refl
+no_room (room ∷ rooms) h = absurd h
+
+unused_of : (rooms : List (Vec Kept)) (sizes : List ℕ) → AllZip FitsIn rooms sizes → All IsUnused rooms
+unused_of [] sizes h = All-nil IsUnused
+unused_of (room ∷ rooms) [] h = absurd h
+unused_of (room ∷ rooms) (size ∷ sizes) h = All-cons IsUnused room rooms h.0.0 (unused_of rooms sizes h.1)
+
+-- nothing is in it
+pub are_unused : (rooms : List (Vec Kept)) (sizes : List ℕ) → RoomsFit rooms sizes → All IsUnused rooms
+are_unused rooms sizes h = unused_of rooms (reverse sizes) h

@@ -1,7 +1,6 @@
 -- what placing a version makes of a place
-use Rattle.std.specs.Prelude.{◌≡◌, ℕ, ◌+◌, ◌<◌, ◌≤◌, ◌∷◌, ◌++◌, List, [], map, length, replicate, reverse, sum_by, vec_capacity, Option, None, Some, ◌-◌}
+use Rattle.std.specs.Prelude.{◌≡◌, ℕ, ◌+◌, ◌<◌, ◌≤◌, ◌∷◌, ◌++◌, List, [], map, length, replicate, reverse, sum_by, Option, None, Some, ◌-◌}
 use Rattle.std.specs.declared.cmp.Ordering.{Ordering}
-use Rattle.std.specs.Global.{Vec}
 use Rattle.std.specs.List.{All}
 use Rattle.leaf_array.specs.Pairs.{IsAscending}
 use Rattle.sdd_world.specs.Counting.{Counted, tally}
@@ -14,7 +13,6 @@ use Rattle.sdd_world.specs.State.{IsFree, State, cell_at, in_use, placed, status
 use Rattle.sdd_world.specs.Steps.{released, times}
 use Rattle.sdd_world.specs.Tokens.{loaded_slot}
 use Rattle.sdd_world.specs.declared.groups.Group.{Group}
-use Rattle.sdd_world.specs.declared.owner.Kept.{Kept}
 use Rattle.sdd_world.specs.declared.pointer.Loaded.{Loaded}
 use Rattle.sdd_world.specs.declared.status.Cell.TheVariants as cell
 use Rattle.sdd_world.specs.declared.status.Status.TheVariants as status
@@ -43,13 +41,6 @@ use Rattle.local_versions.specs.declared.placing.PlaceRefused.TheVariants as ref
 abbrev pub older_slot : {T : Type 0} → Option (Loaded T) → Option ℕ
 older_slot None = None
 older_slot (Some at) = loaded_slot at
-
--- room for the owners of a new row of n segments, and of one that is taken over
-abbrev pub FitsIn : Vec Kept → ℕ → Type 0
-FitsIn room n = (room.items ≡ []) × (n ≤ vec_capacity room)
-
-abbrev pub FitsWhole : Vec Kept → ℕ → Type 0
-FitsWhole room n = room.items ≡ []
 
 -- ---- places
 

@@ -12,14 +12,13 @@ ghost use Rattle.version_views.specs.Writes.{after_writes, replies_to};
 use crate::reads::view_of;
 use sdd_world::groups::Group;
 use sdd_world::job::NoJob;
-use sdd_world::owner::Kept;
 use sdd_world::world::World;
 use std::alloc::{AllocError, Global};
 use version_drafts::plans;
 use version_views::{Directory, Item, Reply, Write};
 
 /// A version that isn't placed yet: its directory, of whose rows and segments some are those of an older version.
-pub type Built<K, V, const S: usize> = plans::Draft<K, V, Vec<Kept>, S>;
+pub type Built<K, V, const S: usize> = plans::Draft<K, V, S>;
 
 /// The version that writes make of an older one, under the next number, and the replies. Fails only if an allocation fails.
 /// Nothing is placed yet. Rows and segments that no write touches are taken over, so the older version has to be there
@@ -42,7 +41,7 @@ pub fn build<K: Clone + Ord + Drop, V: Clone + Drop, const S: usize>(
     ensures replies { IfOk result (λ made. made.1.items ≡ replies_to K.cmp writes.now (list_of w.now.groups (value_at w.now) dir.now)) }
 {
     let old = view_of(w, dir);
-    plans::build::<K, V, _, Vec<Kept>, S>(alloc, dir.number() + 1, &old, dir, writes)
+    plans::build::<K, V, _, S>(alloc, dir.number() + 1, &old, dir, writes)
 }
 
 /// The version of clones of these pairs, whose keys rise, with number 0. Fails only if an allocation fails. Nothing is placed yet. It
@@ -63,5 +62,5 @@ pub fn build_list<K: Clone + Ord + Drop, V: Clone + Drop, const S: usize>(
     ensures fewest { IfOk result (λ made. S * slots_for made < length pairs.now + 2 * S) }
     ensures alone { IfOk result (StandsAlone K.cmp) }
 {
-    plans::build_list::<K, V, Vec<Kept>, S>(alloc, 0, pairs)
+    plans::build_list::<K, V, S>(alloc, 0, pairs)
 }

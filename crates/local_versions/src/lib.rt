@@ -33,6 +33,7 @@ mod built;
 mod laws;
 mod placing;
 mod reads;
+mod rooms;
 mod store;
 
 pub use built::{Built, build, build_list};

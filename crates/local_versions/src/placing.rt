@@ -9,12 +9,13 @@ ghost use Rattle.sdd_world.specs.Tokens.{kept_slot, loaded_slot, shared_cell, sh
 ghost use Rattle.sdd_world.specs.Steps.{times};
 ghost use Rattle.std.specs.List.{All};
 ghost use Rattle.version_views.specs.Items.{names_of, row_keys};
-ghost use Rattle.version_drafts.specs.Drafts.{FitsShelf, RoomsFit};
 ghost use Rattle.version_drafts.specs.Parts.{blocks_of_parts, made_in, makes, segments_in, segments_of};
 ghost use Rattle.version_drafts.specs.Shelves.{LiesInRow, made_on, made_on_all, shelf_blocks};
-ghost use Rattle.local_versions.specs.Placing.{AreRowsOf, CanBeRaised, CanPlace, CanTakeOver, FitsIn, FitsWhole, HasRows, IsForSlots, IsPlaceable, IsSettled, IsStretch, IsThere, KeepsPlaced, OnlyNamesCome, Places, Publishes, StandOn, StandsIn, StandsOn, blocks_at, ends_at, list_planned, names_at, number_of, older_slot, part_slots, refused_plan, slots_at, slots_for, taken_slots};
+ghost use Rattle.local_versions.specs.Rooms.{FitsIn, RoomsFit, new_size, new_sizes};
+ghost use Rattle.local_versions.specs.Placing.{AreRowsOf, CanBeRaised, CanPlace, CanTakeOver, HasRows, IsForSlots, IsPlaceable, IsSettled, IsStretch, IsThere, KeepsPlaced, OnlyNamesCome, Places, Publishes, StandOn, StandsIn, StandsOn, blocks_at, ends_at, list_planned, names_at, number_of, older_slot, part_slots, refused_plan, slots_at, slots_for, taken_slots};
 
 use crate::built::Built;
+use crate::rooms::rooms_for;
 use sdd_world::cell::AtomicShared;
 use sdd_world::groups::{Group, GroupName};
 use sdd_world::job::NoJob;
@@ -59,13 +60,12 @@ pub fn place<K: Ord + Drop, V: Drop, const S: usize>(
     if w.free_slots() < built.slots() {
         return Err(PlaceRefused::NoSlot(built));
     }
-    let rows = match room_for(alloc, w, built.rows().len()) {
-        Ok(rows) => rows,
+    let (rows, rooms) = match room_for(alloc, w, built.rows()) {
+        Ok(room) => room,
         Err(AllocError) => return Err(PlaceRefused::Memory(built)),
     };
-    let (shelves, rooms) = built.into_parts();
-    let (number, length, shelves, separators, ends) = shelves.into_parts();
-    let rows = place_rows(w, shelves, rooms, older, rows);
+    let (number, length, shelves, separators, ends) = built.into_shelves().into_parts();
+    let rows = place_rows(w, shelves, older, rows, rooms);
     w.laws();
     let directory = Directory::new(number, length, rows, separators, ends);
     match shared::new(w, Item::Directory(directory)) {
@@ -74,19 +74,27 @@ pub fn place<K: Ord + Drop, V: Drop, const S: usize>(
     }
 }
 
-/// Room for so many rows, and as many free names for groups. Fails only if an allocation fails.
+/// Room for these rows, and for the owners of each new one; and as many free names for groups. Fails only if an allocation fails.
 fn room_for<K: Ord, V, const S: usize>(
     alloc: Global,
     w: &mut World<Item<K, V, S>, NoJob>,
-    rows: usize,
-) -> Result<Vec<Row<K, Group>>, AllocError>
+    shelves: &[Row<K, Shelf<K, V>>],
+) -> Result<(Vec<Row<K, Group>>, Vec<Vec<Kept>>), AllocError>
     ensures come { OnlyNamesCome w.old w.new }
-    ensures names { OnOk result (rows ≤ free_names w.new.groups) }
-    ensures room { IfOk result (λ room. (room.items ≡ []) × (rows ≤ vec_capacity room)) }
+    ensures names { OnOk result (length shelves.now ≤ free_names w.new.groups) }
+    ensures rows { IfOk result (λ room. (room.0.items ≡ []) × (length shelves.now ≤ vec_capacity room.0)) }
+    ensures rooms { IfOk result (λ room. RoomsFit room.1.items (new_sizes shelves.now)) }
     ensures keeps { Frame w.old w.new }
 {
-    name_groups(w, rows)?;
-    Vec::with_capacity(alloc, rows)
+    name_groups(w, shelves.len())?;
+    let rows = Vec::with_capacity(alloc, shelves.len())?;
+    match rooms_for(alloc, shelves) {
+        Ok(rooms) => Ok((rows, rooms)),
+        Err(refused) => {
+            rows.destroy_empty();
+            Err(refused)
+        }
+    }
 }
 
 /// At least so many free names for groups. Fails only if an allocation fails.
@@ -106,17 +114,17 @@ fn name_groups<K: Ord, V, const S: usize>(
     Ok(())
 }
 
-/// Places rows, where there is room for the owners of each, that of the first row last.
+/// Places rows, where there is room for the owners of each new one, that of the first last.
 fn place_rows<K: Ord + Drop, V: Drop, const S: usize>(
     w: &mut World<Item<K, V, S>, NoJob>,
     shelves: Vec<Row<K, Shelf<K, V>>>,
-    mut rooms: Vec<Vec<Kept>>,
     older: Option<Loaded<Item<K, V, S>>>,
     mut rows: Vec<Row<K, Group>>,
+    mut rooms: Vec<Vec<Kept>>,
 ) -> Vec<Row<K, Group>>
     requires empty { rows.items ≡ [] }
     requires room { length shelves.items ≤ vec_capacity rows }
-    requires rooms { RoomsFit FitsIn FitsWhole rooms.items shelves.items }
+    requires rooms { RoomsFit rooms.items (new_sizes shelves.items) }
     requires free { made_on_all shelves.items ≤ sum_by vacancy w.old.states }
     requires names { length shelves.items ≤ free_names w.old.groups }
     requires settled { IsSettled w.old }
@@ -126,49 +134,63 @@ fn place_rows<K: Ord + Drop, V: Drop, const S: usize>(
 {
     for shelf in shelves {
         let (segments, keys) = shelf.into_parts();
-        let room = match rooms.pop() {
-            Some(room) => room,
-            None => unreachable!(),
-        };
         w.laws();
-        rows.push_reserved(Row::new(place_row(w, segments, older, room), keys));
+        let group = place_row(w, segments, older, &mut rooms);
+        rows.push_reserved(Row::new(group, keys));
     }
     rooms.destroy_empty();
     rows
 }
 
-/// Places a row: one of the older version has one owner more, and a new one becomes a group.
+/// Places a row: one of the older version has one owner more, and a new one becomes a group, in the last room.
 fn place_row<K: Ord + Drop, V: Drop, const S: usize>(
     w: &mut World<Item<K, V, S>, NoJob>,
     segments: Shelf<K, V>,
     older: Option<Loaded<Item<K, V, S>>>,
-    room: Vec<Kept>,
+    rooms: &mut Vec<Vec<Kept>>,
 ) -> Group
-    requires fits { FitsShelf FitsIn FitsWhole room segments }
+    requires fits { (more : List ℕ) × RoomsFit rooms.old.items (new_size segments ++ more) }
     requires free { made_on segments ≤ sum_by vacancy w.old.states }
     requires names { 1 ≤ free_names w.old.groups }
     requires there { CanPlace K.cmp w.old (older_slot older) segments }
-    ensures { StandsOn (made_on segments) (name_of result) (shelf_blocks (blocks_at w.old (older_slot older)) segments) w.old w.new }
+    ensures stands { StandsOn (made_on segments) (name_of result) (shelf_blocks (blocks_at w.old (older_slot older)) segments) w.old w.new }
+    ensures left { (more : List ℕ) → RoomsFit rooms.old.items (new_size segments ++ more) → RoomsFit rooms.new.items more }
 {
     match segments {
         Shelf::Older {
             row,
             from: _,
             upto: _,
-        } => {
-            room.destroy_empty();
-            match older {
-                Some(at) => raise_row(w, &at, row),
-                None => unreachable!(),
-            }
-        }
-        Shelf::New(parts) => {
-            let owners = place_parts(w, parts, older, room);
-            match group::make(w, owners) {
-                Ok(group) => group,
-                Err(_) => unreachable!(),
-            }
-        }
+        } => match older {
+            Some(at) => raise_row(w, &at, row),
+            None => unreachable!(),
+        },
+        Shelf::New(parts) => match rooms.pop() {
+            Some(room) => place_new(w, parts, older, room),
+            None => unreachable!(),
+        },
+    }
+}
+
+/// Places a new row, in the room for its owners.
+#[inline(never)]
+fn place_new<K: Ord + Drop, V: Drop, const S: usize>(
+    w: &mut World<Item<K, V, S>, NoJob>,
+    parts: Vec<Part<K, V>>,
+    older: Option<Loaded<Item<K, V, S>>>,
+    room: Vec<Kept>,
+) -> Group
+    requires fits { FitsIn room (segments_in parts.items) }
+    requires free { made_in parts.items ≤ sum_by vacancy w.old.states }
+    requires names { 1 ≤ free_names w.old.groups }
+    requires once { (i : ℕ) → times i (taken_slots (slots_at w.old (older_slot older)) parts.items) ≤ 1 }
+    requires there { CanTakeOver w.old (older_slot older) parts.items }
+    ensures { StandsOn (made_in parts.items) (name_of result) (blocks_of_parts (blocks_at w.old (older_slot older)) parts.items) w.old w.new }
+{
+    let owners = place_parts(w, parts, older, room);
+    match group::make(w, owners) {
+        Ok(group) => group,
+        Err(_) => unreachable!(),
     }
 }
 

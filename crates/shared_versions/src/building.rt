@@ -10,7 +10,6 @@ ghost use Rattle.shared_versions.specs.Drafts.{IsPlaceable, list_of, list_planne
 use crate::draft::Draft;
 use crate::lending::view_of;
 use crate::node::Version;
-use crate::planned::NoRoom;
 use std::alloc::{AllocError, Global};
 use version_drafts::plans;
 use version_views::{Directory, Reply, Write};
@@ -37,13 +36,7 @@ pub fn build<K: Clone + Ord + Drop, V: Clone + Drop, const S: usize>(
     old.laws();
     let view = view_of(old);
     let rows = old.directory();
-    let (plan, replies) = plans::build::<K, V, _, NoRoom, S>(
-        alloc,
-        old.number() + 1,
-        &view,
-        rows,
-        writes,
-    )?;
+    let (plan, replies) = plans::build::<K, V, _, S>(alloc, old.number() + 1, &view, rows, writes)?;
     Ok((Draft::of(alloc, rows, old.own(), plan)?, replies))
 }
 
@@ -66,7 +59,7 @@ pub fn build_list<K: Clone + Ord + Drop, V: Clone + Drop, const S: usize>(
     ensures fewest { IfOk result (λ made. S * slots_for made < length pairs.now + 2 * S) }
     ensures placeable { IfOk result (IsPlaceable K.cmp S nothing) }
 {
-    let plan = plans::build_list::<K, V, NoRoom, S>(alloc, number, pairs)?;
+    let plan = plans::build_list::<K, V, S>(alloc, number, pairs)?;
     let none = Directory::new(0, 0, Vec::new(alloc), Vec::new(alloc), Vec::new(alloc));
     let own = Vec::new(alloc);
     let draft = Draft::of(alloc, &none, &own, plan);

@@ -8,7 +8,7 @@ ghost use Rattle.shared_versions.specs.Nodes.{IsReadable, own_segments};
 ghost use Rattle.shared_versions.specs.Sight.{Sight};
 
 use crate::node::{OwnRow, RowOwner};
-use crate::planned::{NoRoom, Planned, planned_rows};
+use crate::planned::{Planned, planned_rows};
 use crate::room::Room;
 use std::alloc::{AllocError, Global};
 use std::marker::Model;
@@ -99,7 +99,7 @@ impl<K: Ord + Drop, V: Drop, const S: usize> Draft<K, V, S> {
         alloc: Global,
         old: &Directory<K, RowOwner<K, V>>,
         own: &[OwnRow<K, V>],
-        plan: plans::Draft<K, V, NoRoom, S>,
+        plan: plans::Draft<K, V, S>,
     ) -> Result<Self, AllocError>
         requires whole { IsReadable (own_segments own.now) old.now }
         requires lies { All (λ r. LiesOn old.now.ends.items r.segments) plan.shelves.rows.items }
@@ -107,8 +107,7 @@ impl<K: Ord + Drop, V: Drop, const S: usize> Draft<K, V, S> {
     {
         // what is planned takes no more slots than these, which are few
         let _most = plan.slots();
-        let (shelves, _) = plan.into_parts();
-        let (number, length, shelves, separators, ends) = shelves.into_parts();
+        let (number, length, shelves, separators, ends) = plan.into_shelves().into_parts();
         let (rows, slots) = planned_rows(alloc, old, own, shelves)?;
         let room = Room::with_room(alloc, rows.len())?;
         Ok(Draft {

@@ -14,8 +14,7 @@ use crate::lending::segments_of;
 use crate::node::{OwnRow, RowOwner, RowSegments};
 use std::alloc::{AllocError, Global};
 use std::sync::Arc;
-use version_drafts::draft::Part;
-use version_drafts::plans::OwnersRoom;
+use version_drafts::draft::{Part, count_of};
 use version_drafts::shelves::Shelf;
 use version_views::{Directory, Row, Segment};
 
@@ -28,28 +27,6 @@ pub enum Planned<K: Ord, V> {
     New(Vec<Arc<Segment<K, V>, Global>>),
     /// By itself, without a slot: each of its segments is in an older row.
     Own(Arc<Vec<Arc<Segment<K, V>, Global>>, Global>),
-}
-
-/// Room that isn't needed: the segments of a planned row are gathered once it is known which they are.
-#[derive(Drop)]
-pub(crate) struct NoRoom;
-
-impl OwnersRoom for NoRoom {
-    ghost fits = { λ _ _. Unit {0} };
-
-    ghost fits_whole = { λ _ _. Unit {0} };
-
-    fn with_room(alloc: Global, segments: usize) -> Result<Self, AllocError> {
-        let _ = (alloc, segments);
-        Ok(NoRoom)
-    }
-
-    fn for_whole(alloc: Global, segments: usize) -> Result<Self, AllocError> {
-        let _ = (alloc, segments);
-        Ok(NoRoom)
-    }
-
-    fn end(self) {}
 }
 
 /// The rows that are planned of these, and how many of them are to be placed as items. Fails only if an allocation fails.
@@ -141,7 +118,10 @@ fn gathered<K: Ord + Drop, V: Drop>(
     ensures new { IfOk result (λ made. IsTrue made.1 → 1 ≤ made_in parts.items) }
     ensures older { IfOk result (λ made. IsFalse made.1 → made_in parts.items ≡ 0) }
 {
-    let mut segments = Vec::with_capacity(alloc, count_of(&parts))?;
+    let Some(count) = count_of(&parts) else {
+        return Err(AllocError);
+    };
+    let mut segments = Vec::with_capacity(alloc, count)?;
     let mut new = false;
     for part in parts {
         match part {
@@ -153,19 +133,6 @@ fn gathered<K: Ord + Drop, V: Drop>(
         }
     }
     Ok((segments, new))
-}
-
-/// How many segments parts have: for room alone.
-fn count_of<K: Ord, V>(parts: &[Part<K, V>]) -> usize {
-    let mut count = 0usize;
-    for part in parts {
-        let more = match part {
-            Part::Taken { from, upto } => upto.saturating_sub(*from),
-            Part::Made(_) => 1,
-        };
-        count = count.saturating_add(more);
-    }
-    count
 }
 
 /// Shares the older version's segments from one place up to another, which lie in one of its rows. Fails only if an allocation

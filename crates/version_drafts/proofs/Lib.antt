@@ -6,7 +6,6 @@ pub mod ListedLemmas
 pub mod MergeLemmas
 pub mod PartLemmas
 pub mod PlanLemmas
-pub mod RoomLemmas
 pub mod RowLemmas
 pub mod RunLemmas
 pub mod RangeLemmas

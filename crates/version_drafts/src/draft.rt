@@ -11,7 +11,7 @@ ghost use Rattle.version_views.specs.Writes.{after_writes, replies_to};
 use crate::changes::{apply, unchanged};
 pub use crate::listed::{listed, rising_until};
 use crate::merge::merged;
-pub use crate::segments::{Part, Segments, made_of};
+pub use crate::segments::{Part, Segments, count_of, made_of};
 use std::alloc::{AllocError, Global};
 use version_views::{Reply, Trees, VersionView, Write};
 

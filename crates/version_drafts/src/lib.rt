@@ -12,7 +12,6 @@ mod gone;
 mod listed;
 mod merge;
 pub mod plans;
-mod room;
 mod row;
 mod scans;
 mod segments;

@@ -7,42 +7,37 @@ ghost use Rattle.version_views.specs.Cuts.{IsCut, pairs_in, separators_of};
 ghost use Rattle.version_views.specs.Rows.{CutsInRows};
 ghost use Rattle.version_views.specs.Sizes.{room_for};
 ghost use Rattle.version_views.specs.Writes.{after_writes, replies_to};
-ghost use Rattle.version_drafts.specs.Drafts.{IsPlanned, RoomsFit, list_planned, number_of, slots_for};
+ghost use Rattle.version_drafts.specs.Drafts.{IsPlanned, list_planned, number_of, slots_for};
 ghost use Rattle.version_drafts.specs.Shelves.{made_on_all};
 
 use crate::draft::drafted;
 use crate::listed::{listed, shelved_alone};
-pub use crate::room::OwnersRoom;
-use crate::room::{end_all, rooms_for};
 use crate::segments::made_of;
 use crate::shelves::{Shelf, shelved};
 use std::alloc::{AllocError, Global};
 use std::marker::Model;
 use version_views::{Directory, Reply, Row, Trees, VersionView, Write};
 
-/// A version that isn't placed yet: its directory, of whose rows some are those of an older version, with room for the owners
-/// of each.
-pub struct Draft<K: Ord, V, R: OwnersRoom, const S: usize> {
+/// A version that isn't placed yet: its directory, of whose rows some are those of an older version.
+#[derive(Drop)]
+pub struct Draft<K: Ord, V, const S: usize> {
     shelves: Directory<K, Shelf<K, V>>,
     // how many slots it takes
     slots: usize,
-    // that of the first row last
-    rooms: Vec<R>,
 }
 
-/// Invariant: specs/Drafts.antt, IsDrafted and RoomsFit: its slots are few, and counted; and there is room for the owners of each
-/// row.
-impl<K: Ord, V, R: OwnersRoom, const S: usize> Model for Draft<K, V, R, S> {
-    ghost use Rattle.version_drafts.specs.Drafts.{IsDrafted, Plan, RoomsFit};
+/// Invariant: specs/Drafts.antt, IsDrafted: its slots are few, and counted.
+impl<K: Ord, V, const S: usize> Model for Draft<K, V, S> {
+    ghost use Rattle.version_drafts.specs.Drafts.{IsDrafted, Plan};
 
     ghost Value = { Plan K V S };
 
     ghost view = { λ d. record { shelves = d.shelves } };
 
-    ghost invariant = { λ d. IsDrafted S d.shelves d.slots × RoomsFit R.fits R.fits_whole d.rooms.items d.shelves.rows.items };
+    ghost invariant = { λ d. IsDrafted S d.shelves d.slots };
 }
 
-impl<K: Ord, V, R: OwnersRoom, const S: usize> Draft<K, V, R, S> {
+impl<K: Ord, V, const S: usize> Draft<K, V, S> {
     /// The empty list, with number 0. It takes no memory.
     pub fn empty(alloc: Global) -> Self
         ensures number { number_of result ≡ 0 }
@@ -51,48 +46,26 @@ impl<K: Ord, V, R: OwnersRoom, const S: usize> Draft<K, V, R, S> {
         ensures planned { (blocks : List (List (K × V))) (ends : List ℕ) → IsPlanned K.cmp blocks ends result }
     {
         let shelves = Directory::new(0, 0, Vec::new(alloc), Vec::new(alloc), Vec::new(alloc));
-        Draft {
-            shelves,
-            slots: 1,
-            rooms: Vec::new(alloc),
-        }
+        Draft { shelves, slots: 1 }
     }
 
-    /// The version of these rows, which takes so many slots, with room for their owners. Fails only if an allocation fails.
-    /// Condition: it does, and they are few.
-    fn of(
-        alloc: Global,
-        shelves: Directory<K, Shelf<K, V>>,
-        slots: usize,
-    ) -> Result<Self, AllocError>
-    where
-        K: Drop,
-        V: Drop,
+    /// The version of these rows, which takes so many slots. Condition: it does, and they are few.
+    fn of(shelves: Directory<K, Shelf<K, V>>, slots: usize) -> Self
         requires counted { slots ≡ made_on_all shelves.rows.items + 1 }
         requires few { slots ≤ 2 * (shelves.length / (S + 1)) + 2 }
-        ensures { IfOk result (λ draft. draft.shelves ≡ shelves) }
+        ensures { result.shelves ≡ shelves }
     {
-        let rooms = rooms_for(alloc, shelves.rows())?;
-        Ok(Draft {
-            shelves,
-            slots,
-            rooms,
-        })
+        Draft { shelves, slots }
     }
 
     /// The same list under this number.
     pub fn numbered(self, number: u64) -> Self
         ensures { result.shelves ≡ record self.shelves { number = number } }
     {
-        let Draft {
-            shelves,
-            slots,
-            rooms,
-        } = self;
+        let Draft { shelves, slots } = self;
         Draft {
             shelves: shelves.numbered(number),
             slots,
-            rooms,
         }
     }
 
@@ -112,37 +85,25 @@ impl<K: Ord, V, R: OwnersRoom, const S: usize> Draft<K, V, R, S> {
         self.shelves.rows()
     }
 
-    /// Its directory, and room for the owners of each row, that of the first row last.
-    pub fn into_parts(self) -> (Directory<K, Shelf<K, V>>, Vec<R>)
-        ensures shelves { result.0 ≡ self.shelves }
-        ensures rooms { RoomsFit R.fits R.fits_whole result.1.items result.0.rows.items }
+    /// Its directory: all that is left of it.
+    pub fn into_shelves(self) -> Directory<K, Shelf<K, V>>
+        ensures { result ≡ self.shelves }
     {
-        let Draft {
-            shelves,
-            slots: _,
-            rooms,
-        } = self;
-        (shelves, rooms)
-    }
-}
-
-impl<K: Ord + Drop, V: Drop, R: OwnersRoom, const S: usize> Drop for Draft<K, V, R, S> {
-    fn drop(self) {
-        let (_, rooms) = self.into_parts();
-        end_all(rooms);
+        let Draft { shelves, slots: _ } = self;
+        shelves
     }
 }
 
 /// The version that writes make of an older one, under a number, and the replies; `rows` is the directory of the older one. Fails
 /// only if an allocation fails. Rows and segments that no write touches are taken over, so the older version has to be there when
 /// it is placed.
-pub fn build<K: Clone + Ord + Drop, V: Clone + Drop, W: Trees<K, V>, R: OwnersRoom, const S: usize>(
+pub fn build<K: Clone + Ord + Drop, V: Clone + Drop, W: Trees<K, V>, const S: usize>(
     alloc: Global,
     number: u64,
     old: &VersionView<'_, K, V, W>,
     rows: &Directory<K, W::Owners>,
     writes: &[Write<K, V>],
-) -> Result<(Draft<K, V, R, S>, Vec<Reply>), AllocError>
+) -> Result<(Draft<K, V, S>, Vec<Reply>), AllocError>
     requires size { (1 ≤ S) × (S ≤ 225) }
     requires keys { ClonesAreSame K.is_clone }
     requires values { ClonesAreSame V.is_clone }
@@ -157,17 +118,16 @@ pub fn build<K: Clone + Ord + Drop, V: Clone + Drop, W: Trees<K, V>, R: OwnersRo
     let (segments, replies) = drafted::<K, V, W, S>(alloc, old, writes)?;
     let slots = made_of(&segments.parts) + 1;
     let shelves = shelved(alloc, number, old, rows, segments)?;
-    let draft = Draft::of(alloc, shelves, slots)?;
-    Ok((draft, replies))
+    Ok((Draft::of(shelves, slots), replies))
 }
 
 /// The version of clones of these pairs, whose keys rise, under a number. Fails only if an allocation fails. It takes nothing
 /// over, so it can be placed wherever there are the slots that it takes, and its segments are as few as can hold the pairs.
-pub fn build_list<K: Clone + Ord + Drop, V: Clone + Drop, R: OwnersRoom, const S: usize>(
+pub fn build_list<K: Clone + Ord + Drop, V: Clone + Drop, const S: usize>(
     alloc: Global,
     number: u64,
     pairs: &[(K, V)],
-) -> Result<Draft<K, V, R, S>, AllocError>
+) -> Result<Draft<K, V, S>, AllocError>
     requires size { (1 ≤ S) × (S ≤ 225) }
     requires keys { ClonesAreSame K.is_clone }
     requires values { ClonesAreSame V.is_clone }
@@ -182,5 +142,5 @@ pub fn build_list<K: Clone + Ord + Drop, V: Clone + Drop, R: OwnersRoom, const S
     let segments = listed::<K, V, S>(alloc, pairs)?;
     let slots = made_of(&segments.parts) + 1;
     let shelves = shelved_alone(alloc, number, segments)?;
-    Draft::of(alloc, shelves, slots)
+    Ok(Draft::of(shelves, slots))
 }

@@ -60,7 +60,7 @@ pub fn made_of<K: Ord, V>(parts: &[Part<K, V>]) -> usize
 }
 
 /// How many segments parts have; none where that is more than a number can tell.
-pub(crate) fn count_of<K: Ord, V>(parts: &[Part<K, V>]) -> Option<usize>
+pub fn count_of<K: Ord, V>(parts: &[Part<K, V>]) -> Option<usize>
     ensures { IfSome result (λ n. n ≡ segments_in parts.now) }
 {
     let mut count = 0usize;

@@ -11,7 +11,6 @@ pub use shared_versions::{
     Draft, Node, Present, Reader, Rest, RowOwner, Session, Version, build, build_list, publish,
     reclaim, reclaim_once, rising_until, version_at, view_of,
 };
-pub use version_drafts::plans::OwnersRoom;
 pub use version_views::{
     Directory, Nearby, Reply, Row, Segment, Trees, VersionView, Walk, Write, WriteRefused, plain,
 };

@@ -7,10 +7,10 @@ use Rattle.version_views.specs.Items.{names_of, row_keys}
 use Rattle.version_views.specs.declared.directory.Directory.{Directory}
 use Rattle.version_views.specs.declared.item.Item.TheVariants as item
 use Rattle.version_views.specs.declared.row.Row.{Row}
-use Rattle.version_drafts.specs.Drafts.{RoomsFit}
 use Rattle.version_drafts.specs.Shelves.{made_on_all, shelf_blocks}
 use Rattle.version_drafts.specs.declared.shelves.Shelf.{Shelf}
-use Rattle.local_versions.specs.Placing.{AreRowsOf, FitsIn, FitsWhole, StandOn, blocks_at, older_slot}
+use Rattle.local_versions.specs.Placing.{AreRowsOf, StandOn, blocks_at, older_slot}
+use Rattle.local_versions.specs.Rooms.{RoomsFit, new_sizes}
 use Rattle.local_versions.proofs.NamingLemmas.{named_placeable, named_settled, no_name}
 use Rattle.local_versions.proofs.PlacingLemmas.{keeps_refl, no_vacancy}
 use Rattle.local_versions.proofs.WholePlacingLemmas.{named_room, place_whole, rows_ready}
@@ -22,11 +22,11 @@ place_rows-rows-requires g c =
     let u = c.args.w.now in
     let v = c.room_for.new.w in
     let older = older_slot c.args.older in
-    let is = c.into_parts-number.ensures ∙ c.into_parts-shelves.ensures.shelves in
+    let is = c.into_parts-number.ensures ∙ c.into_shelves.ensures in
     let long = ap (λ (d : Directory _ (Shelf _ _)). length d.rows.items) is in
     let many = ap length c.rows.ensures in
-    let room = c.in-Ok.ensures.room.1 in
-    let rooms = subst (λ (d : Directory _ (Shelf _ _)). RoomsFit FitsIn FitsWhole c.into_parts-shelves.result.1.items d.rows.items) (sym c.into_parts-number.ensures) c.into_parts-shelves.ensures.rooms in
+    let room = c.in-Ok.ensures.rows.1 in
+    let rooms = subst (λ rows. RoomsFit c.in-Ok.room.1.items (new_sizes rows)) (c.rows.ensures ∙ sym (ap (λ (d : Directory _ (Shelf _ _)). d.rows.items) is)) c.in-Ok.ensures.rooms in
     let made = ap (λ (d : Directory _ (Shelf _ _)). made_on_all d.rows.items) is in
     let named = named_room cmp u v c.in-Ok.ensures.come c.in-Ok.ensures.keeps in
     let enough = c.if-free_slots-slots.false in
@@ -36,11 +36,11 @@ place_rows-rows-requires g c =
     let settled = named_settled u v c.in-Ok.ensures.come c.in-Ok.ensures.keeps c.requires.settled in
     let can = named_placeable u v c.in-Ok.ensures.come c.in-Ok.ensures.keeps cmp older c.args.built c.requires.settled c.requires.placeable in
     let rows = subst (λ (d : Directory _ (Shelf _ _)). AreRowsOf cmp v older d.rows.items) (sym is) (rows_ready cmp v older c.args.built can) in
-    (omega arith, (c.in-Ok.ensures.room.0, (omega (arith, long, many, room), (rooms, (omega (arith, made, named, enough, free, slots), (omega (arith, long, many, names), (settled, rows)))))))
+    (omega arith, (c.in-Ok.ensures.rows.0, (omega (arith, long, many, room), (rooms, (omega (arith, made, named, enough, free, slots), (omega (arith, long, many, names), (settled, rows)))))))
 
 pub unreachable-requires : goal.unreachable-requires
 unreachable-requires g c =
-    let is = ap (λ (d : Directory _ (Shelf _ _)). made_on_all d.rows.items) (c.into_parts-number.ensures ∙ c.into_parts-shelves.ensures.shelves) in
+    let is = ap (λ (d : Directory _ (Shelf _ _)). made_on_all d.rows.items) (c.into_parts-number.ensures ∙ c.into_shelves.ensures) in
     let named = named_room g.K.Ord.cmp c.args.w.now c.room_for.new.w c.in-Ok.ensures.come c.in-Ok.ensures.keeps in
     let none = no_vacancy c.place_rows-rows.new.w.states c.in-Err-new.ensures.refused.2 in
     let all = c.place_rows-rows.ensures.placed.adds.frees in
@@ -58,7 +58,7 @@ returns-clause-placed g c =
     let older = older_slot c.args.older in
     let root = shared_slot c.in-Ok-new.root in
     let rows = c.place_rows-rows.result in
-    let is = c.into_parts-number.ensures ∙ c.into_parts-shelves.ensures.shelves in
+    let is = c.into_parts-number.ensures ∙ c.into_shelves.ensures in
     let stand = subst (λ (d : Directory _ (Shelf _ _)). StandOn (made_on_all d.rows.items) (names_of rows.items) (map (λ (r : Row _ (Shelf _ _)). shelf_blocks (blocks_at u1 older) r.segments) d.rows.items) u1 v) is c.place_rows-rows.ensures.placed in
     let keys = subst (λ (d : Directory _ (Shelf _ _)). map row_keys rows.items ≡ map row_keys d.rows.items) is c.place_rows-rows.ensures.keys in
     let same = c.new-directory.ensures ∙ ap (λ (d : Directory _ (Shelf _ _)). record { number = d.number; length = d.length; rows = rows; separators = d.separators; ends = d.ends }) is in

@@ -8,13 +8,13 @@ use Rattle.sdd_world.specs.State.{vacancy}
 use Rattle.sdd_world.specs.declared.groups.Group.{Group}
 use Rattle.version_views.specs.Items.{names_of, row_keys}
 use Rattle.version_views.specs.declared.row.Row.{Row}
-use Rattle.version_drafts.specs.Drafts.{FitsShelf, RoomsFit}
 use Rattle.version_drafts.specs.Shelves.{made_on, made_on_all, shelf_blocks}
 use Rattle.version_drafts.specs.declared.shelves.Shelf.{Shelf}
-use Rattle.local_versions.specs.Placing.{CanPlace, FitsIn, FitsWhole, StandOn, StandsOn, blocks_at, older_slot}
+use Rattle.local_versions.specs.Placing.{CanPlace, StandOn, StandsOn, blocks_at, older_slot}
+use Rattle.local_versions.specs.Rooms.{RoomsFit, new_size, new_sizes}
 use Rattle.local_versions.proofs.RowOnceLemmas.{next_placeable, next_stands}
 use Rattle.local_versions.proofs.RowPlacingLemmas.{stand_none}
-use Rattle.local_versions.proofs.RowRoomLemmas.{no_room, room_last, some_room}
+use Rattle.local_versions.proofs.RowRoomLemmas.{no_room}
 use Rattle.local_versions.proofs.placing.place_rows.Goals as goal
 
 pub loop-shelf-init : goal.loop-shelf-init
@@ -29,21 +29,13 @@ loop-shelf-init g c =
       keys = ap (map row_keys) c.requires.empty;
       many = none;
       room = omega (arith, none, c.requires.room, ap length all);
-      rooms = subst (λ rows. RoomsFit FitsIn FitsWhole c.args.rooms.items rows) (sym all) c.requires.rooms;
+      rooms = subst (λ rows. RoomsFit c.args.rooms.items (new_sizes rows)) (sym all) c.requires.rooms;
       free = subst (λ rows. made_on_all rows ≤ sum_by vacancy w.states) (sym all) c.requires.free;
       names = subst (λ rows. length rows ≤ free_names w.groups) (sym all) c.requires.names;
     }
 
-pub unreachable-requires : goal.unreachable-requires
-unreachable-requires g c =
-    let i = c.loop-shelf.invariant in
-    let step = rw c.in-Some.is at c.next.ensures.steps in
-    let shelf = c.in-Some.shelf in
-    let rest = into_iter_items c.next.new.self in
-    some_room FitsIn FitsWhole shelf rest c.loop-shelf.rooms.items (nil_from_length c.loop-shelf.rooms.items (omega (arith, c.in-None-pop.ensures.cases.0, c.loop-shelf.rooms.ok.0))) (subst (RoomsFit FitsIn FitsWhole c.loop-shelf.rooms.items) step.0 i.rooms)
-
-pub place_row-requires : goal.place_row-requires
-place_row-requires g c =
+pub place_row-group-requires : goal.place_row-group-requires
+place_row-group-requires g c =
     let cmp = g.K.Ord.cmp in
     let u = c.args.w.now in
     let v = c.loop-shelf.w in
@@ -53,8 +45,7 @@ place_row-requires g c =
     let shelf = c.in-Some.shelf in
     let rest = into_iter_items c.next.new.self in
     let segments = ap (λ (r : Row _ (Shelf _ _)). r.segments) c.into_parts-segments.ensures in
-    let last = room_last FitsIn FitsWhole shelf rest c.loop-shelf.rooms.items c.pop.new.self.items c.in-Some-pop.room c.in-Some-pop.ensures.items (subst (RoomsFit FitsIn FitsWhole c.loop-shelf.rooms.items) step.0 i.rooms) in
-    let fits = subst (FitsShelf FitsIn FitsWhole c.in-Some-pop.room) (sym segments) last.1 in
+    let fits = subst (λ s. RoomsFit c.loop-shelf.rooms.items (new_size s ++ new_sizes rest)) (sym segments) (subst (λ rows. RoomsFit c.loop-shelf.rooms.items (new_sizes rows)) step.0 i.rooms) in
     let sum = sum_by-cons (λ (r : Row _ (Shelf _ _)). made_on r.segments) shelf rest in
     let one = ap made_on segments in
     let left = ap made_on_all step.0 in
@@ -63,7 +54,7 @@ place_row-requires g c =
     let fewer = ap length step.0 in
     let whole = ap (λ rows. c.loop-shelf.yielded ++ rows) (sym step.0) ∙ i.whole in
     let there = subst (CanPlace cmp v older) (sym segments) (next_placeable cmp u v older c.loop-shelf.yielded shelf _ _ i.stands c.requires.settled g.met.K.Ord.total rest c.args.shelves.items whole c.requires.rows c.laws.ensures) in
-    (omega arith, (fits, (omega (arith, sum, one, left, free), (omega (arith, names, fewer), there))))
+    (omega arith, ((new_sizes rest, fits), (omega (arith, sum, one, left, free), (omega (arith, names, fewer), there))))
 
 pub loop-shelf-preserved : goal.loop-shelf-preserved
 loop-shelf-preserved g c =
@@ -75,15 +66,15 @@ loop-shelf-preserved g c =
     let cmp = g.K.Ord.cmp in
     let u = c.args.w.now in
     let v = c.loop-shelf.w in
-    let w = c.place_row.new.w in
+    let w = c.place_row-group.new.w in
     let older = older_slot c.args.older in
     let yielded = c.loop-shelf.yielded in
     let rows = c.loop-shelf.rows.items in
-    let group = c.place_row.result in
+    let group = c.place_row-group.result in
     let row = c.new.result in
     let pushed = c.push_reserved.ensures.items in
-    let last = room_last FitsIn FitsWhole shelf rest c.loop-shelf.rooms.items c.pop.new.self.items c.in-Some-pop.room c.in-Some-pop.ensures.items (subst (RoomsFit FitsIn FitsWhole c.loop-shelf.rooms.items) step.0 i.rooms) in
-    let on = subst (λ s. StandsOn (made_on s) (name_of group) (shelf_blocks (blocks_at v older) s) v w) segments c.place_row.ensures in
+    let fits = subst (λ s. RoomsFit c.loop-shelf.rooms.items (new_size s ++ new_sizes rest)) (sym segments) (subst (λ rows. RoomsFit c.loop-shelf.rooms.items (new_sizes rows)) step.0 i.rooms) in
+    let on = subst (λ s. StandsOn (made_on s) (name_of group) (shelf_blocks (blocks_at v older) s) v w) segments c.place_row-group.ensures.stands in
     let all = next_stands cmp u v older yielded shelf _ _ i.stands c.requires.settled c.requires.rows.there (made_on shelf.segments) (name_of group) w on in
     let weigh = λ (r : Row _ (Shelf _ _)). made_on r.segments in
     let split = sum_by-append weigh yielded (shelf ∷ []) in
@@ -110,7 +101,7 @@ loop-shelf-preserved g c =
           ∙ sym (map-append row_keys yielded (shelf ∷ []));
       many = omega (arith, long, more, count, i.many);
       room = omega (arith, i.room, fewer, long, more, c.push_reserved.ensures.capacity);
-      rooms = last.0;
+      rooms = c.place_row-group.ensures.left (new_sizes rest) fits;
       free = (let free = i.free in omega (arith, free, before, after, left, sum, made));
       names = (let some = i.names in let one = on.names in omega (arith, some, one, fewer));
     }
@@ -123,6 +114,6 @@ destroy_empty-requires g c =
     let ended = c.in-None.ensures.steps.0 in
     let counted = c.loop-shelf.invariant.counted in
     let none : rest ≡ [] = nil_from_length rest (omega (arith, ended, counted)) in
-    let empty = no_room _ _ FitsIn FitsWhole rooms.items (subst (RoomsFit FitsIn FitsWhole rooms.items) none c.loop-shelf.invariant.rooms) in
+    let empty = no_room rooms.items (subst (λ rows. RoomsFit rooms.items (new_sizes rows)) none c.loop-shelf.invariant.rooms) in
     let long = ap length empty in
     omega (arith, long, rooms.ok.0)

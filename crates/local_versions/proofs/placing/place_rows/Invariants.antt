@@ -3,9 +3,9 @@ use Rattle.std.specs.Vec.Iter.{into_iter_items, into_iter_len}
 use Rattle.sdd_world.specs.Groups.{free_names}
 use Rattle.sdd_world.specs.State.{vacancy}
 use Rattle.version_views.specs.Items.{names_of, row_keys}
-use Rattle.version_drafts.specs.Drafts.{RoomsFit}
 use Rattle.version_drafts.specs.Shelves.{made_on_all, shelf_blocks}
-use Rattle.local_versions.specs.Placing.{FitsIn, FitsWhole, StandOn, blocks_at, older_slot}
+use Rattle.local_versions.specs.Placing.{StandOn, blocks_at, older_slot}
+use Rattle.local_versions.specs.Rooms.{RoomsFit, new_sizes}
 use Rattle.local_versions.proofs.placing.place_rows.Given as goal
 
 -- the rows so far stand, and there is room for the others
@@ -19,7 +19,7 @@ invariant-loop-shelf g l =
       keys : map row_keys l.rows.items ≡ map row_keys l.yielded;
       many : length l.rows.items ≡ length l.yielded;
       room : length l.rows.items + length rest ≤ vec_capacity l.rows;
-      rooms : RoomsFit FitsIn FitsWhole l.rooms.items rest;
+      rooms : RoomsFit l.rooms.items (new_sizes rest);
       free : made_on_all rest ≤ sum_by vacancy l.w.states;
       names : length rest ≤ free_names l.w.groups;
     }

@@ -5,6 +5,7 @@ use Rattle.version_views.specs.Rows.{CutsInRows}
 use Rattle.version_views.specs.declared.directory.Directory.{Directory}
 use Rattle.version_drafts.specs.Drafts as drafts
 use Rattle.shared_versions.specs.Drafts.{IsPlannedAs}
+use Rattle.shared_versions.specs.Nodes.{IsReadable}
 use Rattle.shared_versions.specs.Sight.{Sight}
 use Rattle.shared_versions.proofs.DirectoryLemmas.{planned_placeable, whole_cut, whole_readable}
 use Rattle.shared_versions.proofs.building.build.Goals as goal
@@ -19,6 +20,13 @@ build-requires g c =
     let rows = whole_cut old.own cmp old.width d c.directory-rows.ensures.whole in
     let same = ap (λ (v : Sight _ _). v.blocks) c.directory-rows.ensures.sight ∙ sym view in
     (omega arith, (c.requires.size, (c.requires.keys, (c.requires.values, (subst (λ bs. IsCut cmp g.row.S bs (separators_of bs)) (sym view) cut, subst (λ bs. CutsInRows bs d) same rows)))))
+
+pub of-requires : goal.of-requires
+of-requires g c =
+    let old = c.args.old.now in
+    let d = c.directory-rows.result.now in
+    let readable = whole_readable old.own g.K.Ord.cmp old.width d c.directory-rows.ensures.whole in
+    (omega arith, (omega arith, (subst (λ o. IsReadable o d) (sym c.own.ensures) readable, c.in_ok-plan.ensures.planned.there)))
 
 -- the older version's rows are those of its directory, and what was planned upon them can be placed
 pub returns-clause-placeable : goal.returns-clause-placeable

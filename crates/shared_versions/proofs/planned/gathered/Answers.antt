@@ -15,9 +15,9 @@ use Rattle.shared_versions.proofs.planned.gathered.Goals as goal
 pub loop-part-preserved-in-Made : goal.loop-part-preserved-in-Made
 loop-part-preserved-in-Made g c =
     let i = c.loop-part.invariant in
-    let step = rw c.in-Some.is at c.next.ensures.steps in
+    let step = rw c.in-Some-part.is at c.next.ensures.steps in
     let rest = into_iter_items c.next.new.self in
-    let part = c.in-Some.part in
+    let part = c.in-Some-part.part in
     let old = blocks_of (own_segments c.args.own.now) c.args.old.now in
     let segments = c.loop-part.segments.items in
     let one = c.in_ok-new-in-Made.field-0 in
@@ -44,9 +44,9 @@ loop-part-preserved-in-Made g c =
 pub loop-part-preserved : goal.loop-part-preserved
 loop-part-preserved g c =
     let i = c.loop-part.invariant in
-    let step = rw c.in-Some.is at c.next.ensures.steps in
+    let step = rw c.in-Some-part.is at c.next.ensures.steps in
     let rest = into_iter_items c.next.new.self in
-    let part = c.in-Some.part in
+    let part = c.in-Some-part.part in
     let old = blocks_of (own_segments c.args.own.now) c.args.old.now in
     let segments = c.loop-part.segments.items in
     let lies = subst (All (LiesInside c.args.old.now.ends.items)) step.0 i.lies in

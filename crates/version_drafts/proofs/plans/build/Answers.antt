@@ -29,14 +29,14 @@ of-requires g c =
     )
 
 pub returns-clause-number : goal.returns-clause-number
-returns-clause-number g c = ap (λ (d : Directory _ _). d.number) c.in_ok-draft.ensures ∙ c.in_ok-shelves.ensures.number
+returns-clause-number g c = ap (λ (d : Directory _ _). d.number) c.of.ensures ∙ c.in_ok-shelves.ensures.number
 
 pub returns-clause-list : goal.returns-clause-list
-returns-clause-list g c = ap (λ (d : Directory _ _). pairs_in (shelved_blocks c.args.old.now d.rows.items)) c.in_ok-draft.ensures ∙ ap pairs_in c.in_ok-shelves.ensures.given ∙ c.in_ok-segments.ensures.list
+returns-clause-list g c = ap (λ (d : Directory _ _). pairs_in (shelved_blocks c.args.old.now d.rows.items)) c.of.ensures ∙ ap pairs_in c.in_ok-shelves.ensures.given ∙ c.in_ok-segments.ensures.list
 
 pub returns-clause-few : goal.returns-clause-few
 returns-clause-few g c =
-    let same = ap (λ (d : Directory _ _). made_on_all d.rows.items) c.in_ok-draft.ensures ∙ c.in_ok-shelves.ensures.made in
+    let same = ap (λ (d : Directory _ _). made_on_all d.rows.items) c.of.ensures ∙ c.in_ok-shelves.ensures.made in
     let few = c.in_ok-segments.ensures.few in
     omega (arith, same, few)
 
@@ -44,7 +44,7 @@ pub returns-clause-planned : goal.returns-clause-planned
 returns-clause-planned g c =
     let e = c.in_ok-segments.ensures in
     let s = c.in_ok-shelves.ensures in
-    subst (λ d. IsPlanned {s = g.row.S} g.K.Ord.cmp c.args.old.now c.args.rows.now.ends.items (record { shelves = d })) (sym c.in_ok-draft.ensures) (record {
+    subst (λ d. IsPlanned {s = g.row.S} g.K.Ord.cmp c.args.old.now c.args.rows.now.ends.items (record { shelves = d })) (sym c.of.ensures) (record {
       cut = subst (λ bs. IsCut g.K.Ord.cmp g.row.S bs (separators_of bs)) (sym s.given) e.cut;
       rowed = s.rowed;
       counted = s.length ∙ e.length ∙ ap (λ bs. length (pairs_in bs)) (sym s.given);

@@ -1,5 +1,4 @@
 use Rattle.std.proofs.Common.{◌≡◌, ◌≤◌, ◌<◌, ◌+◌, ◌*◌, ◌/◌, [], ℕ, List, length, sym, ap, ◌∙◌, subst, arith}
-use Rattle.std.proofs.lemmas.Result.{IfOk-weaker}
 use Rattle.version_views.specs.Cuts.{IsCut, pairs_in, separators_of}
 use Rattle.version_views.specs.Sizes.{room_for}
 use Rattle.version_views.specs.declared.directory.Directory.{Directory}
@@ -30,50 +29,38 @@ of-requires g c =
     )
 
 pub returns-clause-number : goal.returns-clause-number
-returns-clause-number g c = IfOk-weaker c.of.result _ (λ made. number_of made ≡ c.args.number) (λ made is. ap (λ (d : Directory _ _). d.number) is ∙ c.in_ok-shelves.ensures.number) c.of.ensures
+returns-clause-number g c = ap (λ (d : Directory _ _). d.number) c.of.ensures ∙ c.in_ok-shelves.ensures.number
 
 pub returns-clause-list : goal.returns-clause-list
-returns-clause-list g c =
-    IfOk-weaker c.of.result _ (λ made. (blocks : List (List (g.row.K.Denot × g.row.V.Denot))) → list_planned blocks made ≡ c.args.pairs.now)
-    (λ made is blocks.
+returns-clause-list g c = λ blocks.
     let s = c.in_ok-shelves.ensures in
-    ap (λ (d : Directory _ _). pairs_in (shelved_blocks blocks d.rows.items)) is ∙ ap pairs_in (sym (shelved_alone blocks [] c.in_ok-shelves.shelves s.there) ∙ s.given) ∙ c.in_ok-segments.ensures.list [])
-    c.of.ensures
+    ap (λ (d : Directory _ _). pairs_in (shelved_blocks blocks d.rows.items)) c.of.ensures ∙ ap pairs_in (sym (shelved_alone blocks [] c.in_ok-shelves.shelves s.there) ∙ s.given) ∙ c.in_ok-segments.ensures.list []
 
 pub returns-clause-length : goal.returns-clause-length
-returns-clause-length g c = IfOk-weaker c.of.result _ (λ made. made.shelves.length ≡ length c.args.pairs.now) (λ made is. ap (λ (d : Directory _ _). d.length) is ∙ c.in_ok-shelves.ensures.length ∙ c.in_ok-segments.ensures.length) c.of.ensures
+returns-clause-length g c = ap (λ (d : Directory _ _). d.length) c.of.ensures ∙ c.in_ok-shelves.ensures.length ∙ c.in_ok-segments.ensures.length
 
 pub returns-clause-few : goal.returns-clause-few
 returns-clause-few g c =
-    IfOk-weaker c.of.result _ (λ made. slots_for made ≤ room_for g.row.S (length c.args.pairs.now))
-    (λ made is.
-    let same = ap (λ (d : Directory _ _). made_on_all d.rows.items) is ∙ c.in_ok-shelves.ensures.made in
+    let same = ap (λ (d : Directory _ _). made_on_all d.rows.items) c.of.ensures ∙ c.in_ok-shelves.ensures.made in
     let e = c.in_ok-segments.ensures in
     let few = few_of g.row.S c.in_ok-segments.segments.parts.items c.args.pairs.now (e.cut []).tight e.within (e.list []) in
     let fewer = made_fewer c.in_ok-segments.segments.parts.items in
-    omega (arith, same, few, fewer))
-    c.of.ensures
+    omega (arith, same, few, fewer)
 
 pub returns-clause-fewest : goal.returns-clause-fewest
 returns-clause-fewest g c =
-    IfOk-weaker c.of.result _ (λ made. g.row.S * slots_for made < length c.args.pairs.now + 2 * g.row.S)
-    (λ made is.
-    let m = made_on_all made.shelves.rows.items in
-    let same = ap (λ (d : Directory _ _). made_on_all d.rows.items) is ∙ c.in_ok-shelves.ensures.made ∙ c.in_ok-segments.ensures.new in
+    let m = made_on_all c.of.result.shelves.rows.items in
+    let same = ap (λ (d : Directory _ _). made_on_all d.rows.items) c.of.ensures ∙ c.in_ok-shelves.ensures.made ∙ c.in_ok-segments.ensures.new in
     let many = ap (λ n. g.row.S * n) same in
     let one = times_next g.row.S m in
     let few = c.in_ok-segments.ensures.fewest in
-    omega (arith, many, one, few))
-    c.of.ensures
+    omega (arith, many, one, few)
 
 pub returns-clause-planned : goal.returns-clause-planned
-returns-clause-planned g c =
-    IfOk-weaker c.of.result _ (λ made. (blocks : List (List (g.row.K.Denot × g.row.V.Denot))) (ends : List ℕ) → IsPlanned g.K.Ord.cmp blocks ends made)
-    (λ made is blocks ends.
+returns-clause-planned g c = λ blocks ends.
     let e = c.in_ok-segments.ensures in
     let s = c.in_ok-shelves.ensures in
-    subst (λ d. IsPlanned {s = g.row.S} g.K.Ord.cmp blocks ends (record { shelves = d })) (sym is) (planned_alone blocks ends c.in_ok-shelves.shelves s.there g.K.Ord.cmp g.row.S
+    subst (λ d. IsPlanned {s = g.row.S} g.K.Ord.cmp blocks ends (record { shelves = d })) (sym c.of.ensures) (planned_alone blocks ends c.in_ok-shelves.shelves s.there g.K.Ord.cmp g.row.S
     (subst (λ bs. IsCut g.K.Ord.cmp g.row.S bs (separators_of bs)) (sym s.given) (e.cut []))
     s.rowed
-    (s.length ∙ e.length ∙ sym (ap length (ap pairs_in s.given ∙ e.list [])))))
-    c.of.ensures
+    (s.length ∙ e.length ∙ sym (ap length (ap pairs_in s.given ∙ e.list []))))

@@ -1,8 +1,6 @@
-use Rattle.std.proofs.Common.{[], reverse, sym, ap, ◌∙◌, subst, arith}
-use Rattle.std.specs.List.{AllZip}
+use Rattle.std.proofs.Common.{ap, ◌∙◌, arith}
 use Rattle.version_views.specs.Cuts.{pairs_in}
 use Rattle.version_views.specs.declared.directory.Directory.{Directory}
-use Rattle.version_drafts.specs.Drafts.{FitsShelf}
 use Rattle.version_drafts.specs.Shelves.{made_on_all}
 use Rattle.version_drafts.proofs.PlanLemmas.{blocks_none, planned_none}
 use Rattle.version_drafts.proofs.plans.Draft.empty.Goals as goal
@@ -10,10 +8,8 @@ use Rattle.version_drafts.proofs.plans.Draft.empty.Goals as goal
 pub invariant_of-result : goal.invariant_of-result
 invariant_of-result g c =
     let rows = ap (λ (d : Directory _ _). d.rows.items) c.new-shelves.ensures ∙ c.new.ensures.items in
-    let none = ap made_on_all rows in (
-      record { few = omega arith; counted = omega (arith, none) },
-      subst (λ rs. AllZip (λ room row. FitsShelf g.R.OwnersRoom.fits g.R.OwnersRoom.fits_whole room row.segments) c.new-4.result.items (reverse rs)) (sym rows) (subst (λ xs. AllZip (λ room row. FitsShelf g.R.OwnersRoom.fits g.R.OwnersRoom.fits_whole room row.segments) xs []) (sym c.new-4.ensures.items) tt),
-    )
+    let none = ap made_on_all rows in
+    record { few = omega arith; counted = omega (arith, none) }
 
 pub returns-clause-slots : goal.returns-clause-slots
 returns-clause-slots g c =
