@@ -115,8 +115,8 @@ fn rounds_of<V: Versions>(map: &V, probes: &[u64], task: &str, rounds: u32) -> u
 
 fn peer<V: Versions>(keys: &[u64], probes: &[u64], task: &str, rounds: u32) -> u64 {
     let map = built::<V>(keys);
-    // a first round of commits isn't counted: in it the allocator sorts what building gave back
-    if task.starts_with("commit") {
+    // a first round of what commits or records isn't counted: in it the allocator sorts what building gave back
+    if task.starts_with("commit") || task == "record" {
         black_box(round(&map, probes, task));
     }
     rounds_of(&map, probes, task, rounds)

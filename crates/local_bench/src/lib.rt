@@ -153,13 +153,16 @@ fn run<const S: usize>(
     sum
 }
 
-/// A first round of a task that upserts, which isn't counted: in it the allocator sorts what building gave back.
+/// A first round of a task that upserts or records, which isn't counted: in it the allocator sorts what building gave back.
 fn warm_up<const S: usize>(index: &mut Index<S>, alloc: Global, probes: &[u64], task: u32)
     ensures { index.new.places ≡ index.old.places }
 {
     let task = task_of(task);
     match task {
         Task::CommitEach | Task::CommitAll => commit_task::<S>(index, alloc, probes, task),
+        Task::Record => {
+            let _ = read_task::<S>(index, probes, task);
+        }
         _ => {}
     }
 }
