@@ -1,6 +1,6 @@
 //! Room for the owners of the new rows of a version, which is taken before anything is placed.
 
-ghost use Rattle.std.specs.Prelude.{◌≡◌, ◌++◌, [], ℕ, List, IfOk, OnErr, OnOk};
+ghost use Rattle.std.specs.Prelude.{◌≡◌, ◌++◌, ℕ, List, IfOk, OnErr, OnOk};
 ghost use Rattle.std.specs.List.{All};
 ghost use Rattle.local_versions.specs.Rooms.{IsUnused, RoomsFit, new_size, new_sizes};
 

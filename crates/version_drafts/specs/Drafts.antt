@@ -5,7 +5,6 @@ use Rattle.std.specs.declared.cmp.Ordering.{Ordering}
 use Rattle.version_views.specs.Cuts.{IsCut, pairs_in, separators_of}
 use Rattle.version_views.specs.Rows.{IsRowed}
 use Rattle.version_views.specs.declared.directory.Directory.{Directory}
-use Rattle.version_views.specs.declared.row.Row.{Row}
 use Rattle.version_drafts.specs.Shelves.{LiesOn, made_on_all, shelf_blocks, shelved_blocks}
 use Rattle.version_drafts.specs.declared.shelves.Shelf.{Shelf}
 

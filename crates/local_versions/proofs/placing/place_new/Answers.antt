@@ -1,4 +1,4 @@
-use Rattle.std.proofs.Common.{map, sym, ap, arith}
+use Rattle.std.proofs.Common.{map, ap, arith}
 use Rattle.sdd_world.specs.Groups.{free_names, name_of}
 use Rattle.sdd_world.specs.Tokens.{kept_slot}
 use Rattle.sdd_world.proofs.GroupLemmas.{names_none}

@@ -1,8 +1,7 @@
-use Rattle.std.proofs.Common.{◌≡◌, ◌≤◌, ◌<◌, ◌+◌, ◌*◌, ◌/◌, [], ℕ, List, length, sym, ap, ◌∙◌, subst, arith}
+use Rattle.std.proofs.Common.{◌≤◌, ◌+◌, ◌*◌, ◌/◌, [], length, sym, ap, ◌∙◌, subst, arith}
 use Rattle.version_views.specs.Cuts.{IsCut, pairs_in, separators_of}
-use Rattle.version_views.specs.Sizes.{room_for}
 use Rattle.version_views.specs.declared.directory.Directory.{Directory}
-use Rattle.version_drafts.specs.Drafts.{IsPlanned, list_planned, number_of, slots_for}
+use Rattle.version_drafts.specs.Drafts.{IsPlanned}
 use Rattle.version_drafts.specs.Parts.{made_in}
 use Rattle.version_drafts.specs.Shelves.{made_on_all, shelved_blocks}
 use Rattle.version_drafts.proofs.PartLemmas.{few_of, made_fewer}
