@@ -1,6 +1,6 @@
 //! Lists of pairs cut into segments, some of which are taken over from an older version.
 
-ghost use Rattle.std.specs.Prelude.{◌≡◌, ◌≤◌, ◌<◌, ◌+◌, ◌-◌, ◌++◌, ◌∷◌, [], Some, None, List, ℕ, length, map, option_copied, slice_get, IfOk, IfSome, OnOk};
+ghost use Rattle.std.specs.Prelude.{◌≡◌, ◌≤◌, ◌<◌, ◌+◌, ◌-◌, ◌++◌, ◌∷◌, [], Some, None, List, ℕ, length, map, option_copied, slice_get, IfOk, IfSome, OnOk, ◌^◌, IfNone};
 ghost use Rattle.leaf_array.specs.Pairs.{IsAscending};
 ghost use Rattle.leaf_array.specs.Values.{ClonesAreSame};
 ghost use Rattle.version_views.specs.Cuts.{IsCut, IsSeparated, greatest_key, pairs_in, separators_of};
@@ -59,9 +59,10 @@ pub fn made_of<K: Ord, V>(parts: &[Part<K, V>]) -> usize
     made
 }
 
-/// How many segments parts have; none where that is more than a number can tell.
+/// How many segments parts have; none if and only if that is more than a number can tell.
 pub fn count_of<K: Ord, V>(parts: &[Part<K, V>]) -> Option<usize>
-    ensures { IfSome result (λ n. n ≡ segments_in parts.now) }
+    ensures counted { IfSome result (λ n. n ≡ segments_in parts.now) }
+    ensures none { IfNone result (2 ^ 64 ≤ segments_in parts.now) }
 {
     let mut count = 0usize;
     for part in parts {
