@@ -29,7 +29,7 @@ const MOST: usize = 480;
 /// By how much one such limit is above the next lower one.
 const STEP: usize = 16;
 
-/// By how much such a limit is above the root of the number of segments.
+/// How many times the root of the number of segments such a limit is.
 const ROOTS: usize = 3;
 
 /// Rows that are closed, and the parts of an open one.
